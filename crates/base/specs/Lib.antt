@@ -1,0 +1,6 @@
+pub mod Truth
+pub mod Range
+pub mod Count
+pub mod Table
+pub mod Finds
+pub mod Refusal

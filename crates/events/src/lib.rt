@@ -1,0 +1,40 @@
+// Sets of events as 16-bit numbers, in which event i adds 2 to the power i: membership, inclusion, meeting, adding one event.
+// Every function takes every argument; an event from 16 on is in no set.
+ghost use mathlib.Core.Path.{_≡_};
+ghost use Rattle.events.specs.Sets.{has, inside, meets, insert};
+
+// Whether the event is in the set.
+pub fn contains(set: u16, event: usize) -> bool
+    ensures { λ r. ⌜ r ≡ has set event ⌝ }
+{
+    if event < 16 {
+        (set >> event) % 2 == 1
+    } else {
+        false
+    }
+}
+
+// Whether every event of `x` is in `y`.
+pub fn is_inside(x: u16, y: u16) -> bool
+    ensures { λ r. ⌜ r ≡ inside x y ⌝ }
+{
+    x & y == x
+}
+
+// Whether some event is in both sets.
+pub fn is_meeting(x: u16, y: u16) -> bool
+    ensures { λ r. ⌜ r ≡ meets x y ⌝ }
+{
+    x & y != 0
+}
+
+// The set with the event added.
+pub fn with_event(set: u16, event: usize) -> u16
+    ensures { λ r. ⌜ r ≡ insert set event ⌝ }
+{
+    if event < 16 {
+        set | (1u16 << event)
+    } else {
+        set
+    }
+}

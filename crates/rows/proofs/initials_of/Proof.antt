@@ -1,0 +1,47 @@
+-- `rows::initials_of`. The loop's invariant: the set has the initials below `i`.
+use mathlib.Core.Path.{_≡_, refl, ap, _∙_}
+use Prim.Native.Nat.{_-_, _≤_}
+use native.Mathlib.Omega.{arith}
+use Rattle.sheet_spec.specs.Kept.{initials}
+use Rattle.rows.proofs.Steps.{initial, initial-more}
+use Rattle.events.specs.Bit.{setOf}
+use Rattle.rows.proofs.initials_of.Statement.{statement}
+use Rattle.rows.proofs.initials_of.Tie as tie
+
+abbrev Inv-loop : tie.InvT-loop
+Inv-loop row e set₀ i₀ set i = (i ≤ 12) × (set ≡ setOf (initial e row) i)
+
+abbrev μ-loop : tie.MeasureT-loop
+μ-loop row e set₀ i₀ set i = 12 - i
+
+loop-holds : tie.Need-loop-holds Inv-loop μ-loop
+unfolding setOf
+loop-holds c = (omega arith, refl)
+
+with-initial-requires : tie.Need-with-initial-requires Inv-loop μ-loop
+with-initial-requires c κs = tt
+
+add-i : tie.Need-add-i Inv-loop μ-loop
+add-i c = omega arith
+
+loop-less : tie.Need-loop-less Inv-loop μ-loop
+loop-less c = omega arith
+
+loop-again : tie.Need-loop-again Inv-loop μ-loop
+loop-again c =
+    let l = c .before .before .loop in
+    let a = c .before .before .before .args in
+    (omega arith, c .with-initial .ensures ∙ initial-more (a .e) (a .row) (l .set) (l .i) (omega arith) (l .inv .1))
+
+returns : tie.Need-returns Inv-loop μ-loop
+unfolding initials
+returns c =
+    let l = c .before .loop in
+    let a = c .before .before .args in
+    let q : l .i ≡ 12 = omega arith in
+    l .inv .1 ∙ ap (setOf (initial (a .e) (a .row))) q
+
+pub initials-of-spec : {M : Type 1} → statement M
+initials-of-spec =
+    tie.close
+    (tie.spec Inv-loop μ-loop loop-holds with-initial-requires add-i loop-less loop-again returns)

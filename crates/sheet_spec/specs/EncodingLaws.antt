@@ -1,0 +1,62 @@
+-- Reading undoes writing, and nothing else: bytes are read as a sheet exactly if they are the bytes of that sheet and a later
+-- call accepts it.
+use mathlib.Core.Path.{_≡_, sym, ap, _∙_}
+use mathlib.Core.Logic.{_↔_}
+use mathlib.Core.List.{List}
+use Prim.Native.Nat.{ℕ, _≤_}
+use lib.ListN.{length}
+use Rattle.sheet_spec.specs.declared.Sheet.{Sheet}
+use Rattle.sheet_spec.specs.declared.ReadSheet.{ReadSheet}
+use Rattle.sheet_spec.specs.Rules.{sheetFault}
+use Rattle.sheet_spec.specs.Form.{Bytes, SheetForm}
+use Rattle.sheet_spec.specs.Reading.{sheetOf, bytesFault, answer, readSheet}
+use Rattle.sheet_spec.specs.Encoding.{encode}
+use Rattle.sheet_spec.specs.Places.{accepted-length}
+use Rattle.sheet_spec.specs.Accepted.{read-accepted}
+use Rattle.sheet_spec.specs.Spelled.{encode-sheetOf}
+use Rattle.sheet_spec.specs.Written.{sheetOf-encode, encode-accepted}
+use Rattle.sheet_spec.specs.Octets.{bytes-encode}
+
+-- the answer that accepts: no refusal, and the sheet
+abbrev pub accepted : Sheet → ReadSheet
+accepted s = record { refusal = 0; sheet = s }
+
+-- bytes that are not refused are read as the sheet that they spell
+pub reads : (b : List ℕ) → bytesFault b ≡ 0 → readSheet b ≡ accepted (sheetOf b)
+unfolding readSheet answer
+reads b h = rw h
+
+-- an answer that accepts has no refusal, and its sheet is the one that the bytes spell
+pub reads→ : (b : List ℕ) (s : Sheet) → readSheet b ≡ accepted s → (bytesFault b ≡ 0) × (sheetOf b ≡ s)
+unfolding readSheet answer
+reads→ b s h =
+    let f : bytesFault b ≡ 0 = ap (λ (a : ReadSheet). a .refusal) h in
+    (f, ap (λ (a : ReadSheet). a .sheet) (sym (reads b f) ∙ h))
+
+-- an accepted sheet is read back from its bytes
+pub read-back : (s : Sheet) → SheetForm s → sheetFault s ≡ 0 → readSheet (encode s) ≡ accepted s
+read-back s o h = reads (encode s) (encode-accepted s o h) ∙ ap accepted (sheetOf-encode s o h)
+
+-- bytes are read as a sheet exactly if they are its bytes and it is not refused
+pub read-encode : (s : Sheet) → SheetForm s → (b : List ℕ) → Bytes b → (readSheet b ≡ accepted s) ↔ ((b ≡ encode s) × (sheetFault s ≡ 0))
+read-encode s o b y = (to, from)
+  where
+    to : readSheet b ≡ accepted s → (b ≡ encode s) × (sheetFault s ≡ 0)
+    to h =
+        let r = reads→ b s h in
+        (rw (r .1) at (sym (encode-sheetOf b y (r .0))), rw (r .1) at (read-accepted b (r .0)))
+
+    from : (b ≡ encode s) × (sheetFault s ≡ 0) → readSheet b ≡ accepted s
+    from h = rw (h .0) (read-back s o (h .1))
+
+-- an accepted sheet has at most 1,447 bytes
+pub encode-length : (s : Sheet) → SheetForm s → sheetFault s ≡ 0 → length (encode s) ≤ 1447
+encode-length s o h = accepted-length (encode s) (encode-accepted s o h)
+
+-- and they are bytes
+pub encode-bytes : (s : Sheet) → SheetForm s → sheetFault s ≡ 0 → Bytes (encode s)
+encode-bytes s o h = bytes-encode s o (encode-length s o h)
+
+-- accepted sheets with the same bytes are the same sheet
+pub encode-injective : (s t : Sheet) → SheetForm s → SheetForm t → sheetFault s ≡ 0 → sheetFault t ≡ 0 → encode s ≡ encode t → s ≡ t
+encode-injective s t o q g h e = sym (sheetOf-encode s o g) ∙ ap sheetOf e ∙ sheetOf-encode t q h

@@ -1,0 +1,86 @@
+-- What breaks the rules of a sheet (01, "Who can cause a refusal"), said with "there is" and "for every" over nodes, places,
+-- events and lists, with no test in it. CheckLaws and ReadLaws say that each refusal is given exactly for its fault.
+use mathlib.Core.Path.{_≡_}
+use mathlib.Core.Logic.{_⊎_, _≢_}
+use mathlib.Core.List.{List}
+use Prim.Native.Nat.{ℕ, _+_, _≤_, _<_}
+use lib.ListN.{length}
+use Rattle.events.specs.Bit.{bit, Within}
+use Rattle.sheet_spec.specs.declared.Row.{Row}
+use Rattle.sheet_spec.specs.declared.Sheet.{Sheet}
+use Rattle.sheet_spec.specs.Kept.{row, successor, acceptance, Walk}
+use Rattle.sheet_spec.specs.Reading.{lengthField, version, eventsOf, nodesOf, countAt, nextAt, startOf}
+
+-- 3: E is not 1 to 12, or N not 1 to 32
+abbrev pub RangeFault : ℕ → ℕ → Type 0
+RangeFault e n = ((e < 1) ⊎ (12 < e)) ⊎ ((n < 1) ⊎ (32 < n))
+
+-- 5: a C that is not 1 to 16; of a kept sheet, the C of some node
+abbrev pub BadCount : ℕ → Type 0
+BadCount c = (c < 1) ⊎ (16 < c)
+
+abbrev pub CountFault : Sheet → Type 0
+CountFault s = (v : ℕ) × (v < s .n) × BadCount (row s v .c)
+
+-- 6: some node has on some event a successor that is neither 255 nor below N
+abbrev pub SuccessorFault : Sheet → Type 0
+SuccessorFault s = (v : ℕ) × (v < s .n) × ((i : ℕ) × (i < s .e) × ((successor (row s v) i ≢ 255) × (s .n ≤ successor (row s v) i)))
+
+-- event i has a successor in a row
+abbrev pub Initial : ℕ → Row → ℕ → Type 0
+Initial e r i = (i < e) × (successor r i ≢ 255)
+
+-- 7: the sets of a row are not strictly ascending, one has an event that is no initial, one is included in another, or the
+-- empty set does not stand alone
+pub data RowSetFault (e : ℕ) (r : Row) : Type 0 where
+  descends : (j k : ℕ) → j < k → k < r .c → acceptance r k ≤ acceptance r j → RowSetFault e r
+  outside : (j i : ℕ) → j < r .c → bit (acceptance r j) i ≡ 1 → ¬ Initial e r i → RowSetFault e r
+  includes : (j k : ℕ) → j < r .c → k < r .c → j ≢ k → Within (acceptance r j) (acceptance r k) → RowSetFault e r
+  stops : (j : ℕ) → j < r .c → acceptance r j ≡ 0 → r .c ≢ 1 → RowSetFault e r
+
+-- 7: of some node
+abbrev pub SetFault : Sheet → Type 0
+SetFault s = (v : ℕ) × (v < s .n) × RowSetFault (s .e) (row s v)
+
+-- 7, of a kept sheet: an unused place that holds something else than 255 (a successor) or 0 (a set, the C of an unused node)
+pub data UnusedFault (s : Sheet) : Type 0 where
+  event : (v i : ℕ) → v < s .n → s .e ≤ i → i < 12 → successor (row s v) i ≢ 255 → UnusedFault s
+  place : (v j : ℕ) → v < s .n → row s v .c ≤ j → j < 16 → acceptance (row s v) j ≢ 0 → UnusedFault s
+  node-successor : (v i : ℕ) → s .n ≤ v → v < 32 → i < 12 → successor (row s v) i ≢ 255 → UnusedFault s
+  node-set : (v j : ℕ) → s .n ≤ v → v < 32 → j < 16 → acceptance (row s v) j ≢ 0 → UnusedFault s
+  node-count : (v : ℕ) → s .n ≤ v → v < 32 → row s v .c ≢ 0 → UnusedFault s
+
+-- 8: some node to which no list of events leads from node 0
+abbrev pub ReachFault : Sheet → Type 0
+ReachFault s = (v : ℕ) × (v < s .n) × ((t : List ℕ) → ¬ Walk s 0 t v)
+
+-- 1: fewer than 7 bytes, or the length field plus 4 is not their number
+abbrev pub LengthFault : List ℕ → Type 0
+LengthFault b = (length b < 7) ⊎ (lengthField b + 4 ≢ length b)
+
+-- 2: the version is not 1
+abbrev pub VersionFault : List ℕ → Type 0
+VersionFault b = version b ≢ 1
+
+-- the node that begins at a place is whole: its C is there and in range, and so are all its sets
+abbrev pub Whole : List ℕ → ℕ → ℕ → Type 0
+Whole b e at = (at + e < length b) × (¬ BadCount (countAt b e at)) × (nextAt b e at ≤ length b)
+
+-- the bytes end inside the node that begins at a place: before its C, or, with a C in range, before the end of its sets
+abbrev pub EndsInside : List ℕ → ℕ → ℕ → Type 0
+EndsInside b e at = (length b ≤ at + e) ⊎ ((¬ BadCount (countAt b e at)) × (length b < nextAt b e at))
+
+-- all nodes before node v are whole
+abbrev pub WholeBefore : List ℕ → ℕ → Type 0
+WholeBefore b v = (u : ℕ) → u < v → Whole b (eventsOf b) (startOf b (eventsOf b) u)
+
+-- 4: the bytes end inside a node, or some remain after the last; all nodes before that place are whole
+abbrev pub CutFault : List ℕ → Type 0
+CutFault b =
+    ((v : ℕ) × (v < nodesOf b) × WholeBefore b v × EndsInside b (eventsOf b) (startOf b (eventsOf b) v))
+    ⊎ (WholeBefore b (nodesOf b) × (startOf b (eventsOf b) (nodesOf b) < length b))
+
+-- 5, of bytes: a C out of range; all nodes before it are whole
+abbrev pub BytesCountFault : List ℕ → Type 0
+BytesCountFault b =
+    (v : ℕ) × (v < nodesOf b) × WholeBefore b v × (startOf b (eventsOf b) v + eventsOf b < length b) × BadCount (countAt b (eventsOf b) (startOf b (eventsOf b) v))

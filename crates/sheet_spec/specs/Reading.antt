@@ -1,0 +1,109 @@
+-- Reading a sheet from its bytes (01, "A sheet", and the refusals 1 to 8 in their order). A byte past the end reads as 0.
+use mathlib.Core.Bool.{Bool, _&&_, cond}
+use mathlib.Core.List.{List}
+use Prim.Native.Nat.{ℕ, zero, suc, _+_, _*_}
+use lib.Dec.{eqb, ltb, leb}
+use lib.ListN.{length, getD, replicate}
+use Rattle.base.specs.Refusal.{unless, orElse}
+use Rattle.base.specs.Table.{upTo}
+use Rattle.sheet_spec.specs.declared.Row.{Row}
+use Rattle.sheet_spec.specs.declared.Sheet.{Sheet}
+use Rattle.sheet_spec.specs.declared.ReadSheet.{ReadSheet}
+use Rattle.sheet_spec.specs.Rules.{rangesOk, countOk, successorsOk, setsOk, reachedOk}
+
+-- the byte at a place
+abbrev pub byte : List ℕ → ℕ → ℕ
+byte b i = getD b i 0
+
+-- two bytes, big-endian
+abbrev pub word : List ℕ → ℕ → ℕ
+word b i = byte b i * 256 + byte b (i + 1)
+
+-- the first four bytes, big-endian: how many bytes follow these four
+unfoldable pub lengthField : List ℕ → ℕ
+lengthField b = word b 0 * 65536 + word b 2
+
+-- then the version, E and N
+abbrev pub version : List ℕ → ℕ
+version b = byte b 4
+
+abbrev pub eventsOf : List ℕ → ℕ
+eventsOf b = byte b 5
+
+abbrev pub nodesOf : List ℕ → ℕ
+nodesOf b = byte b 6
+
+-- then the nodes, from this place on
+abbrev pub nodesAt : ℕ
+nodesAt = 7
+
+-- 1, 2, 3: the bytes before the nodes
+unfoldable pub headFault : List ℕ → ℕ
+headFault b =
+    unless (leb 7 (length b) && eqb (lengthField b + 4) (length b)) 1
+    (unless (eqb (version b) 1) 2
+    (unless (rangesOk (eventsOf b) (nodesOf b)) 3 0))
+
+-- the C of the node that begins at a place, after its e successors
+abbrev pub countAt : List ℕ → ℕ → ℕ → ℕ
+countAt b e at = byte b (at + e)
+
+-- where the node after that one begins: e successors, C, and C two-byte sets
+unfoldable pub nextAt : List ℕ → ℕ → ℕ → ℕ
+nextAt b e at = at + e + 1 + countAt b e at * 2
+
+-- 4 and 5, by position in one walk from the front: k nodes are left, and the next begins at a place
+unfoldable pub layoutFault : List ℕ → ℕ → ℕ → ℕ → ℕ
+layoutFault b e zero at = unless (eqb at (length b)) 4 0
+layoutFault b e (suc k) at =
+    unless (ltb (at + e) (length b)) 4
+    (unless (countOk (countAt b e at)) 5
+    (unless (leb (nextAt b e at) (length b)) 4
+    (layoutFault b e k (nextAt b e at))))
+
+-- where node v begins
+unfoldable pub startOf : List ℕ → ℕ → ℕ → ℕ
+startOf b e zero = nodesAt
+startOf b e (suc v) = nextAt b e (startOf b e v)
+
+-- the row of the node that begins at a place: unused successors hold 255, unused sets 0
+unfoldable pub succOf : List ℕ → ℕ → ℕ → ℕ → ℕ
+succOf b at e i = cond (ltb i e) (byte b (at + i)) 255
+
+unfoldable pub setsOf : List ℕ → ℕ → ℕ → ℕ → ℕ
+setsOf b at c j = cond (ltb j c) (word b (at + j * 2)) 0
+
+unfoldable pub rowAt : List ℕ → ℕ → ℕ → Row
+rowAt b e at = record { succ = upTo (succOf b at e) 12; sets = upTo (setsOf b (at + e + 1) (countAt b e at)) 16; c = countAt b e at }
+
+-- the row of an unused node
+abbrev pub unusedRow : Row
+unusedRow = record { succ = replicate 12 255; sets = replicate 16 0; c = 0 }
+
+-- the row of node v
+unfoldable pub rowOf : List ℕ → ℕ → ℕ → ℕ → Row
+rowOf b e n v = cond (ltb v n) (rowAt b e (startOf b e v)) unusedRow
+
+-- the sheet that the bytes spell
+unfoldable pub sheetOf : List ℕ → Sheet
+sheetOf b = record { rows = upTo (rowOf b (eventsOf b) (nodesOf b)) 32; e = eventsOf b; n = nodesOf b }
+
+-- 6, 7, 8, each over the whole sheet
+unfoldable pub graphFault : Sheet → ℕ
+graphFault s = unless (successorsOk s) 6 (unless (setsOk s) 7 (unless (reachedOk s) 8 0))
+
+-- the refusal of a sheet's bytes, 0 for none
+unfoldable pub bytesFault : List ℕ → ℕ
+bytesFault b = orElse (headFault b) (orElse (layoutFault b (eventsOf b) (nodesOf b) nodesAt) (graphFault (sheetOf b)))
+
+-- a sheet with 0 in every place
+abbrev pub zeroSheet : Sheet
+zeroSheet = record { rows = replicate 32 (record { succ = replicate 12 0; sets = replicate 16 0; c = 0 }); e = 0; n = 0 }
+
+-- a refusal is its number and 0 everywhere else
+unfoldable pub answer : ℕ → Sheet → ReadSheet
+answer k s = record { refusal = k; sheet = cond (eqb k 0) s zeroSheet }
+
+-- what reading answers
+unfoldable pub readSheet : List ℕ → ReadSheet
+readSheet b = answer (bytesFault b) (sheetOf b)

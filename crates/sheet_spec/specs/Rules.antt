@@ -1,0 +1,79 @@
+-- The rules of a sheet (01, "Who can cause a refusal"), each as a test that a program can run, and the refusal of a kept
+-- sheet. What each test means, with no test in it, is said in Faults; that the two agree, in CheckLaws and ReadLaws.
+use mathlib.Core.Bool.{Bool, not, _&&_, _||_, cond}
+use Prim.Native.Nat.{ℕ, _-_}
+use lib.Dec.{eqb, ltb, leb}
+use Rattle.base.specs.Range.{all}
+use Rattle.base.specs.Refusal.{unless}
+use Rattle.events.specs.Sets.{inside}
+use Rattle.walks.specs.Reach.{nearer}
+use Rattle.sheet_spec.specs.declared.Row.{Row}
+use Rattle.sheet_spec.specs.declared.Sheet.{Sheet}
+use Rattle.sheet_spec.specs.Kept.{row, successor, acceptance, initials, graph}
+
+-- a number from low to high
+abbrev pub between : ℕ → ℕ → ℕ → Bool
+between low high x = leb low x && leb x high
+
+-- 3: E is 1 to 12, N is 1 to 32
+unfoldable pub rangesOk : ℕ → ℕ → Bool
+rangesOk e n = between 1 12 e && between 1 32 n
+
+-- 5: a C is 1 to 16
+unfoldable pub countOk : ℕ → Bool
+countOk c = between 1 16 c
+
+unfoldable pub countsOk : Sheet → Bool
+countsOk s = all (λ v. countOk (row s v .c)) (s .n)
+
+-- 6: a successor is 255 or below N
+unfoldable pub successorOk : ℕ → ℕ → Bool
+successorOk n x = eqb x 255 || ltb x n
+
+unfoldable pub rowSuccessorsOk : ℕ → ℕ → Row → Bool
+rowSuccessorsOk e n r = all (λ i. successorOk n (successor r i)) e
+
+unfoldable pub successorsOk : Sheet → Bool
+successorsOk s = all (λ v. rowSuccessorsOk (s .e) (s .n) (row s v)) (s .n)
+
+-- 7: the set at place j is greater than the one before it
+unfoldable pub ascends : Row → ℕ → Bool
+ascends r j = eqb j 0 || ltb (acceptance r (j - 1)) (acceptance r j)
+
+-- 7: no set before place j is included in the one there (a later one is a greater number, so it cannot be)
+unfoldable pub apart : Row → ℕ → Bool
+apart r j = all (λ k. not (inside (acceptance r k) (acceptance r j))) j
+
+-- 7: the set at place j ascends, lies inside the initials, and includes none before it
+unfoldable pub setOk : ℕ → Row → ℕ → Bool
+setOk initial r j = ascends r j && (inside (acceptance r j) initial && apart r j)
+
+unfoldable pub rowSetsOk : ℕ → Row → Bool
+rowSetsOk e r = all (setOk (initials e r) r) (r .c)
+
+unfoldable pub setsOk : Sheet → Bool
+setsOk s = all (λ v. rowSetsOk (s .e) (row s v)) (s .n)
+
+-- 7, of a kept sheet: from event e on a row holds 255, from place c on it holds 0
+unfoldable pub blank : ℕ → ℕ → Row → Bool
+blank e c r = all (λ i. ltb i e || eqb (successor r i) 255) 12 && all (λ j. ltb j c || eqb (acceptance r j) 0) 16
+
+-- 7, of a kept sheet: the unused places of node v, which is all of the row of an unused node
+unfoldable pub unusedOk : ℕ → ℕ → ℕ → Row → Bool
+unusedOk e n v r = cond (ltb v n) (blank e (r .c) r) (eqb (r .c) 0 && blank 0 0 r)
+
+unfoldable pub blanksOk : Sheet → Bool
+blanksOk s = all (λ v. unusedOk (s .e) (s .n) v (row s v)) 32
+
+-- 8: every node is reached from node 0 (by fewer events than there are nodes; laws say that no more are needed)
+unfoldable pub reachedOk : Sheet → Bool
+reachedOk s = all (nearer (graph s) (s .n)) (s .n)
+
+-- the refusal of a kept sheet that is handed to a later call, 0 for none
+unfoldable pub sheetFault : Sheet → ℕ
+sheetFault s =
+    unless (rangesOk (s .e) (s .n)) 3
+    (unless (countsOk s) 5
+    (unless (successorsOk s) 6
+    (unless (setsOk s && blanksOk s) 7
+    (unless (reachedOk s) 8 0))))

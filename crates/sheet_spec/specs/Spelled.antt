@@ -1,0 +1,137 @@
+-- Accepted bytes are the bytes of the sheet that they spell: node by node, what is written of a row that was read, before the
+-- bytes after the node, is what stood there.
+use mathlib.Core.Path.{_≡_, sym, _∙_}
+use mathlib.Core.List.{List, [], _∷_, _++_, append-assoc}
+use Prim.Native.Nat.{ℕ, suc, _+_, _*_, _/_, _%_, _≤_, _<_}
+use native.Mathlib.Nat.{add-zero}
+use native.Mathlib.Omega.{arith}
+use lib.ListN.{length, getD, take, drop, length-drop}
+use lib.Seq.{drop-cons, drop-length, getD-take, length-take-le}
+use borrow.Author.Tests.{lt-ltb}
+use Rattle.base.specs.Table.{upTo, length-upTo, getD-upTo}
+use Rattle.sheet_spec.specs.declared.Row.{Row}
+use Rattle.sheet_spec.specs.Kept.{noRow}
+use Rattle.sheet_spec.specs.Form.{Bytes}
+use Rattle.sheet_spec.specs.Reading.{byte, word, lengthField, eventsOf, nodesOf, nodesAt, countAt, nextAt}
+use Rattle.sheet_spec.specs.Reading.{layoutFault, startOf, succOf, setsOf, rowAt, rowOf, sheetOf, bytesFault}
+use Rattle.sheet_spec.specs.Encoding.{two, four, encodeSets, encodeRow, encodeRows, encodeBody, encode}
+use Rattle.sheet_spec.specs.Places.{Node, whole, last-end, Accepts, accepts}
+use Rattle.sheet_spec.specs.Slices.{drop-two, part-tail}
+
+-- a number of two bytes, and of four, in its bytes
+two-word : (x y : ℕ) → y < 256 → two (x * 256 + y) ≡ x ∷ (y ∷ [])
+unfolding two
+two-word x y h =
+    let p : (x * 256 + y) / 256 ≡ x = omega arith in
+    let q : (x * 256 + y) % 256 ≡ y = omega arith in
+    rw (p, q)
+
+four-words : (x y z w : ℕ) → y < 256 → z < 256 → w < 256 → four ((x * 256 + y) * 65536 + (z * 256 + w)) ≡ x ∷ (y ∷ (z ∷ (w ∷ [])))
+unfolding four
+four-words x y z w g h k =
+    let p : ((x * 256 + y) * 65536 + (z * 256 + w)) / 65536 ≡ x * 256 + y = omega arith in
+    let q : ((x * 256 + y) * 65536 + (z * 256 + w)) % 65536 ≡ z * 256 + w = omega arith in
+    rw (p, q, two-word x y g, two-word z w k)
+
+module _ (b : List ℕ) (y : Bytes b) where
+  -- sets that were read from a place on
+  sets-back : (xs : List ℕ) (at : ℕ) → at + length xs * 2 ≤ length b → ((j : ℕ) → j < length xs → getD xs j 0 ≡ word b (at + j * 2))
+      → encodeSets xs ++ drop (at + length xs * 2) b ≡ drop at b
+  unfolding encodeSets
+  sets-back [] at h f = rw add-zero
+  sets-back (x ∷ xs) at h f =
+      let e : at + suc (length xs) * 2 ≡ at + 2 + length xs * 2 = omega arith in
+      let p : x ≡ word b at = rw add-zero at (f 0 (omega arith)) in
+      rw (p, e, two-word (byte b at) (byte b (at + 1)) (y (at + 1)))
+      (rw (sets-back xs (at + 2) (omega arith) (λ j k. f (suc j) (omega arith) ∙ rw (next j))) (sym (drop-two b at 0 (omega arith))))
+    where
+      next : (j : ℕ) → at + suc j * 2 ≡ at + 2 + j * 2
+      next j = omega arith
+
+-- what is read from a place on, before it is written again
+succs-length : (b : List ℕ) (e at : ℕ) → e ≤ 12 → length (take e (upTo (succOf b at e) 12)) ≡ e
+succs-length b e at h = length-take-le e (upTo (succOf b at e) 12) (omega (arith, length-upTo (succOf b at e) 12))
+
+succs-at : (b : List ℕ) (e at i : ℕ) → e ≤ 12 → i < e → getD (take e (upTo (succOf b at e) 12)) i 0 ≡ byte b (at + i)
+unfolding succOf
+succs-at b e at i h k = getD-take e (upTo (succOf b at e) 12) i 0 k ∙ getD-upTo (succOf b at e) 12 i 0 (omega arith) ∙ rw (lt-ltb i e k)
+
+sets-length : (b : List ℕ) (c at : ℕ) → c ≤ 16 → length (take c (upTo (setsOf b at c) 16)) ≡ c
+sets-length b c at h = length-take-le c (upTo (setsOf b at c) 16) (omega (arith, length-upTo (setsOf b at c) 16))
+
+sets-at : (b : List ℕ) (c at j : ℕ) → c ≤ 16 → j < c → getD (take c (upTo (setsOf b at c) 16)) j 0 ≡ word b (at + j * 2)
+unfolding setsOf
+sets-at b c at j h k = getD-take c (upTo (setsOf b at c) 16) j 0 k ∙ getD-upTo (setsOf b at c) 16 j 0 (omega arith) ∙ rw (lt-ltb j c k)
+
+module _ (b : List ℕ) (y : Bytes b) where
+  succs-row : (e at : ℕ) → e ≤ 12 → at + e ≤ length b → take e (upTo (succOf b at e) 12) ++ drop (at + e) b ≡ drop at b
+  succs-row e at h k =
+      let l = succs-length b e at h in
+      rw l at (part-tail b (take e (upTo (succOf b at e) 12)) at 0 (omega arith) (λ i m. succs-at b e at i h (omega arith)))
+
+  sets-row : (c at : ℕ) → c ≤ 16 → at + c * 2 ≤ length b → encodeSets (take c (upTo (setsOf b at c) 16)) ++ drop (at + c * 2) b ≡ drop at b
+  sets-row c at h k =
+      let l = sets-length b c at h in
+      rw l at (sets-back b y (take c (upTo (setsOf b at c) 16)) at (omega arith) (λ j m. sets-at b c at j h (omega arith)))
+
+  -- a node that is whole
+  row-back : (e at : ℕ) → e ≤ 12 → Node b e at → encodeRow e (rowAt b e at) ++ drop (nextAt b e at) b ≡ drop at b
+  unfolding encodeRow rowAt nextAt
+  row-back e at h w =
+      let c = countAt b e at in
+      let z : at + e + 1 ≡ suc (at + e) = omega arith in
+      append-assoc (take e (upTo (succOf b at e) 12)) (c ∷ encodeSets (take c (upTo (setsOf b (at + e + 1) c) 16))) (drop (at + e + 1 + c * 2) b)
+      ∙ rw (sets-row c (at + e + 1) (w .c-high) (w .ends)) (rw (z, ← drop-cons b (at + e) 0 (w .c-inside)) (succs-row e at h (omega (arith, w .c-inside))))
+
+  module _ (e n : ℕ) (h : e ≤ 12) (l : layoutFault b e n nodesAt ≡ 0) where
+    -- the nodes from node v on
+    rows-back : (rs : List Row) (v : ℕ) → v + length rs ≡ n → ((j : ℕ) → j < length rs → getD rs j noRow ≡ rowAt b e (startOf b e (v + j)))
+        → encodeRows e rs ≡ drop (startOf b e v) b
+    unfolding encodeRows startOf
+    rows-back [] v k f =
+        let p : v ≡ n = omega arith in
+        rw (p, last-end b e n l) (sym (drop-length b))
+    rows-back (r ∷ rs) v k f =
+        let p : r ≡ rowAt b e (startOf b e v) = rw add-zero at (f 0 (omega arith)) in
+        rw (p, rows-back rs (suc v) (omega arith) (λ j m. f (suc j) (omega arith) ∙ rw (next j))) (row-back e (startOf b e v) h (whole b e n l v (omega arith)))
+      where
+        next : (j : ℕ) → v + suc j ≡ suc v + j
+        next j = omega arith
+
+-- the rows in use of what is read
+rows-length : (b : List ℕ) (e n : ℕ) → n ≤ 32 → length (take n (upTo (rowOf b e n) 32)) ≡ n
+rows-length b e n h = length-take-le n (upTo (rowOf b e n) 32) (omega (arith, length-upTo (rowOf b e n) 32))
+
+rows-at : (b : List ℕ) (e n v : ℕ) → n ≤ 32 → v < n → getD (take n (upTo (rowOf b e n) 32)) v noRow ≡ rowAt b e (startOf b e v)
+unfolding rowOf
+rows-at b e n v h k = getD-take n (upTo (rowOf b e n) 32) v noRow k ∙ getD-upTo (rowOf b e n) 32 v noRow (omega arith) ∙ rw (lt-ltb v n k)
+
+rows-spelled : (b : List ℕ) → Bytes b → (e n : ℕ) → e ≤ 12 → n ≤ 32 → layoutFault b e n nodesAt ≡ 0
+    → encodeRows e (take n (upTo (rowOf b e n) 32)) ≡ drop nodesAt b
+unfolding startOf
+rows-spelled b y e n h k l =
+    let m = rows-length b e n k in
+    rows-back b y e n h l (take n (upTo (rowOf b e n) 32)) 0 (omega arith) (λ j i. rw (zero-in j) (rows-at b e n j k (omega arith)))
+  where
+    zero-in : (j : ℕ) → 0 + j ≡ j
+    zero-in j = omega arith
+
+body-spelled : (b : List ℕ) → Bytes b → Accepts b → encodeBody (sheetOf b) ≡ drop 4 b
+unfolding encodeBody sheetOf
+body-spelled b y a =
+    let w = a .headed .long in
+    rw (rows-spelled b y (eventsOf b) (nodesOf b) (a .ranged .e-high) (a .ranged .n-high) (a .laid), ← drop-cons b 6 0 w, ← a .headed .version-is)
+    (sym (drop-two b 4 0 (omega arith)))
+
+head-spelled : (b : List ℕ) → Bytes b → 7 ≤ length b → four (lengthField b) ++ drop 4 b ≡ b
+unfolding lengthField
+head-spelled b y h =
+    rw (four-words (byte b 0) (byte b 1) (byte b 2) (byte b 3) (y 1) (y 2) (y 3), ← drop-two b 2 0 (omega arith)) (sym (drop-two b 0 0 (omega arith)))
+
+-- accepted bytes are the bytes of the sheet that they spell
+pub encode-sheetOf : (b : List ℕ) → Bytes b → bytesFault b ≡ 0 → encode (sheetOf b) ≡ b
+unfolding encode
+encode-sheetOf b y h =
+    let a = accepts b h in
+    let l : length (drop 4 b) ≡ lengthField b = omega (arith, length-drop 4 b, a .headed .length-is) in
+    rw (body-spelled b y a, l) (head-spelled b y (a .headed .long))

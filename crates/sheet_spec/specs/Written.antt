@@ -1,0 +1,281 @@
+-- The bytes of a sheet that a later call accepts are read as that sheet: node by node, what is left of the bytes says what is
+-- read there.
+use mathlib.Core.Path.{_≡_, refl, sym, _∙_}
+use mathlib.Core.Logic.{_⊎_, inl, inr}
+use mathlib.Core.Bool.{Bool, true, _&&_, _||_}
+use mathlib.Core.List.{List, [], _∷_, _++_, append-assoc}
+use Prim.Native.Nat.{ℕ, zero, suc, _+_, _*_, _/_, _%_, _≤_, _<_}
+use native.Mathlib.Nat.{add-zero}
+use native.Mathlib.Omega.{arith}
+use lib.Dec.{eqb, ltb}
+use lib.ListN.{length, getD, take, drop, replicate, length-append, getD-replicate, List·getD-append}
+use lib.Seq.{drop-cons, getD-take, getD-at, length-take-le, ext-getD}
+use borrow.Author.Tests.{lt-ltb, le-ltb, le-leb, eq-eqb, eqb-true}
+use Rattle.base.specs.Truth.{clash, lt-or-ge, and-l, and-r, and-i, or-e}
+use Rattle.base.specs.Range.{all, all→}
+use Rattle.base.specs.Refusal.{orElse, unless←}
+use Rattle.base.specs.Table.{upTo}
+use Rattle.sheet_spec.specs.declared.Row.{Row}
+use Rattle.sheet_spec.specs.declared.Sheet.{Sheet}
+use Rattle.sheet_spec.specs.Kept.{noRow, row, successor, acceptance}
+use Rattle.sheet_spec.specs.Rules.{rangesOk, countOk, countsOk, blank, unusedOk, blanksOk, sheetFault}
+use Rattle.sheet_spec.specs.Form.{SheetForm}
+use Rattle.sheet_spec.specs.Reading.{byte, word, lengthField, version, eventsOf, nodesOf, nodesAt, headFault, countAt, nextAt}
+use Rattle.sheet_spec.specs.Reading.{layoutFault, startOf, succOf, setsOf, rowAt, unusedRow, rowOf, sheetOf, bytesFault}
+use Rattle.sheet_spec.specs.Encoding.{two, four, encodeSets, encodeRow, encodeRows, encodeBody, encode}
+use Rattle.sheet_spec.specs.RuleLaws.{between→, Ranges, ranges→}
+use Rattle.sheet_spec.specs.Accepted.{Passes, passes, graph-passed}
+use Rattle.sheet_spec.specs.Slices.{getD-inside, upTo-is, getD-tail, drop-tail, length-tail}
+
+-- two rows with the same fields are one row
+row-path : (x y : Row) → x .succ ≡ y .succ → x .sets ≡ y .sets → x .c ≡ y .c → x ≡ y
+row-path x y p q r = λ i. record { succ = p i; sets = q i; c = r i }
+
+-- what a row that is left blank holds from a place on
+module _ (e c : ℕ) (r : Row) (t : blank e c r ≡ true) where
+  blank-succ : (i : ℕ) → i < 12 → e ≤ i → successor r i ≡ 255
+  unfolding blank
+  blank-succ i h k = go (or-e (ltb i e) (eqb (successor r i) 255) (all→ f 12 i (and-l (all f 12) _ t) h))
+    where
+      f : ℕ → Bool
+      f i = ltb i e || eqb (successor r i) 255
+
+      go : (ltb i e ≡ true) ⊎ (eqb (successor r i) 255 ≡ true) → successor r i ≡ 255
+      go (inl q) = absurd (clash q (le-ltb i e k))
+      go (inr q) = eqb-true (successor r i) 255 q
+
+  blank-set : (j : ℕ) → j < 16 → c ≤ j → acceptance r j ≡ 0
+  unfolding blank
+  blank-set j h k = go (or-e (ltb j c) (eqb (acceptance r j) 0) (all→ f 16 j (and-r (all (λ i. ltb i e || eqb (successor r i) 255) 12) (all f 16) t) h))
+    where
+      f : ℕ → Bool
+      f j = ltb j c || eqb (acceptance r j) 0
+
+      go : (ltb j c ≡ true) ⊎ (eqb (acceptance r j) 0 ≡ true) → acceptance r j ≡ 0
+      go (inl q) = absurd (clash q (le-ltb j c k))
+      go (inr q) = eqb-true (acceptance r j) 0 q
+
+-- a row of a node in use: as long as the machine's, its C in range, its unused places blank
+record Fits (e : ℕ) (r : Row) : Type 0 where
+  succs : length (r .succ) ≡ 12
+  sets : length (r .sets) ≡ 16
+  c-ok : countOk (r .c) ≡ true
+  c-high : r .c ≤ 16
+  blanks : blank e (r .c) r ≡ true
+
+-- C sets take 2 C bytes
+length-encodeSets : (xs : List ℕ) → length (encodeSets xs) ≡ length xs * 2
+unfolding encodeSets two
+length-encodeSets [] = refl
+length-encodeSets (x ∷ xs) = omega (arith, length-encodeSets xs)
+
+-- where sets are written, each is read
+sets-read : (b xs post : List ℕ) (at : ℕ) → drop at b ≡ encodeSets xs ++ post → (j : ℕ) → j < length xs → word b (at + j * 2) ≡ getD xs j 0
+unfolding encodeSets two
+sets-read b [] post at h j k = absurd (omega arith)
+sets-read b (x ∷ xs) post at h zero k =
+    let p : byte b (at + 0 * 2) ≡ x / 256 = getD-tail b _ at 0 0 h in
+    let q : byte b (at + 0 * 2 + 1) ≡ x % 256 = rw add-zero (getD-tail b _ at 1 0 h) in
+    omega arith
+sets-read b (x ∷ xs) post at h (suc j) k =
+    let e : at + suc j * 2 ≡ at + 2 + j * 2 = omega arith in
+    rw e (sets-read b xs post (at + 2) (drop-tail b (x / 256 ∷ (x % 256 ∷ [])) (encodeSets xs ++ post) at 2 h refl) j (omega arith))
+
+-- a node that is written at a place
+module _ (b : List ℕ) (e at : ℕ) (r : Row) (post : List ℕ) (k : e ≤ 12) (f : Fits e r) (h : drop at b ≡ encodeRow e r ++ post) where
+  front : length (take e (r .succ)) ≡ e
+  front = length-take-le e (r .succ) (omega (arith, f .succs))
+
+  opened : drop at b ≡ take e (r .succ) ++ (r .c ∷ (encodeSets (take (r .c) (r .sets)) ++ post))
+  unfolding encodeRow
+  opened = h ∙ append-assoc (take e (r .succ)) (r .c ∷ encodeSets (take (r .c) (r .sets))) post
+
+  succ-read : (i : ℕ) → i < e → byte b (at + i) ≡ getD (r .succ) i 0
+  succ-read i l =
+      getD-tail b _ at i 0 opened
+      ∙ List·getD-append (take e (r .succ)) (r .c ∷ (encodeSets (take (r .c) (r .sets)) ++ post)) 0 i (omega (arith, front)) ∙ getD-take e (r .succ) i 0 l
+
+  c-read : countAt b e at ≡ r .c
+  c-read = getD-tail b _ at e 0 opened ∙ getD-at (take e (r .succ)) (r .c) (encodeSets (take (r .c) (r .sets)) ++ post) 0 e front
+
+  sets-left : drop (at + e + 1) b ≡ encodeSets (take (r .c) (r .sets)) ++ post
+  sets-left = drop-tail b (r .c ∷ []) (encodeSets (take (r .c) (r .sets)) ++ post) (at + e) 1
+      (drop-tail b (take e (r .succ)) (r .c ∷ (encodeSets (take (r .c) (r .sets)) ++ post)) at e opened front) refl
+
+  set-count : length (take (r .c) (r .sets)) ≡ r .c
+  set-count = length-take-le (r .c) (r .sets) (omega (arith, f .sets, f .c-high))
+
+  set-read : (j : ℕ) → j < r .c → word b (at + e + 1 + j * 2) ≡ getD (r .sets) j 0
+  set-read j l = sets-read b (take (r .c) (r .sets)) post (at + e + 1) sets-left j (omega (arith, set-count)) ∙ getD-take (r .c) (r .sets) j 0 l
+
+  -- the next node is written after it
+  after-row : drop (nextAt b e at) b ≡ post
+  unfolding nextAt
+  after-row =
+      let l : length (encodeSets (take (r .c) (r .sets))) ≡ r .c * 2 = omega (arith, length-encodeSets (take (r .c) (r .sets)), set-count) in
+      rw c-read (drop-tail b (encodeSets (take (r .c) (r .sets))) post (at + e + 1) (r .c * 2) sets-left l)
+
+  succs-same : upTo (succOf b at e) 12 ≡ r .succ
+  unfolding succOf successor
+  succs-same = upTo-is (succOf b at e) (r .succ) 12 0 (f .succs) (λ i m. go i m (lt-or-ge i e))
+    where
+      go : (i : ℕ) → i < 12 → (i < e) ⊎ (e ≤ i) → succOf b at e i ≡ getD (r .succ) i 0
+      go i m (inl l) = rw (lt-ltb i e l) (succ-read i l)
+      go i m (inr l) = rw (le-ltb i e l) (sym (getD-inside (r .succ) i 0 255 (omega (arith, f .succs)) ∙ blank-succ e (r .c) r (f .blanks) i m l))
+
+  sets-same : upTo (setsOf b (at + e + 1) (r .c)) 16 ≡ r .sets
+  unfolding setsOf acceptance
+  sets-same = upTo-is (setsOf b (at + e + 1) (r .c)) (r .sets) 16 0 (f .sets) (λ j m. go j m (lt-or-ge j (r .c)))
+    where
+      go : (j : ℕ) → j < 16 → (j < r .c) ⊎ (r .c ≤ j) → setsOf b (at + e + 1) (r .c) j ≡ getD (r .sets) j 0
+      go j m (inl l) = rw (lt-ltb j (r .c) l) (set-read j l)
+      go j m (inr l) = rw (le-ltb j (r .c) l) (sym (blank-set e (r .c) r (f .blanks) j m l))
+
+  -- it is read as its row
+  row-read : rowAt b e at ≡ r
+  unfolding rowAt
+  row-read = row-path (rowAt b e at) r succs-same (rw c-read sets-same) c-read
+
+  -- and passes the tests of the layout
+  row-ends : at ≤ length b → (at + e < length b) × (nextAt b e at ≤ length b)
+  unfolding nextAt
+  row-ends l =
+      let p = length-tail b _ at opened l in
+      let q = length-append (take e (r .succ)) (r .c ∷ (encodeSets (take (r .c) (r .sets)) ++ post)) in
+      let s = length-append (encodeSets (take (r .c) (r .sets))) post in
+      let t = length-encodeSets (take (r .c) (r .sets)) in
+      (omega (arith, p, q, front), omega (arith, p, q, s, t, front, set-count, c-read))
+
+-- every row of a list fits
+abbrev AllFit : ℕ → List Row → Type 0
+AllFit e rs = (j : ℕ) → j < length rs → Fits e (getD rs j noRow)
+
+-- nodes that are written from a place on
+module _ (b : List ℕ) (e : ℕ) (k : e ≤ 12) where
+  layout-read : (rs : List Row) (at : ℕ) → drop at b ≡ encodeRows e rs → at ≤ length b → AllFit e rs → layoutFault b e (length rs) at ≡ 0
+  unfolding layoutFault encodeRows
+  layout-read [] at h l f = unless← 4 (eq-eqb at (length b) (omega (arith, length-tail b [] at h l))) refl
+  layout-read (r ∷ rs) at h l f =
+      let g = f 0 (omega arith) in
+      let w = row-ends b e at r (encodeRows e rs) k g h l in
+      let c : countOk (countAt b e at) ≡ true = rw (c-read b e at r (encodeRows e rs) k g h) (g .c-ok) in
+      let m = layout-read rs (nextAt b e at) (after-row b e at r (encodeRows e rs) k g h) (w .1) (λ j i. f (suc j) (omega arith)) in
+      unless← 4 (lt-ltb (at + e) (length b) (w .0)) (unless← 5 c (unless← 4 (le-leb (nextAt b e at) (length b) (w .1)) m))
+
+  module _ (rs : List Row) (h : drop nodesAt b ≡ encodeRows e rs) (f : AllFit e rs) where
+    next-row : (v : ℕ) → v < length rs → drop (startOf b e v) b ≡ encodeRows e (drop v rs)
+        → drop (startOf b e v) b ≡ encodeRow e (getD rs v noRow) ++ encodeRows e (drop (suc v) rs)
+    unfolding encodeRows
+    next-row v l p = p ∙ rw (drop-cons rs v noRow l)
+
+    start-read : (v : ℕ) → v ≤ length rs → drop (startOf b e v) b ≡ encodeRows e (drop v rs)
+    unfolding startOf
+    start-read zero l = h
+    start-read (suc v) l =
+        after-row b e (startOf b e v) (getD rs v noRow) (encodeRows e (drop (suc v) rs)) k (f v l) (next-row v l (start-read v (omega arith)))
+
+    rows-read : (v : ℕ) → v < length rs → rowAt b e (startOf b e v) ≡ getD rs v noRow
+    rows-read v l =
+        row-read b e (startOf b e v) (getD rs v noRow) (encodeRows e (drop (suc v) rs)) k (f v l) (next-row v l (start-read v (omega arith)))
+
+-- a row that is blank throughout is the row of an unused node
+unused-is : (r : Row) → length (r .succ) ≡ 12 → length (r .sets) ≡ 16 → eqb (r .c) 0 && blank 0 0 r ≡ true → r ≡ unusedRow
+unfolding successor acceptance
+unused-is r p q t =
+    let u = and-r (eqb (r .c) 0) (blank 0 0 r) t in
+    row-path r unusedRow
+    (ext-getD 255 (r .succ) (replicate 12 255) p (λ i l. blank-succ 0 0 r u i (omega arith) (omega arith) ∙ sym (getD-replicate 12 i 255 255 (omega arith))))
+    (ext-getD 0 (r .sets) (replicate 16 0) q (λ j l. blank-set 0 0 r u j (omega arith) (omega arith) ∙ sym (getD-replicate 16 j 0 0 (omega arith))))
+    (eqb-true (r .c) 0 (and-l (eqb (r .c) 0) (blank 0 0 r) t))
+
+-- the bytes before the nodes
+module _ (s : Sheet) where
+  long : 7 ≤ length (encode s)
+  unfolding encode encodeBody four two
+  long = omega arith
+
+  length-written : lengthField (encode s) + 4 ≡ length (encode s)
+  unfolding encode encodeBody four two lengthField
+  length-written = omega arith
+
+  version-written : eqb (version (encode s)) 1 ≡ true
+  unfolding encode encodeBody four two
+  version-written = refl
+
+  ranges-written : rangesOk (s .e) (s .n) ≡ true → rangesOk (eventsOf (encode s)) (nodesOf (encode s)) ≡ true
+  unfolding encode encodeBody four two
+  ranges-written t = t
+
+module _ (s : Sheet) (o : SheetForm s) (p : Passes s) where
+  small : Ranges (s .e) (s .n)
+  small = ranges→ (s .e) (s .n) (p .p3)
+
+  unused-at : (v : ℕ) → v < 32 → unusedOk (s .e) (s .n) v (row s v) ≡ true
+  unfolding blanksOk
+  unused-at v h = all→ (λ v. unusedOk (s .e) (s .n) v (row s v)) 32 v (p .p7u) h
+
+  fits : (v : ℕ) → v < s .n → Fits (s .e) (row s v)
+  unfolding countsOk countOk unusedOk
+  fits v h =
+      let m : v < 32 = omega (arith, small) in
+      let c = all→ (λ v. countOk (row s v .c)) (s .n) v (p .p5) h in
+      record {
+        succs = o .each v m .succs;
+        sets = o .each v m .sets;
+        c-ok = c;
+        c-high = between→ 1 16 (row s v .c) c .1;
+        blanks = rw (lt-ltb v (s .n) h) at (unused-at v m);
+      }
+
+  unused : (v : ℕ) → v < 32 → s .n ≤ v → row s v ≡ unusedRow
+  unfolding unusedOk
+  unused v m h = unused-is (row s v) (o .each v m .succs) (o .each v m .sets) (rw (le-ltb v (s .n) h) at (unused-at v m))
+
+  used-length : length (take (s .n) (s .rows)) ≡ s .n
+  used-length = length-take-le (s .n) (s .rows) (omega (arith, o .rows, small))
+
+  used-fit : AllFit (s .e) (take (s .n) (s .rows))
+  used-fit j h = let l : j < s .n = omega (arith, used-length) in rw (getD-take (s .n) (s .rows) j noRow l) (fits j l)
+
+  head-written : headFault (encode s) ≡ 0
+  unfolding headFault
+  head-written =
+      unless← 1 (and-i (le-leb 7 (length (encode s)) (long s)) (eq-eqb (lengthField (encode s) + 4) (length (encode s)) (length-written s)))
+      (unless← 2 (version-written s) (unless← 3 (ranges-written s (p .p3)) refl))
+
+  layout-written : layoutFault (encode s) (eventsOf (encode s)) (nodesOf (encode s)) nodesAt ≡ 0
+  unfolding encode encodeBody four two
+  layout-written =
+      rw used-length at (layout-read (encode s) (s .e) (small .e-high) (take (s .n) (s .rows)) nodesAt refl (long s) used-fit)
+
+  row-written : (v : ℕ) → v < s .n → rowAt (encode s) (s .e) (startOf (encode s) (s .e) v) ≡ row s v
+  unfolding encode encodeBody four two
+  row-written v h =
+      rows-read (encode s) (s .e) (small .e-high) (take (s .n) (s .rows)) refl used-fit v (omega (arith, used-length)) ∙ getD-take (s .n) (s .rows) v noRow h
+
+  rows-written : upTo (rowOf (encode s) (s .e) (s .n)) 32 ≡ s .rows
+  unfolding rowOf
+  rows-written = upTo-is (rowOf (encode s) (s .e) (s .n)) (s .rows) 32 noRow (o .rows) (λ v m. go v m (lt-or-ge v (s .n)))
+    where
+      go : (v : ℕ) → v < 32 → (v < s .n) ⊎ (s .n ≤ v) → rowOf (encode s) (s .e) (s .n) v ≡ row s v
+      go v m (inl h) = rw (lt-ltb v (s .n) h) (row-written v h)
+      go v m (inr h) = rw (le-ltb v (s .n) h) (sym (unused v m h))
+
+-- two sheets with the same fields are one sheet
+sheet-path : (x y : Sheet) → x .rows ≡ y .rows → x .e ≡ y .e → x .n ≡ y .n → x ≡ y
+sheet-path x y p q r = λ i. record { rows = p i; e = q i; n = r i }
+
+-- the bytes of an accepted sheet spell that sheet
+pub sheetOf-encode : (s : Sheet) → SheetForm s → sheetFault s ≡ 0 → sheetOf (encode s) ≡ s
+unfolding sheetOf encode encodeBody four two
+sheetOf-encode s o h = sheet-path (sheetOf (encode s)) s (rows-written s o (passes s h)) refl refl
+
+-- and reading accepts them
+pub encode-accepted : (s : Sheet) → SheetForm s → sheetFault s ≡ 0 → bytesFault (encode s) ≡ 0
+unfolding bytesFault
+encode-accepted s o h =
+    let p = passes s h in
+    orElse← (head-written s o p) (orElse← (layout-written s o p) (rw (sheetOf-encode s o h) (graph-passed s p)))
+  where
+    orElse← : {k r : ℕ} → k ≡ 0 → r ≡ 0 → orElse k r ≡ 0
+    orElse← a b = rw (a, b)

@@ -1,0 +1,1 @@
+// Walks in finite labelled graphs. This crate has definitions and theorems (specs/) and no function.
