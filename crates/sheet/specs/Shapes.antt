@@ -1,13 +1,19 @@
 -- The shapes of loops; nothing to believe. Inner functions cite them; a law joins them to the walks of a sheet.
-use mathlib.Core.Bool.{Bool, cond}
+use mathlib.Core.Bool.{Bool, _&&_, cond}
 use mathlib.Core.List.{List}
-use Prim.Native.Nat.{ℕ, zero, suc}
-use lib.ListN.{getD}
+use Prim.Native.Nat.{ℕ, zero, suc, _+_}
+use lib.Dec.{eqb, leb}
+use lib.ListN.{length, getD}
 use lib.Bits.{bitOr}
 use Rattle.events.specs.Sets.{has}
 use Rattle.sheet_spec.specs.declared.Sheet.{Sheet}
 use Rattle.sheet_spec.specs.Kept.{row}
+use Rattle.sheet_spec.specs.Reading.{lengthField}
 use Rattle.rows.specs.Shapes.{targets}
+
+-- 1: at least 7 bytes, and as many as the first four say
+unfoldable pub lengthOk : List ℕ → Bool
+lengthOk b = leb 7 (length b) && eqb (lengthField b + 4) (length b)
 
 -- the nodes to which one event leads from node v, as a set
 unfoldable pub targetsOf : Sheet → ℕ → ℕ

@@ -4,10 +4,11 @@ ghost use mathlib.Core.Path.{_≡_};
 ghost use Prim.Native.Nat.{_+_, _≤_, _<_};
 ghost use lib.ListN.{length};
 ghost use Rattle.base.specs.Table.{upTo};
+ghost use Rattle.events.specs.Sets.{has};
 ghost use Rattle.sheet_spec.specs.Kept.{row};
 ghost use Rattle.sheet_spec.specs.Rules.{rangesOk, countsOk, successorsOk, setsOk, blanksOk, reachedOk, sheetFault};
 ghost use Rattle.sheet_spec.specs.Reading.{byte, word, headFault, nextAt, layoutFault, startOf, succOf, setsOf, rowAt, unusedRow, rowOf, sheetOf, graphFault, zeroSheet, answer, readSheet};
-ghost use Rattle.sheet.specs.Shapes.{targetsOf, joined, grown, rounds};
+ghost use Rattle.sheet.specs.Shapes.{lengthOk, targetsOf, joined, grown, rounds};
 use sheet_spec::ReadSheet;
 use sheet_spec::Row;
 use sheet_spec::Sheet;
@@ -47,17 +48,24 @@ fn ranges_ok(e: u8, n: u8) -> bool
     n <= 32
 }
 
-// 1, 2, 3: the bytes before the nodes.
-fn head_fault(bytes: &[u8]) -> u8
-    ensures { λ r. ⌜ r ≡ headFault (now (bytes .entry)) ⌝ }
+// 1: whether there are at least 7 bytes, and as many as the first four say.
+fn length_ok(bytes: &[u8]) -> bool
+    ensures { λ r. ⌜ r ≡ lengthOk (now (bytes .entry)) ⌝ }
 {
     let high = word_at(bytes, 0) as u64;
     let low = word_at(bytes, 2) as u64;
     let size = bytes.len() as u64;
     if size < 7 {
-        return 1;
+        return false;
     }
-    if high * 65536 + low + 4 != size {
+    high * 65536 + low + 4 == size
+}
+
+// 1, 2, 3: the bytes before the nodes.
+fn head_fault(bytes: &[u8]) -> u8
+    ensures { λ r. ⌜ r ≡ headFault (now (bytes .entry)) ⌝ }
+{
+    if !length_ok(bytes) {
         return 1;
     }
     if byte_at(bytes, 4) != 1 {
@@ -74,7 +82,7 @@ fn next_at(bytes: &[u8], e: usize, at: usize) -> usize
     requires { ⌜ (e ≤ 255) × (at < 500000) ⌝ }
     ensures { λ r. ⌜ (r ≡ nextAt (now (bytes .entry)) e at) × (r ≤ at + 766) ⌝ }
 {
-    let c = base::wide(byte_at(bytes, at + e));
+    let c = byte_at(bytes, at + e) as usize;
     at + e + 1 + c * 2
 }
 
@@ -82,14 +90,15 @@ fn next_at(bytes: &[u8], e: usize, at: usize) -> usize
 fn layout_fault(bytes: &[u8], e: u8, n: u8) -> u8
     ensures { λ r. ⌜ r ≡ layoutFault (now (bytes .entry)) e n 7 ⌝ }
 {
-    let width = base::wide(e);
-    let nodes = base::wide(n);
+    let width = e as usize;
+    let nodes = n as usize;
     let mut at: usize = 7;
     for v in 0..nodes {
-        if at + width >= bytes.len() {
+        let place = at + width;
+        if place >= bytes.len() {
             return 4;
         }
-        if !rows::count_ok(byte_at(bytes, at + width)) {
+        if !rows::count_ok(byte_at(bytes, place)) {
             return 5;
         }
         at = next_at(bytes, width, at);
@@ -150,7 +159,7 @@ fn row_at(bytes: &[u8], e: usize, at: usize) -> Row
 {
     let c = byte_at(bytes, at + e);
     let succ = succs_of(bytes, at, e);
-    let sets = sets_of(bytes, at + e + 1, base::wide(c));
+    let sets = sets_of(bytes, at + e + 1, c as usize);
     Row {
         succ: succ,
         sets: sets,
@@ -204,7 +213,7 @@ fn sheet_of(bytes: &[u8]) -> Sheet
 {
     let e = byte_at(bytes, 5);
     let n = byte_at(bytes, 6);
-    let rows = rows_of(bytes, base::wide(e), base::wide(n));
+    let rows = rows_of(bytes, e as usize, n as usize);
     Sheet {
         rows: rows,
         e: e,
@@ -219,7 +228,7 @@ fn counts_ok(s: Sheet) -> bool
     requires { ⌜ s .n ≤ 32 ⌝ }
     ensures { λ r. ⌜ r ≡ countsOk s ⌝ }
 {
-    let n = base::wide(s.n);
+    let n = s.n as usize;
     for v in 0..n {
         let row = s.rows[v];
         if !rows::count_ok(row.c) {
@@ -234,8 +243,8 @@ fn successors_ok(s: Sheet) -> bool
     requires { ⌜ s .n ≤ 32 ⌝ }
     ensures { λ r. ⌜ r ≡ successorsOk s ⌝ }
 {
-    let e = base::wide(s.e);
-    let n = base::wide(s.n);
+    let e = s.e as usize;
+    let n = s.n as usize;
     for v in 0..n {
         let row = s.rows[v];
         if !rows::row_successors_ok(row, e, n) {
@@ -250,8 +259,8 @@ fn sets_ok(s: Sheet) -> bool
     requires { ⌜ s .n ≤ 32 ⌝ }
     ensures { λ r. ⌜ r ≡ setsOk s ⌝ }
 {
-    let e = base::wide(s.e);
-    let n = base::wide(s.n);
+    let e = s.e as usize;
+    let n = s.n as usize;
     for v in 0..n {
         let row = s.rows[v];
         if !rows::row_sets_ok(row, e) {
@@ -265,8 +274,8 @@ fn sets_ok(s: Sheet) -> bool
 fn blanks_ok(s: Sheet) -> bool
     ensures { λ r. ⌜ r ≡ blanksOk s ⌝ }
 {
-    let e = base::wide(s.e);
-    let n = base::wide(s.n);
+    let e = s.e as usize;
+    let n = s.n as usize;
     for v in 0..32 {
         let row = s.rows[v];
         if !rows::unused_ok(row, e, n, v) {
@@ -280,7 +289,7 @@ fn blanks_ok(s: Sheet) -> bool
 fn targets(s: Sheet) -> [u32; 32]
     ensures { λ r. ⌜ r ≡ upTo (targetsOf s) 32 ⌝ }
 {
-    let e = base::wide(s.e);
+    let e = s.e as usize;
     let mut sets = [0u32; 32];
     for v in 0..32 {
         let row = s.rows[v];
@@ -290,16 +299,20 @@ fn targets(s: Sheet) -> [u32; 32]
     sets
 }
 
+// Whether node `v` is in a set of nodes.
+fn has_node(set: u32, v: usize) -> bool
+    requires { ⌜ v < 32 ⌝ }
+    ensures { λ r. ⌜ r ≡ has set v ⌝ }
+{
+    (set >> v) % 2 == 1
+}
+
 // The nodes of `set` join `next`, if node `u` is among those seen.
 fn join(next: u32, seen: u32, u: usize, set: u32) -> u32
     requires { ⌜ u < 32 ⌝ }
     ensures { λ r. ⌜ r ≡ joined next seen u set ⌝ }
 {
-    if (seen >> u) % 2 == 1 {
-        next | set
-    } else {
-        next
-    }
+    if has_node(seen, u) { next | set } else { next }
 }
 
 // One round: node 0, and all nodes to which one event leads from a node that was seen.
@@ -331,11 +344,11 @@ fn reached_ok(s: Sheet) -> bool
     requires { ⌜ s .n ≤ 32 ⌝ }
     ensures { λ r. ⌜ r ≡ reachedOk s ⌝ }
 {
-    let n = base::wide(s.n);
+    let n = s.n as usize;
     let sets = targets(s);
     let seen = seen_after(sets, n);
     for v in 0..n {
-        if (seen >> v) % 2 == 0 {
+        if !has_node(seen, v) {
             return false;
         }
     }
@@ -345,17 +358,17 @@ fn reached_ok(s: Sheet) -> bool
 // ---- refusals
 
 // 6, 7, 8, each over the whole sheet.
-fn graph_fault(s: Sheet) -> u8
-    requires { ⌜ s .n ≤ 32 ⌝ }
-    ensures { λ r. ⌜ r ≡ graphFault s ⌝ }
+fn graph_fault(sheet: Sheet) -> u8
+    requires { ⌜ sheet .n ≤ 32 ⌝ }
+    ensures { λ r. ⌜ r ≡ graphFault sheet ⌝ }
 {
-    if !successors_ok(s) {
+    if !successors_ok(sheet) {
         return 6;
     }
-    if !sets_ok(s) {
+    if !sets_ok(sheet) {
         return 7;
     }
-    if !reached_ok(s) {
+    if !reached_ok(sheet) {
         return 8;
     }
     0

@@ -32,20 +32,20 @@ zeros = record { succ = replicate 12 0; sets = replicate 16 0; c = 0 }
 
 zero-row : ZeroRow zeros
 zero-row = record {
-    succs = length-replicate {A = ℕ} 12 0;
-    succ-zero = λ i l. getD-replicate {A = ℕ} 12 i 0 255 l;
-    sets = length-replicate {A = ℕ} 16 0;
-    set-zero = λ j l. getD-replicate {A = ℕ} 16 j 0 255 l;
-    c-zero = refl
-  }
+  succs = length-replicate {A = ℕ} 12 0;
+  succ-zero = λ i l. getD-replicate {A = ℕ} 12 i 0 255 l;
+  sets = length-replicate {A = ℕ} 16 0;
+  set-zero = λ j l. getD-replicate {A = ℕ} 16 j 0 255 l;
+  c-zero = refl;
+}
 
 zero-sheet : Zero zeroSheet
 zero-sheet = record {
-    rows = length-replicate {A = Row} 32 zeros;
-    each = λ v l. rw (getD-replicate {A = Row} 32 v zeros noRow l) zero-row;
-    e-zero = refl;
-    n-zero = refl
-  }
+  rows = length-replicate {A = Row} 32 zeros;
+  each = λ v l. rw (getD-replicate {A = Row} 32 v zeros noRow l) zero-row;
+  e-zero = refl;
+  n-zero = refl;
+}
 
 -- the number that is answered is the refusal's, 0 for none
 pub read-refusal : (b : List ℕ) → readSheet b .refusal ≡ bytesFault b

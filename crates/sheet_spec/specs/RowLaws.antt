@@ -22,9 +22,12 @@ mayStop-means r h = (to, from)
   where
     to : mayStop r ≡ true → (j : ℕ) × (j < r .c) × (acceptance r j ≡ 0)
     to t =
-        let w = any→ (λ j. ltb j (r .c) && eqb (acceptance r j) 0) 16 t in
-        (w .0, ltb-true (w .0) (r .c) (and-l (ltb (w .0) (r .c)) (eqb (acceptance r (w .0)) 0) (w .2)),
-          eqb-true (acceptance r (w .0)) 0 (and-r (ltb (w .0) (r .c)) (eqb (acceptance r (w .0)) 0) (w .2)))
+        let w = any→ (λ j. ltb j (r .c) && eqb (acceptance r j) 0) 16 t in (
+          w .0,
+          ltb-true (w .0) (r .c) (and-l (ltb (w .0) (r .c)) (eqb (acceptance r (w .0)) 0) (w .2)),
+          eqb-true (acceptance r (w .0)) 0 (and-r (ltb (w .0) (r .c)) (eqb (acceptance r (w .0)) 0) (w .2)),
+        )
+
     from : (j : ℕ) × (j < r .c) × (acceptance r j ≡ 0) → mayStop r ≡ true
     from (j, l, e) = any← (λ j. ltb j (r .c) && eqb (acceptance r j) 0) 16 j (omega arith) (and-i (lt-ltb j (r .c) l) (eq-eqb (acceptance r j) 0 e))
 

@@ -1,0 +1,5 @@
+pub mod Loops
+pub mod Head
+pub mod Nodes
+pub mod Rounds
+pub mod Answers
