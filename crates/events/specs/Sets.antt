@@ -1,5 +1,5 @@
 -- The four operations on sets of events that the code has, and what each means, event by event.
-use mathlib.Core.Path.{_≡_, refl, sym, ap, _∙_}
+use mathlib.Core.Path.{_≡_, refl, sym, _∙_}
 use mathlib.Core.Logic.{_≢_, _⊎_, inl, inr}
 use mathlib.Core.Bool.{Bool, true, false, not, _&&_, cond}
 use Prim.Native.Nat.{ℕ, zero, suc, _+_, _^_, _≤_, _<_}
@@ -7,11 +7,10 @@ use native.Mathlib.Omega.{arith}
 use native.Mathlib.Decide.{ℕ-discrete}
 use lib.Dec.{eqb, ltb}
 use lib.Bits.{bitAnd, bitOr}
-use lib.Pow.{pow-pos}
 use borrow.Author.Tests.{eqb-true, eqb-false, eq-eqb, ne-eqb, lt-ltb, le-ltb}
 use Rattle.base.specs.Truth.{dec, clash, lt-or-ge, and-l, and-r, and-i, not-f, not-t, t-not}
 use Rattle.base.specs.Range.{any, any→, not-any}
-use Rattle.events.specs.Bit.{bit, bit≤1, bit-and, bit-or, bit-one, bit-other, bits-ext, bit-high, bit-top, bit-below, Within, Apart, within-and, and-within, apart-and, and-apart, common, meet}
+use Rattle.events.specs.Bit.{bit, bit≤1, bit-or, bit-one, bit-other, bits-ext, bit-high, bit-top, bit-below, Within, Apart, within-and, and-within, apart-and, and-apart, common, meet}
 
 -- event i is in X
 unfoldable pub has : ℕ → ℕ → Bool

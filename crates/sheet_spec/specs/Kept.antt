@@ -4,8 +4,9 @@ use mathlib.Core.Bool.{Bool, not, _&&_, cond}
 use mathlib.Core.List.{List, [], _∷_}
 use Prim.Native.Nat.{ℕ, _<_}
 use lib.Dec.{eqb, ltb}
-use lib.ListN.{getD, take}
+use lib.ListN.{getD}
 use Rattle.base.specs.Range.{any}
+use Rattle.base.specs.Table.{upTo}
 use Rattle.events.specs.Bit.{setOf}
 use Rattle.walks.specs.Graph.{Graph}
 use Rattle.sheet_spec.specs.declared.Row.{Row}
@@ -29,7 +30,7 @@ acceptance r j = getD (r .sets) j 0
 
 -- the minimal acceptances of a row, as a list
 unfoldable pub acceptances : Row → List ℕ
-acceptances r = take (r .c) (r .sets)
+acceptances r = upTo (acceptance r) (r .c)
 
 -- the initials of a row, as a set: the events below e with a successor
 unfoldable pub initials : ℕ → Row → ℕ

@@ -1,5 +1,5 @@
 -- Reading a sheet from its bytes (01, "A sheet", and the refusals 1 to 8 in their order). A byte past the end reads as 0.
-use mathlib.Core.Bool.{Bool, _&&_, cond}
+use mathlib.Core.Bool.{_&&_, cond}
 use mathlib.Core.List.{List}
 use Prim.Native.Nat.{ℕ, zero, suc, _+_, _*_}
 use lib.Dec.{eqb, ltb, leb}

@@ -1,8 +1,7 @@
 -- What the definitions of a row mean.
-use mathlib.Core.Path.{_≡_}
+use mathlib.Core.Path.{_≡_, sym}
 use mathlib.Core.Logic.{_↔_}
 use mathlib.Core.Bool.{true, _&&_}
-use mathlib.Core.List.{List}
 use Prim.Native.Nat.{ℕ, _≤_, _<_}
 use native.Mathlib.Omega.{arith}
 use lib.Dec.{eqb, ltb}
@@ -11,9 +10,11 @@ use lib.Seq.{getD-take, length-take-le}
 use borrow.Author.Tests.{eqb-true, eq-eqb, ltb-true, lt-ltb}
 use Rattle.base.specs.Truth.{and-l, and-r, and-i}
 use Rattle.base.specs.Range.{any→, any←}
+use Rattle.base.specs.Table.{length-upTo, getD-upTo}
 use Rattle.sheet_spec.specs.declared.Row.{Row}
 use Rattle.sheet_spec.specs.Kept.{acceptance, acceptances, mayStop}
 use Rattle.sheet_spec.specs.Form.{RowForm}
+use Rattle.sheet_spec.specs.Slices.{upTo-is}
 
 -- a node may stop exactly if one of its sets is empty
 pub mayStop-means : (r : Row) → r .c ≤ 16 → (mayStop r ≡ true) ↔ ((j : ℕ) × (j < r .c) × (acceptance r j ≡ 0))
@@ -32,10 +33,16 @@ mayStop-means r h = (to, from)
     from (j, l, e) = any← (λ j. ltb j (r .c) && eqb (acceptance r j) 0) 16 j (omega arith) (and-i (lt-ltb j (r .c) l) (eq-eqb (acceptance r j) 0 e))
 
 -- the list of acceptances has C elements, and at each place the set there
-pub acceptances-length : (r : Row) → RowForm r → r .c ≤ 16 → length (acceptances r) ≡ r .c
+pub acceptances-length : (r : Row) → length (acceptances r) ≡ r .c
 unfolding acceptances
-acceptances-length r f h = length-take-le (r .c) (r .sets) (omega (arith, f .sets))
+acceptances-length r = length-upTo (acceptance r) (r .c)
 
 pub acceptances-at : (r : Row) (j : ℕ) → j < r .c → getD (acceptances r) j 0 ≡ acceptance r j
+unfolding acceptances
+acceptances-at r j h = getD-upTo (acceptance r) (r .c) j 0 h
+
+-- of a row in the machine's form it is the front of its array
+pub acceptances-take : (r : Row) → RowForm r → r .c ≤ 16 → acceptances r ≡ take (r .c) (r .sets)
 unfolding acceptances acceptance
-acceptances-at r j h = getD-take (r .c) (r .sets) j 0 h
+acceptances-take r f h = upTo-is (acceptance r) (take (r .c) (r .sets)) (r .c) 0 (length-take-le (r .c) (r .sets) (omega (arith, f .sets)))
+    (λ j l. sym (getD-take (r .c) (r .sets) j 0 l))

@@ -1,19 +1,18 @@
 -- Each test of Rules looks for its fault of Faults.
-use mathlib.Core.Path.{_≡_, refl, sym, ap, _∙_, subst}
-use mathlib.Core.Logic.{_⊎_, inl, inr, _≢_, _↔_}
-use mathlib.Core.Bool.{Bool, true, false, not, _&&_, _||_, cond}
+use mathlib.Core.Path.{_≡_, refl, sym, _∙_}
+use mathlib.Core.Logic.{_⊎_, inl, inr, _≢_}
+use mathlib.Core.Bool.{Bool, true, false, not, _&&_, cond}
 use mathlib.Core.List.{List, [], _∷_}
-use Prim.Native.Nat.{ℕ, zero, suc, _+_, _-_, _^_, _≤_, _<_}
+use Prim.Native.Nat.{ℕ, zero, suc, _-_, _≤_, _<_}
 use native.Mathlib.Omega.{arith}
-use native.Mathlib.Decide.{ℕ-discrete}
 use native.Mathlib.Nat.{eq-or-lt-of-le}
 use lib.Dec.{eqb, ltb, leb}
 use borrow.Author.Tests.{leb-true, ltb-true, lt-ltb, le-ltb, eqb-true, eqb-false, ne-eqb}
-use Rattle.base.specs.Truth.{dec, clash, and-l, and-r, and-i, not-t, not-f, lt-or-ge}
+use Rattle.base.specs.Truth.{dec, clash, and-l, and-r, not-f, lt-or-ge}
 use Rattle.base.specs.Range.{all, all→, not-all}
 use Rattle.base.specs.Finds.{Finds, finds-as, finds-le, finds-lt, finds-eq, finds-and, finds-or, finds-all, finds-not}
 use Rattle.events.specs.Bit.{bit, bit≤1, bits-zero, bit-high, setOf, setOf-lt, bit-setOf, Within, within-le}
-use Rattle.events.specs.Sets.{inside, inside→, inside←, inside-not, inside-missing}
+use Rattle.events.specs.Sets.{inside, inside→, inside-not, inside-missing}
 use Rattle.walks.specs.Graph.{WellFormed, walk, walk-none}
 use Rattle.walks.specs.Reach.{nearer, nearer-all}
 use Rattle.sheet_spec.specs.declared.Row.{Row}

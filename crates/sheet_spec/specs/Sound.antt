@@ -1,21 +1,18 @@
 -- What a sheet that is not refused is like: what upper crates use of it.
-use mathlib.Core.Path.{_≡_, refl, sym, ap, _∙_, subst}
+use mathlib.Core.Path.{_≡_}
 use mathlib.Core.Logic.{_⊎_, inl, inr, _≢_}
-use mathlib.Core.Bool.{true, false}
+use mathlib.Core.Bool.{true}
 use mathlib.Core.List.{List}
-use Prim.Native.Nat.{ℕ, zero, suc, _+_, _^_, _≤_, _<_}
+use Prim.Native.Nat.{ℕ, _^_, _≤_, _<_}
 use native.Mathlib.Omega.{arith}
 use native.Mathlib.Decide.{ℕ-discrete}
-use lib.ListN.{length, getD, take}
-use lib.Seq.{getD-take}
 use Rattle.base.specs.Truth.{lt-or-ge}
 use Rattle.base.specs.Range.{all→}
-use Rattle.events.specs.Bit.{bit, bit-high, Within, narrow}
+use Rattle.events.specs.Bit.{bit, Within, narrow}
 use Rattle.walks.specs.Graph.{WellFormed}
 use Rattle.walks.specs.Reach.{nearer, nearer-all}
-use Rattle.sheet_spec.specs.declared.Row.{Row}
 use Rattle.sheet_spec.specs.declared.Sheet.{Sheet}
-use Rattle.sheet_spec.specs.Kept.{row, successor, acceptance, acceptances, mayStop, graph, Walk}
+use Rattle.sheet_spec.specs.Kept.{row, successor, acceptance, graph, Walk}
 use Rattle.sheet_spec.specs.Rules.{reachedOk, sheetFault}
 use Rattle.sheet_spec.specs.Faults.{BadCount, Initial, RowSetFault, descends, outside, includes, stops, UnusedFault, event, place, node-successor, node-set, node-count}
 use Rattle.sheet_spec.specs.RuleLaws.{Ranges, graph-wellFormed, Walk←}

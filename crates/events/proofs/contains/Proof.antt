@@ -6,23 +6,17 @@ use Rattle.events.specs.Sets.{has, has-high}
 use borrow.Author.Needs.{needs}
 use Rattle.events.proofs.contains.Statement.{statement}
 use Rattle.events.proofs.contains.Tie as tie
-use Rattle.events.proofs.contains.Reads as reads
-use Rattle.events.proofs.contains.Lts as lts
 
--- src/lib.rt:10:29
 cast-result : tie.Need-cast-result
 cast-result c = search needs
 
--- src/lib.rt:10:22
 shr-result : tie.Need-shr-result
 shr-result c = search needs
 
--- src/lib.rt:7:1
 returns : tie.Need-returns
 unfolding has bit
 returns c = refl
 
--- src/lib.rt:7:1
 returns-2 : tie.Need-returns-2
 returns-2 c = sym (has-high (c .before .args .set) (c .before .args .event) (omega arith) (c .if1 .left))
 

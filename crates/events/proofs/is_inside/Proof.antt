@@ -3,10 +3,7 @@ use mathlib.Core.Path.{refl}
 use Rattle.events.specs.Sets.{inside}
 use Rattle.events.proofs.is_inside.Statement.{statement}
 use Rattle.events.proofs.is_inside.Tie as tie
-use Rattle.events.proofs.is_inside.Reads as reads
-use Rattle.events.proofs.is_inside.Lts as lts
 
--- src/lib.rt:14:1
 returns : tie.Need-returns
 unfolding inside
 returns c = refl

@@ -3,10 +3,7 @@ use mathlib.Core.Path.{refl}
 use Rattle.events.specs.Sets.{meets}
 use Rattle.events.proofs.is_meeting.Statement.{statement}
 use Rattle.events.proofs.is_meeting.Tie as tie
-use Rattle.events.proofs.is_meeting.Reads as reads
-use Rattle.events.proofs.is_meeting.Lts as lts
 
--- src/lib.rt:21:1
 returns : tie.Need-returns
 unfolding meets
 returns c = refl

@@ -1,29 +1,22 @@
 -- `events::with_event`: the shifted one is the set of the event alone.
-use mathlib.Core.Path.{refl, sym}
-use native.Mathlib.Omega.{arith}
+use mathlib.Core.Path.{sym}
 use borrow.Author.Tests.{lt-ltb}
 use Rattle.events.specs.Bit.{one-shifted}
 use Rattle.events.specs.Sets.{insert, insert-far}
 use borrow.Author.Needs.{needs}
 use Rattle.events.proofs.with_event.Statement.{statement}
 use Rattle.events.proofs.with_event.Tie as tie
-use Rattle.events.proofs.with_event.Reads as reads
-use Rattle.events.proofs.with_event.Lts as lts
 
--- src/lib.rt:31:36
 cast-result : tie.Need-cast-result
 cast-result c = search needs
 
--- src/lib.rt:31:28
 shl-result : tie.Need-shl-result
 shl-result c = search needs
 
--- src/lib.rt:28:1
 returns : tie.Need-returns
 unfolding insert
 returns c = rw (one-shifted 16 (c .before .args .event) (c .if1 .taken), lt-ltb (c .before .args .event) 16 (c .if1 .taken))
 
--- src/lib.rt:28:1
 returns-2 : tie.Need-returns-2
 returns-2 c = sym (insert-far (c .before .args .set) (c .before .args .event) (c .if1 .left))
 
