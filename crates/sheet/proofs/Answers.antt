@@ -10,7 +10,8 @@ use Rattle.sheet_spec.specs.declared.Sheet.{Sheet}
 use Rattle.sheet_spec.specs.declared.ReadSheet.{ReadSheet}
 use Rattle.sheet_spec.specs.Rules.{rangesOk}
 use Rattle.sheet_spec.specs.Reading.{byte, headFault, layoutFault, sheetOf, graphFault, bytesFault, zeroSheet, answer, readSheet}
-use Rattle.sheet.proofs.Head.{ranges→, head-ranges}
+use Rattle.sheet_spec.specs.RuleLaws.{ranges→}
+use Rattle.sheet_spec.specs.Places.{head}
 
 -- a rule whose test t passes leaves the number to what follows; one whose test fails gives its own
 pub kept : (a : Bool) {t : Bool} (k m r : ℕ) → t ≡ a → not t ≡ false → m ≡ r → m ≡ unless a k r
@@ -26,7 +27,7 @@ both false b k m r e = e
 
 -- E and N are in range: at most 32 nodes
 pub few : (s : Sheet) {t : Bool} → t ≡ rangesOk (s .e) (s .n) → not t ≡ false → s .n ≤ 32
-few s {t} p q = ranges→ (s .e) (s .n) (sym p ∙ not-false t q) .3
+few s {t} p q = ranges→ (s .e) (s .n) (sym p ∙ not-false t q) .n-high
 
 refuse : (k : ℕ) (s : Sheet) → (k ≡ 0 → ⊥) → answer k zeroSheet ≡ answer k s
 unfolding answer
@@ -55,4 +56,4 @@ module _ (b : List ℕ) {k : ℕ} (p : k ≡ headFault b) where
   -- the sheet that passed the first pass has at most 32 nodes
   pub few-nodes : {s : Sheet} → k ≡ 0 → s ≡ sheetOf b → s .n ≤ 32
   unfolding sheetOf
-  few-nodes z u = let r = ranges→ (byte b 5) (byte b 6) (head-ranges b (sym p ∙ z)) in rw u (r .3)
+  few-nodes z u = let r = ranges→ (byte b 5) (byte b 6) (head b (sym p ∙ z) .ranges) in rw u (r .n-high)

@@ -1,31 +1,14 @@
 -- The bytes before the nodes: which refusal they give, test by test.
 use mathlib.Core.Path.{_≡_}
-use mathlib.Core.Bool.{Bool, true, false, not, _&&_}
+use mathlib.Core.Bool.{Bool, true, false, not}
 use mathlib.Core.List.{List}
 use Prim.Native.Nat.{ℕ, _+_, _*_, _≤_, _<_}
-use lib.Dec.{leb, eqb}
+use lib.Dec.{eqb}
 use lib.ListN.{length}
-use borrow.Author.Tests.{le-leb, lt-leb, eq-eqb, ne-eqb, leb-true, not-true, not-false}
-use Rattle.base.specs.Truth.{and-l, and-r}
-use Rattle.base.specs.Refusal.{unless→}
+use borrow.Author.Tests.{le-leb, lt-leb, eq-eqb, ne-eqb, not-true, not-false}
 use Rattle.sheet_spec.specs.Rules.{rangesOk}
 use Rattle.sheet_spec.specs.Reading.{byte, word, lengthField, headFault}
 use Rattle.sheet.specs.Shapes.{lengthOk}
-
-pub ranges→ : (e n : ℕ) → rangesOk e n ≡ true → (1 ≤ e) × (e ≤ 12) × (1 ≤ n) × (n ≤ 32)
-unfolding rangesOk
-ranges→ e n t =
-    let a = and-l (leb 1 e && leb e 12) (leb 1 n && leb n 32) t in
-    let b = and-r (leb 1 e && leb e 12) (leb 1 n && leb n 32) t in
-    (leb-true 1 e (and-l (leb 1 e) (leb e 12) a), leb-true e 12 (and-r (leb 1 e) (leb e 12) a), leb-true 1 n (and-l (leb 1 n) (leb n 32) b), leb-true n 32 (and-r (leb 1 n) (leb n 32) b))
-
--- no refusal: E and N are in range
-pub head-ranges : (b : List ℕ) → headFault b ≡ 0 → rangesOk (byte b 5) (byte b 6) ≡ true
-unfolding headFault
-head-ranges b p =
-    let q = unless→ (leb 7 (length b) && eqb (lengthField b + 4) (length b)) 0 _ p in
-    let r = unless→ (eqb (byte b 4) 1) 1 _ (q .1) in
-    unless→ (rangesOk (byte b 5) (byte b 6)) 2 0 (r .1) .0
 
 -- the two tests of the length, x and y being its halves
 pub length-few : (b : List ℕ) → length b < 7 → false ≡ lengthOk b

@@ -24,7 +24,7 @@ module _ {A : Type 0} {f : ℕ → A} {z : A} {n : ℕ} where
   stored {i} h l p = record { below = omega arith; holds = rw (h .holds, p) (fill-next f z i n l) }
 
   pub filled : {i : ℕ} {o : List A} → Filling f z n i o → n ≤ i → o ≡ upTo f n
-  filled {i} h l = let e : i ≡ n = omega (arith, h .below) in let w : n - i ≡ 0 = omega arith in h .holds ∙ rw (w, append-nil, e)
+  filled {i} h l = let e : i ≡ n = omega arith in let w : n - i ≡ 0 = omega arith in h .holds ∙ rw (w, append-nil, e)
 
 -- of the n places that a test is to pass at, it does at the first j
 pub record Passing (f : ℕ → Bool) (n j : ℕ) : Type 0 where

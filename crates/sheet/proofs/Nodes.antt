@@ -43,7 +43,7 @@ module _ {b : List ℕ} {e n r v at : ℕ} (w : Walking b e n r v at) where
         unfolding layoutFault
         walks-on k = record {
           below = omega arith;
-          near = omega (arith, w .near, z .1);
+          near = omega arith;
           rest = rw (left, lt-ltb (at + e) (length b) l, ← p, ← q, not-false t m, ← z .0, le-leb to (length b) k) at (w .rest);
         }
 

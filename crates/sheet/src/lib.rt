@@ -2,10 +2,8 @@
 // `check`, take any content and answer with the sheet or the number of the refusal.
 ghost use mathlib.Core.Path.{_≡_};
 ghost use Prim.Native.Nat.{_+_, _≤_, _<_};
-ghost use lib.ListN.{length};
 ghost use Rattle.base.specs.Table.{upTo};
 ghost use Rattle.events.specs.Sets.{has};
-ghost use Rattle.sheet_spec.specs.Kept.{row};
 ghost use Rattle.sheet_spec.specs.Rules.{rangesOk, countsOk, successorsOk, setsOk, blanksOk, reachedOk, sheetFault};
 ghost use Rattle.sheet_spec.specs.Reading.{byte, word, headFault, nextAt, layoutFault, startOf, succOf, setsOf, rowAt, unusedRow, rowOf, sheetOf, graphFault, zeroSheet, answer, readSheet};
 ghost use Rattle.sheet.specs.Shapes.{lengthOk, targetsOf, joined, grown, rounds};

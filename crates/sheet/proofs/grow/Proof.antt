@@ -8,14 +8,14 @@ use Rattle.sheet.proofs.grow.Statement.{statement}
 use Rattle.sheet.proofs.grow.Tie as tie
 
 abbrev Inv-loop : tie.InvT-loop
-Inv-loop n seen sets next₀ u₀ next u = (u ≤ n) × (next ≡ grown sets seen u)
+Inv-loop n seen sets next₀ u₀ next u = (next ≡ grown sets seen u) × (u ≤ n)
 
 abbrev μ-loop : tie.MeasureT-loop
 μ-loop n seen sets next₀ u₀ next u = n - u
 
 loop-holds : tie.Need-loop-holds Inv-loop μ-loop
 unfolding grown
-loop-holds c = (omega arith, refl)
+loop-holds c = (refl, omega arith)
 
 mul-join : tie.Need-mul-join Inv-loop μ-loop
 mul-join c = omega arith
@@ -34,7 +34,7 @@ loop-less c = omega arith
 
 loop-again : tie.Need-loop-again Inv-loop μ-loop
 unfolding grown
-loop-again c = (omega arith, rw add-one (cc))
+loop-again c = (rw add-one (cc), omega arith)
 
 returns : tie.Need-returns Inv-loop μ-loop
 returns c = let e : c .before .loop .u ≡ c .before .before .args .n = omega arith in cc

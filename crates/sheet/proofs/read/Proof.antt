@@ -1,4 +1,4 @@
--- Each pass gives its own refusal, and a law joins the passes to the definition.
+-- Each of the three passes gives its own refusal; one law per way out joins them to the definition.
 use native.Mathlib.Omega.{arith}
 use Rattle.sheet.proofs.Answers.{read-head, read-layout, read-graph, read-whole, few-nodes}
 use Rattle.sheet.proofs.read.Statement.{statement}

@@ -8,14 +8,14 @@ use Rattle.sheet.proofs.seen_after.Statement.{statement}
 use Rattle.sheet.proofs.seen_after.Tie as tie
 
 abbrev Inv-loop : tie.InvT-loop
-Inv-loop sets n seen₀ k₀ seen k = (k ≤ n) × (seen ≡ rounds sets n k)
+Inv-loop sets n seen₀ k₀ seen k = (seen ≡ rounds sets n k) × (k ≤ n)
 
 abbrev μ-loop : tie.MeasureT-loop
 μ-loop sets n seen₀ k₀ seen k = n - k
 
 loop-holds : tie.Need-loop-holds Inv-loop μ-loop
 unfolding rounds
-loop-holds c = (omega arith, refl)
+loop-holds c = (refl, omega arith)
 
 grow-requires : tie.Need-grow-requires Inv-loop μ-loop
 grow-requires c κs = omega arith
@@ -28,7 +28,7 @@ loop-less c = omega arith
 
 loop-again : tie.Need-loop-again Inv-loop μ-loop
 unfolding rounds
-loop-again c = (omega arith, rw add-one (cc))
+loop-again c = (rw add-one (cc), omega arith)
 
 returns : tie.Need-returns Inv-loop μ-loop
 returns c = let e : c .before .loop .k ≡ c .before .before .args .n = omega arith in cc
