@@ -131,3 +131,15 @@ module _ (s : Sheet) where
       go true true true false f p = inr (inr (inr (inr (inl (sym p)))))
       go true true true true false p = inr (inr (inr (inr (inr (sym p)))))
       go true true true true true p = inl (sym p)
+
+  -- each is at most 8
+  pub check-below : sheetFault s ≤ 8
+  check-below = go (check-numbers (sheetFault s) refl)
+    where
+      go : (sheetFault s ≡ 0) ⊎ ((sheetFault s ≡ 3) ⊎ ((sheetFault s ≡ 5) ⊎ ((sheetFault s ≡ 6) ⊎ ((sheetFault s ≡ 7) ⊎ (sheetFault s ≡ 8))))) → sheetFault s ≤ 8
+      go (inl p) = omega arith
+      go (inr (inl p)) = omega arith
+      go (inr (inr (inl p))) = omega arith
+      go (inr (inr (inr (inl p)))) = omega arith
+      go (inr (inr (inr (inr (inl p))))) = omega arith
+      go (inr (inr (inr (inr (inr p))))) = omega arith
