@@ -1,0 +1,4 @@
+pub mod Passes
+pub mod Turns
+pub mod Misses
+pub mod Lists

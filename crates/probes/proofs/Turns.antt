@@ -1,0 +1,149 @@
+-- The loops over the turns: where they stand, and what they have seen. A loop goes from one turn that lists its set to the next.
+use mathlib.Core.Path.{_≡_, refl, sym, ap, _∙_}
+use mathlib.Core.Logic.{_⊎_, inl, inr}
+use mathlib.Core.Bool.{Bool, true, false, cond}
+use mathlib.Core.List.{List, [], _∷_, _++_, append-assoc}
+use Prim.Native.Nat.{ℕ, zero, suc, _+_, _-_, _≤_, _<_}
+use native.Mathlib.Nat.{le-refl, eq-or-lt-of-le}
+use native.Mathlib.Decide.{le-ind}
+use native.Mathlib.Numerals.{add-one}
+use native.Mathlib.Omega.{arith}
+use lib.ListN.{length, getD, set, drop, length-append}
+use lib.Seq.{drop-cons, set-append-seam}
+use Rattle.base.specs.Truth.{dec}
+use Rattle.probes_spec.specs.Probes.{gather, probes}
+use Rattle.probes_spec.specs.Gather.{gather-yes, gather-no, gather-skip, gather-short, gather-room, gather-has}
+use Rattle.probes_spec.specs.Shapes.{turns, value, turn, nextIn, nextFrom}
+use Rattle.probes_spec.specs.ShapeLaws.{turns-probes}
+use Rattle.probes_spec.specs.Listing.{front}
+
+-- ---- the first number from x on that passes a test
+
+-- y is it, or n
+record Next (p : ℕ → Bool) (n x y : ℕ) : Type 0 where
+  low : x ≤ y
+  high : y ≤ n
+  passes : y < n → p y ≡ true
+  fails : (z : ℕ) → x ≤ z → z < y → p z ≡ false
+
+next-in : (p : ℕ → Bool) (k x : ℕ) → Next p (x + k) x (nextIn p k x)
+unfolding nextIn
+next-in p zero x = record { low = le-refl x; high = omega arith; passes = λ l. absurd (omega arith); fails = λ z a b. absurd (omega arith) }
+next-in p (suc k) x = go (p x) refl (next-in p k (suc x))
+  where
+    go : (b : Bool) → p x ≡ b → Next p (suc x + k) (suc x) (nextIn p k (suc x)) → Next p (x + suc k) x (cond b x (nextIn p k (suc x)))
+    go true t r = record { low = le-refl x; high = omega arith; passes = λ l. t; fails = λ z a b. absurd (omega arith) }
+    go false t r = record {
+      low = omega (arith, r .low);
+      high = omega (arith, r .high);
+      passes = λ l. r .passes (omega arith);
+      fails = λ z a b. pick z b (eq-or-lt-of-le a);
+    }
+      where
+        pick : (z : ℕ) → z < nextIn p k (suc x) → (x ≡ z) ⊎ (x < z) → p z ≡ false
+        pick z b (inl e) = rw (← e) t
+        pick z b (inr l) = r .fails z l b
+
+next-from : (p : ℕ → Bool) (n x : ℕ) → x ≤ n → Next p n x (nextFrom p n x)
+unfolding nextFrom
+next-from p n x h =
+    let r = next-in p (n - x) x in
+    let e : x + (n - x) ≡ n = omega arith in
+    record { low = r .low; high = omega (arith, r .high, e); passes = λ l. r .passes (omega (arith, l, e)); fails = r .fails }
+
+module _ (p : ℕ → Bool) (n x : ℕ) where
+  -- a loop finds it at x, one further, or not at all
+  pub next-yes : x < n → p x ≡ true → nextFrom p n x ≡ x
+  unfolding nextFrom nextIn
+  next-yes h t = let e : n - x ≡ suc (n - suc x) = omega arith in rw (e, t)
+
+  pub next-no : x < n → p x ≡ false → nextFrom p n x ≡ nextFrom p n (x + 1)
+  unfolding nextFrom nextIn
+  next-no h t = let e : n - x ≡ suc (n - suc x) = omega arith in rw (e, t, add-one x)
+
+  pub next-low : x ≤ n → (y : ℕ) → y ≡ nextFrom p n x → x ≤ y
+  next-low h y q = rw q (next-from p n x h .low)
+
+  pub next-end : n ≤ x → nextFrom p n x ≡ x
+  unfolding nextFrom nextIn
+  next-end h = let e : n - x ≡ 0 = omega arith in rw e
+
+-- ---- the turns
+
+module _ (accs : List ℕ) (e : ℕ) where
+  -- where a loop stands: at a turn that lists its set, or after the last turn
+  pub record Stands (x : ℕ) : Type 0 where
+    pub most : x ≤ turns e
+    pub lists : x < turns e → turn accs e x ≡ true
+
+  -- what the turns before x listed
+  abbrev pub seen : ℕ → List ℕ
+  seen x = gather (turn accs e) (value e) x
+
+  pub stands-next : (x y : ℕ) → x ≤ turns e → y ≡ nextFrom (turn accs e) (turns e) x → Stands y
+  stands-next x y h q = let r = next-from (turn accs e) (turns e) x h in rw q (record { most = r .high; lists = r .passes })
+
+  pub seen-start : (y : ℕ) → y ≡ nextFrom (turn accs e) (turns e) 0 → seen y ≡ []
+  seen-start y q =
+      let r = next-from (turn accs e) (turns e) 0 (omega arith) in
+      rw q (gather-skip (turn accs e) (value e) 0 (nextFrom (turn accs e) (turns e) 0) (r .low) (r .fails) ∙ (unfold gather in refl))
+
+  module _ (x : ℕ) (s : Stands x) (h : x < turns e) where
+    pub seen-next : (y : ℕ) → y ≡ nextFrom (turn accs e) (turns e) (x + 1) → seen y ≡ seen x ++ (value e x ∷ [])
+    seen-next y q =
+        let r = next-from (turn accs e) (turns e) (x + 1) (omega arith) in
+        rw q
+        (gather-skip (turn accs e) (value e) (x + 1) (nextFrom (turn accs e) (turns e) (x + 1)) (r .low) (r .fails)
+        ∙ (rw (add-one x) (gather-yes (turn accs e) (value e) x (s .lists h))))
+
+    -- one is counted more
+    pub seen-count : (y : ℕ) → y ≡ nextFrom (turn accs e) (turns e) (x + 1) → length (seen y) ≡ length (seen x) + 1
+    seen-count y q = rw (seen-next y q) (length-append (seen x) (value e x ∷ []))
+
+    -- there is room for it in a list that has room for all
+    pub seen-room : length (seen x) < length (probes accs e)
+    seen-room = rw (← turns-probes accs e) (gather-room (turn accs e) (value e) x (turns e) h (s .lists h))
+
+    -- it stands at its place in the list
+    pub seen-at : getD (probes accs e) (length (seen x)) 0 ≡ value e x
+    seen-at = rw (← turns-probes accs e) (gather-has (turn accs e) (value e) x (turns e) h (s .lists h))
+
+    -- the list has it after what was seen
+    pub seen-split : (rest : List ℕ) × (probes accs e ≡ seen x ++ (value e x ∷ rest))
+    seen-split = let w = split (turns e) h in (w .0, sym (turns-probes accs e) ∙ w .1)
+      where
+        split : (n : ℕ) → suc x ≤ n → (rest : List ℕ) × (seen n ≡ seen x ++ (value e x ∷ rest))
+        split = le-ind (λ (n : ℕ). (rest : List ℕ) × (seen n ≡ seen x ++ (value e x ∷ rest))) ([], gather-yes (turn accs e) (value e) x (s .lists h)) (λ k u w. step k w)
+          where
+            step : (k : ℕ) → (rest : List ℕ) × (seen k ≡ seen x ++ (value e x ∷ rest)) → (rest : List ℕ) × (seen (suc k) ≡ seen x ++ (value e x ∷ rest))
+            step k (rest, q) = go (dec (turn accs e k))
+              where
+                go : (turn accs e k ≡ true) ⊎ (turn accs e k ≡ false) → (rest : List ℕ) × (seen (suc k) ≡ seen x ++ (value e x ∷ rest))
+                go (inl t) = (rest ++ (value e k ∷ []), gather-yes (turn accs e) (value e) k t ∙ ap (λ (l : List ℕ). l ++ (value e k ∷ [])) q ∙ append-assoc (seen x) (value e x ∷ rest) (value e k ∷ []))
+                go (inr t) = (rest, gather-no (turn accs e) (value e) k t ∙ q)
+
+  pub seen-short : (x : ℕ) → length (seen x) ≤ x
+  seen-short x = gather-short (turn accs e) (value e) x
+
+  -- at the end all is seen
+  pub seen-end : (x : ℕ) → Stands x → turns e ≤ x → seen x ≡ probes accs e
+  seen-end x s h = let q : x ≡ turns e = omega (arith, s .most) in rw q (turns-probes accs e)
+
+-- ---- the list that is filled
+
+pub front-none : (out : List ℕ) → out ≡ front out []
+unfolding front
+front-none out = refl
+
+pub front-put : (out ps : List ℕ) (v : ℕ) → length ps < length out → set (front out ps) (length ps) v ≡ front out (ps ++ (v ∷ []))
+unfolding front
+front-put out ps v h =
+    ap (λ (r : List ℕ). set (ps ++ r) (length ps) v) (drop-cons out (length ps) 0 h) ∙ set-append-seam ps _ _ v
+    ∙ sym (append-assoc ps (v ∷ []) (drop (suc (length ps)) out))
+    ∙ ap (λ (n : ℕ). (ps ++ (v ∷ [])) ++ drop n out) (sym (length-append ps (v ∷ []) ∙ add-one (length ps)))
+
+-- the set of a turn is written after what was seen
+pub fill-more : (accs : List ℕ) (e x : ℕ) → Stands accs e x → x < turns e → (out now : List ℕ) (n y : ℕ) → n ≡ length (seen accs e x) → now ≡ front out (seen accs e x)
+    → length (probes accs e) ≤ length out → y ≡ nextFrom (turn accs e) (turns e) (x + 1) → set now n (value e x) ≡ front out (seen accs e y)
+fill-more accs e x s h out now n y a b room q =
+    rw (seen-next accs e x s h y q, a, b) (front-put out (seen accs e x) (value e x) (omega (arith, seen-room accs e x s h)))

@@ -1,0 +1,109 @@
+-- `probes::fill`. The loop's invariant: it stands at a turn that lists its set, or at the end, and the `n` sets listed before are
+-- the front of the list, the rest of which is as it was.
+use mathlib.Core.Path.{_≡_, sym, ap, _∙_}
+use Prim.Native.Nat.{_+_, _-_, _≤_}
+use native.Mathlib.Omega.{arith}
+use denote.Ref.{now}
+use lib.ListN.{length, take, set, length-set}
+use Rattle.probes_spec.specs.Shapes.{turns, turn}
+use Rattle.probes_spec.specs.Listing.{front}
+use Rattle.probes.proofs.Turns.{next-low, Stands, seen, stands-next, seen-start, seen-count, seen-room, seen-short, seen-end, front-none, fill-more}
+use Rattle.probes.proofs.fill.Statement.{statement}
+use Rattle.probes.proofs.fill.Tie as tie
+
+abbrev Inv-loop : tie.InvT-loop
+Inv-loop sets c e out₀ end n₀ x₀ out n x =
+    (x ≤ end) × Stands (take c sets) e x × (n ≡ length (seen (take c sets) e x)) × (out ≡ front out₀ (seen (take c sets) e x)) × (length out ≡ length out₀)
+
+abbrev μ-loop : tie.MeasureT-loop
+μ-loop sets c e out₀ end n₀ x₀ out n x = end - x
+
+rounds-requires : tie.Need-rounds-requires Inv-loop μ-loop
+rounds-requires c κs = omega arith
+
+next-turn-requires : tie.Need-next-turn-requires Inv-loop μ-loop
+next-turn-requires c κs = omega arith
+
+loop-holds : tie.Need-loop-holds Inv-loop μ-loop
+loop-holds c =
+    let a = c .before .before .before .args in
+    let s = stands-next (take (a .c) (a .sets)) (a .e) 0 (c .next-turn .result) (omega arith) (c .next-turn .ensures) in
+    let q = seen-start (take (a .c) (a .sets)) (a .e) (c .next-turn .result) (c .next-turn .ensures) in
+    (omega (arith, s .most), s, sym (ap length q), front-none (now (a .out)) ∙ ap (front (now (a .out))) (sym q), omega arith)
+
+set-of-requires : tie.Need-set-of-requires Inv-loop μ-loop
+set-of-requires c κs = tt
+
+mul-out : tie.Need-mul-out Inv-loop μ-loop
+mul-out c =
+    let l = c .before .before in
+    let a = l .before .before .before .before .args in
+    omega (arith, seen-short (take (a .c) (a .sets)) (a .e) (l .loop .x))
+
+slice-write-out : tie.Need-slice-write-out Inv-loop μ-loop
+slice-write-out c =
+    let l = c .before .before in
+    let a = l .before .before .before .before .args in
+    omega (arith, seen-room (take (a .c) (a .sets)) (a .e) (l .loop .x) (l .loop .inv .1) (omega arith))
+
+add-n : tie.Need-add-n Inv-loop μ-loop
+add-n c =
+    let l = c .before .before in
+    let a = l .before .before .before .before .args in
+    omega (arith, seen-short (take (a .c) (a .sets)) (a .e) (l .loop .x))
+
+add-next-turn : tie.Need-add-next-turn Inv-loop μ-loop
+add-next-turn c = omega arith
+
+next-turn-requires-2 : tie.Need-next-turn-requires-2 Inv-loop μ-loop
+next-turn-requires-2 c κs = omega arith
+
+loop-less : tie.Need-loop-less Inv-loop μ-loop
+loop-less c =
+    let l = c .before .before .before in
+    let a = l .before .before .before .before .args in
+    omega (arith, next-low (turn (take (a .c) (a .sets)) (a .e)) (turns (a .e)) (l .loop .x + 1) (omega arith) (c .next-turn2 .result) (c .next-turn2 .ensures))
+
+loop-again : tie.Need-loop-again Inv-loop μ-loop
+loop-again c =
+    let l = c .before .before .before in
+    let a = l .before .before .before .before .args in
+    let y = c .next-turn2 in
+    let v = c .before .set-of in
+    let s = stands-next (take (a .c) (a .sets)) (a .e) (l .loop .x + 1) (y .result) (omega arith) (y .ensures) in (
+      omega (arith, s .most),
+      s,
+      omega (arith, l .loop .inv .2, seen-count (take (a .c) (a .sets)) (a .e) (l .loop .x) (l .loop .inv .1) (omega arith) (y .result) (y .ensures)),
+      ap (set (l .loop .out) (l .loop .n)) (v .ensures)
+          ∙ fill-more (take (a .c) (a .sets)) (a .e) (l .loop .x) (l .loop .inv .1) (omega arith) (now (a .out)) (l .loop .out) (l .loop .n) (y .result) (l .loop .inv .2) (l .loop .inv .3) (omega arith) (y .ensures),
+      length-set (l .loop .out) (l .loop .n) (v .result) ∙ l .loop .inv .4,
+    )
+
+same-length : tie.Need-same-length Inv-loop μ-loop
+same-length c = c .before .loop .inv .4
+
+returns : tie.Need-returns Inv-loop μ-loop
+returns c =
+    let l = c .before in
+    let a = l .before .before .before .before .args in
+    l .loop .inv .3 ∙ ap (front (now (a .out))) (seen-end (take (a .c) (a .sets)) (a .e) (l .loop .x) (l .loop .inv .1) (omega arith))
+
+pub fill-spec : {M : Type 1} → statement M
+fill-spec =
+    tie.close
+    (tie.spec
+    Inv-loop
+    μ-loop
+    rounds-requires
+    next-turn-requires
+    loop-holds
+    set-of-requires
+    mul-out
+    slice-write-out
+    add-n
+    add-next-turn
+    next-turn-requires-2
+    loop-less
+    loop-again
+    same-length
+    returns)

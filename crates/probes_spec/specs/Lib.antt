@@ -1,0 +1,11 @@
+pub mod Probes
+pub mod Gather
+pub mod HitLaws
+pub mod ProbeLaws
+pub mod Shapes
+pub mod ShapeLaws
+pub mod FirstMissed
+pub mod FirstMissedLaws
+pub mod Listing
+pub mod ListingLaws
+pub mod Cases

@@ -1,0 +1,195 @@
+-- The probe call: when each refusal is given, what is answered, and what stands in the list; and the probes of a sheet's node.
+use mathlib.Core.Path.{_≡_, refl, sym, _∙_}
+use mathlib.Core.Logic.{_⊎_, inl, inr, _↔_, _≢_}
+use mathlib.Core.Bool.{Bool, true, false, cond}
+use mathlib.Core.List.{List, _++_}
+use Prim.Native.Nat.{ℕ, _+_, _-_, _^_, _≤_, _<_}
+use native.Mathlib.Omega.{arith}
+use lib.Dec.{eqb, ltb, leb}
+use lib.ListN.{length, getD, drop, length-append, length-drop, length-take, List·getD-append}
+use lib.Seq.{getD-append-add, getD-drop}
+use lib.Pow.{pow-mono}
+use borrow.Author.Tests.{eqb-true, eq-eqb, ne-eqb}
+use Rattle.base.specs.Truth.{dec, clash, lt-or-ge}
+use Rattle.base.specs.Finds.{finds-lt, finds-le}
+use Rattle.base.specs.Refusal.{unless, unless-hit, unless-pass, unless-none, unless-other, orElse-some, orElse-then}
+use Rattle.sheet_spec.specs.declared.Sheet.{Sheet}
+use Rattle.sheet_spec.specs.Kept.{row, acceptance, acceptances, mayStop}
+use Rattle.sheet_spec.specs.Rules.{sheetFault}
+use Rattle.sheet_spec.specs.CheckLaws.{check-numbers}
+use Rattle.sheet_spec.specs.RowLaws.{mayStop-means, acceptances-length, acceptances-at}
+use Rattle.sheet_spec.specs.Sound.{Sound, check-sound}
+use Rattle.probes_spec.specs.declared.Listed.the-variants.{Count, Denied}
+use Rattle.probes_spec.specs.Probes.{probes, Probe, Narrow}
+use Rattle.probes_spec.specs.ProbeLaws.{probe-at, probe-listed, probes-few, probes-none, probes-some}
+use Rattle.probes_spec.specs.Listing.{nodeProbes, listFault, listedNumbers, listedOf, listNumbers, front, listAfter}
+
+-- a sheet's own refusal is none of this call's
+own-other : (s : Sheet) (m : ℕ) → 8 < m → sheetFault s ≢ m
+own-other s m h e = go (check-numbers s m e)
+  where
+    go : (m ≡ 0) ⊎ ((m ≡ 3) ⊎ ((m ≡ 5) ⊎ ((m ≡ 6) ⊎ ((m ≡ 7) ⊎ (m ≡ 8))))) → ⊥
+    go (inl p) = omega arith
+    go (inr (inl p)) = omega arith
+    go (inr (inr (inl p))) = omega arith
+    go (inr (inr (inr (inl p)))) = omega arith
+    go (inr (inr (inr (inr (inl p))))) = omega arith
+    go (inr (inr (inr (inr (inr p))))) = omega arith
+
+module _ (s : Sheet) (v : ℕ) (out : List ℕ) where
+  -- the sheet's own refusal comes first
+  pub list-sheet : sheetFault s ≢ 0 → listFault s v out ≡ sheetFault s
+  unfolding listFault
+  list-sheet n = orElse-some (sheetFault s) _ (omega (arith, n))
+
+  -- 9: of a sheet that is not refused, a node that is not below N
+  pub list-9 : (listFault s v out ≡ 9) ↔ ((sheetFault s ≡ 0) × (s .n ≤ v))
+  unfolding listFault
+  list-9 =
+      let a = orElse-then (sheetFault s) (unless (ltb v (s .n)) 9 (unless (leb (length (nodeProbes s v)) (length out)) 10 0)) 9 (inl (own-other s 9 (omega arith))) in
+      let b = unless-hit 9 (unless (leb (length (nodeProbes s v)) (length out)) 10 0) (finds-lt v (s .n)) (unless-other (leb (length (nodeProbes s v)) (length out)) (omega arith) (omega arith)) in
+      ((λ x. (a .0 x .0, b .0 (a .0 x .1))), λ y. a .1 (y .0, b .1 (y .1)))
+
+  not-beyond : ¬ (s .n ≤ v) → v < s .n
+  not-beyond f = go (lt-or-ge v (s .n))
+    where
+      go : (v < s .n) ⊎ (s .n ≤ v) → v < s .n
+      go (inl l) = l
+      go (inr l) = absurd (f l)
+
+  -- 10: .. and a node of it, a list shorter than its probes
+  pub list-10 : (listFault s v out ≡ 10) ↔ ((sheetFault s ≡ 0) × (v < s .n) × (length out < length (nodeProbes s v)))
+  unfolding listFault
+  list-10 =
+      let a = orElse-then (sheetFault s) (unless (ltb v (s .n)) 9 (unless (leb (length (nodeProbes s v)) (length out)) 10 0)) 10 (inl (own-other s 10 (omega arith))) in
+      let b = unless-pass 9 (unless (leb (length (nodeProbes s v)) (length out)) 10 0) 10 (finds-lt v (s .n)) (omega arith) in
+      let c = unless-hit 10 0 (finds-le (length (nodeProbes s v)) (length out)) (omega arith) in
+      ((λ x. let w = b .0 (a .0 x .1) in (a .0 x .0, not-beyond (w .0), c .0 (w .1))), λ y. a .1 (y .0, b .1 ((λ l. omega (arith, l, y .1)), c .1 (y .2))))
+
+  -- none: .. and a list that is long enough
+  pub list-0 : (listFault s v out ≡ 0) ↔ ((sheetFault s ≡ 0) × (v < s .n) × (length (nodeProbes s v) ≤ length out))
+  unfolding listFault
+  list-0 =
+      let a = orElse-then (sheetFault s) (unless (ltb v (s .n)) 9 (unless (leb (length (nodeProbes s v)) (length out)) 10 0)) 0 (inr refl) in
+      let b = unless-pass 9 (unless (leb (length (nodeProbes s v)) (length out)) 10 0) 0 (finds-lt v (s .n)) (omega arith) in
+      let c = unless-none 10 (finds-le (length (nodeProbes s v)) (length out)) (omega arith) in
+      ((λ x. let w = b .0 (a .0 x .1) in (a .0 x .0, not-beyond (w .0), long (c .0 (w .1)))), λ y. a .1 (y .0, b .1 ((λ l. omega (arith, l, y .1)), c .1 (λ l. omega (arith, l, y .2)))))
+    where
+      long : ¬ (length out < length (nodeProbes s v)) → length (nodeProbes s v) ≤ length out
+      long f = go (lt-or-ge (length out) (length (nodeProbes s v)))
+        where
+          go : (length out < length (nodeProbes s v)) ⊎ (length (nodeProbes s v) ≤ length out) → length (nodeProbes s v) ≤ length out
+          go (inl l) = absurd (f l)
+          go (inr l) = l
+
+  -- the answer in 01's numbers
+  pub listed-numbers : listedNumbers (listedOf s v out) ≡ listNumbers s v out
+  unfolding listedOf listNumbers listedNumbers
+  listed-numbers = go (eqb (listFault s v out) 0) refl
+    where
+      go : (b : Bool) → eqb (listFault s v out) 0 ≡ b
+          → listedNumbers (cond b (Count (length (nodeProbes s v))) (Denied (listFault s v out))) ≡ (listFault s v out, cond b (length (nodeProbes s v)) 0)
+      go true e = rw (eqb-true (listFault s v out) 0 e)
+      go false e = refl
+
+  module _ (n : listFault s v out ≢ 0) where
+    -- a refusal answers its number ..
+    pub listed-denied : listedOf s v out ≡ Denied (listFault s v out)
+    unfolding listedOf
+    listed-denied = rw (ne-eqb (listFault s v out) 0 n)
+
+    -- .. with the value 0, and alters nothing
+    pub numbers-denied : listNumbers s v out ≡ (listFault s v out, 0)
+    unfolding listNumbers
+    numbers-denied = rw (ne-eqb (listFault s v out) 0 n)
+
+    pub after-denied : listAfter s v out ≡ out
+    unfolding listAfter
+    after-denied = rw (ne-eqb (listFault s v out) 0 n)
+
+  module _ (z : listFault s v out ≡ 0) where
+    -- without one the number of probes is answered
+    pub listed-count : listedOf s v out ≡ Count (length (nodeProbes s v))
+    unfolding listedOf
+    listed-count = rw (eq-eqb (listFault s v out) 0 z)
+
+    pub numbers-count : listNumbers s v out ≡ (0, length (nodeProbes s v))
+    unfolding listNumbers
+    numbers-count = rw (eq-eqb (listFault s v out) 0 z, z)
+
+    -- the probes stand at the front of the list, the rest is untouched
+    pub after-front : listAfter s v out ≡ front out (nodeProbes s v)
+    unfolding listAfter
+    after-front = rw (eq-eqb (listFault s v out) 0 z)
+
+    -- .. place by place
+    pub after-probe : (x : ℕ) → x < length (nodeProbes s v) → getD (listAfter s v out) x 0 ≡ getD (nodeProbes s v) x 0
+    unfolding front
+    after-probe x l = rw after-front (List·getD-append (nodeProbes s v) (drop (length (nodeProbes s v)) out) 0 x l)
+
+    pub after-rest : (x : ℕ) → length (nodeProbes s v) ≤ x → getD (listAfter s v out) x 0 ≡ getD out x 0
+    unfolding front
+    after-rest x l = rw after-front (past (nodeProbes s v) out x l)
+      where
+        past : (ps out : List ℕ) (x : ℕ) → length ps ≤ x → getD (ps ++ drop (length ps) out) x 0 ≡ getD out x 0
+        past ps out x l =
+            let e : x ≡ length ps + (x - length ps) = omega arith in
+            rw e (getD-append-add ps (drop (length ps) out) (x - length ps) 0 ∙ getD-drop (length ps) out (x - length ps) 0)
+
+  -- the list keeps its length
+  pub after-length : length (listAfter s v out) ≡ length out
+  unfolding listAfter front
+  after-length = go (eqb (listFault s v out) 0) refl
+    where
+      go : (b : Bool) → eqb (listFault s v out) 0 ≡ b → length (cond b (nodeProbes s v ++ drop (length (nodeProbes s v)) out) out) ≡ length out
+      go true e = simp (length-append, length-drop) (omega (arith, list-0 .0 (eqb-true (listFault s v out) 0 e) .2))
+      go false e = refl
+
+-- ---- the probes of a node of a sheet that is not refused
+
+module _ (s : Sheet) (h : sheetFault s ≡ 0) (v : ℕ) (l : v < s .n) where
+  sound : Sound s
+  sound = check-sound s h
+
+  -- its acceptances have only events of the sheet
+  pub node-narrow : Narrow (acceptances (row s v)) (s .e)
+  node-narrow j k = let b : j < row s v .c = omega (arith, k, acceptances-length (row s v)) in rw (acceptances-at (row s v) j b) (sound .narrow v j l b)
+
+  -- what is listed are its minimal hitting sets
+  pub node-probe : (X : ℕ) → ((x : ℕ) × (x < length (nodeProbes s v)) × (getD (nodeProbes s v) x 0 ≡ X)) ↔ Probe (acceptances (row s v)) X
+  unfolding nodeProbes
+  node-probe X = (there, λ p. probe-listed (acceptances (row s v)) (s .e) node-narrow X p)
+    where
+      there : (x : ℕ) × (x < length (probes (acceptances (row s v)) (s .e))) × (getD (probes (acceptances (row s v)) (s .e)) x 0 ≡ X) → Probe (acceptances (row s v)) X
+      there (x, k, e) = rw (← e) (probe-at (acceptances (row s v)) (s .e) x k)
+
+  -- they are at most 4,096
+  pub node-few : length (nodeProbes s v) ≤ 4096
+  unfolding nodeProbes
+  node-few = let k : 2 ^ (s .e) ≤ 2 ^ 12 = pow-mono (sound .ranges .e-high) in omega (arith, probes-few (acceptances (row s v)) (s .e))
+
+  -- a node has no probe exactly if it may stop
+  pub node-stop : (length (nodeProbes s v) ≡ 0) ↔ (mayStop (row s v) ≡ true)
+  unfolding nodeProbes
+  node-stop = (there, back)
+    where
+      few : row s v .c ≤ 16
+      few = sound .counts v l .1
+
+      size : length (acceptances (row s v)) ≡ row s v .c
+      size = acceptances-length (row s v)
+
+      back : mayStop (row s v) ≡ true → length (probes (acceptances (row s v)) (s .e)) ≡ 0
+      back t =
+          let w = mayStop-means (row s v) few .0 t in
+          probes-none (acceptances (row s v)) (s .e) (w .0) (omega (arith, size, w .1)) (acceptances-at (row s v) (w .0) (w .1) ∙ w .2)
+
+      there : length (probes (acceptances (row s v)) (s .e)) ≡ 0 → mayStop (row s v) ≡ true
+      there z = go (dec (mayStop (row s v)))
+        where
+          go : (mayStop (row s v) ≡ true) ⊎ (mayStop (row s v) ≡ false) → mayStop (row s v) ≡ true
+          go (inl t) = t
+          go (inr t) = absurd (omega (arith, z, probes-some (acceptances (row s v)) (s .e) node-narrow (λ j k e. full j (omega (arith, size, k)) (sym (acceptances-at (row s v) j (omega (arith, size, k))) ∙ e))))
+            where
+              full : (j : ℕ) → j < row s v .c → acceptance (row s v) j ≢ 0
+              full j k e = clash (mayStop-means (row s v) few .1 (j, k, e)) t

@@ -1,0 +1,45 @@
+-- The probes of a node (01, "Probes"): the minimal hitting sets of its acceptances (001, section 2.2). A set of events is a number
+-- in which event i adds 2 ^ i. Each notion is given twice: as a test that computes, and in plain words of events; laws in both
+-- directions join the two. Crates above use `probes` by its name and the laws of ProbeLaws, and never unfold it.
+use mathlib.Core.Path.{_≡_}
+use mathlib.Core.Bool.{Bool, not, _&&_, cond}
+use mathlib.Core.List.{List, [], _∷_, _++_}
+use Prim.Native.Nat.{ℕ, zero, suc, _^_, _<_}
+use lib.ListN.{length, getD}
+use Rattle.base.specs.Range.{all}
+use Rattle.events.specs.Bit.{bit, Within}
+use Rattle.events.specs.Sets.{inside, meets}
+
+-- x meets every acceptance
+unfoldable pub hits : List ℕ → ℕ → Bool
+hits accs x = all (λ j. meets (getD accs j 0) x) (length accs)
+
+-- x meets every acceptance, and no smaller set inside x does (a set inside x is a number no greater than x)
+unfoldable pub isProbe : List ℕ → ℕ → Bool
+isProbe accs x = hits accs x && all (λ y. not (inside y x && hits accs y)) x
+
+-- what f gives for each number below n that passes the test, in the order of the numbers
+unfoldable pub gather : (ℕ → Bool) → (ℕ → ℕ) → ℕ → List ℕ
+gather p f zero = []
+gather p f (suc n) = gather p f n ++ cond (p n) (f n ∷ []) []
+
+-- the numbers below n that pass the test, ascending
+unfoldable pub select : (ℕ → Bool) → ℕ → List ℕ
+select p n = gather p (λ x. x) n
+
+-- the probes among the sets of e events, ascending
+unfoldable pub probes : List ℕ → ℕ → List ℕ
+probes accs e = select (isProbe accs) (2 ^ e)
+
+-- X has an event of every acceptance
+abbrev pub Hits : List ℕ → ℕ → Type 0
+Hits accs X = (j : ℕ) → j < length accs → (i : ℕ) × (bit (getD accs j 0) i ≡ 1) × (bit X i ≡ 1)
+
+-- X is a minimal hitting set: it hits, and a set inside it that hits is X itself
+pub record Probe (accs : List ℕ) (X : ℕ) : Type 0 where
+  pub hits : Hits accs X
+  pub minimal : (Y : ℕ) → Within Y X → Hits accs Y → Y ≡ X
+
+-- every acceptance has only events below e
+abbrev pub Narrow : List ℕ → ℕ → Type 0
+Narrow accs e = (j : ℕ) → j < length accs → getD accs j 0 < 2 ^ e
