@@ -1,0 +1,98 @@
+-- The claim: demand 3 of the mission, with demand 2 beside it, over every two accepted sheets P (the reference, of p nodes) and Q
+-- (the device, of q nodes) with equal event counts. `traceOnly` is true for the trace-only reading: strays alone, trace-only
+-- tests, traces alone. Every notion here is one that a contract equates (`verdictOf` of the verdict, `outcomeOf` and
+-- `traceAfter` of the comparison) or one in the mission's words (Trace, Does, Refuses, Violation, Refines of Refinement).
+use mathlib.Core.Path.{_≡_, refl, sym, ap, _∙_, subst}
+use mathlib.Core.Logic.{_⊎_, inl, inr, _≢_, _↔_}
+use mathlib.Core.Bool.{Bool, true, false}
+use mathlib.Core.List.{List, []}
+use Prim.Native.Nat.{ℕ, _-_, _*_, _≤_, _<_}
+use native.Mathlib.Omega.{arith}
+use native.Mathlib.Nat.{mul-le-mul}
+use lib.ListN.{length, take, drop}
+use lib.Seq.{take-at}
+use Rattle.base.specs.Truth.{lt-or-ge}
+use Rattle.events.specs.Bit.{Apart}
+use Rattle.walks.specs.Order.{Lex}
+use Rattle.sheet_spec.specs.declared.Row.{Row}
+use Rattle.sheet_spec.specs.declared.Sheet.{Sheet}
+use Rattle.sheet_spec.specs.declared.ReadSheet.{ReadSheet}
+use Rattle.sheet_spec.specs.Kept.{row, acceptance, acceptances}
+use Rattle.sheet_spec.specs.Rules.{sheetFault}
+use Rattle.sheet_spec.specs.Reading.{readSheet}
+use Rattle.sheet_spec.specs.Accepted.{read-accepted}
+use Rattle.sheet_spec.specs.EncodingLaws.{accepted, reads→}
+use Rattle.sheet_spec.specs.Sound.{Sound, check-sound}
+use Rattle.probes_spec.specs.Probes.{probes, Probe}
+use Rattle.refinement.specs.Refinement.{After, Trace, Does, Refuses, MayRefuse, Strays, ViolationIn, RefinesIn}
+use Rattle.refinement.specs.RefinementLaws.{violation-near, refines-or-violation}
+use Rattle.tests_spec.specs.declared.Verdict.{Verdict}
+use Rattle.tests_spec.specs.declared.Verdict.the-variants.{Passes, Fails}
+use Rattle.tests_spec.specs.Verdicts.{FailsTest, failsFrom, verdictOf}
+use Rattle.tests_spec.specs.VerdictLaws.{verdict-means, verdict-passes, fails-means}
+use Rattle.tests_spec.specs.TestLaws.{verdicts-complete, nearer-passes, first-failing, single-test}
+use Rattle.comparison_spec.specs.declared.Outcome.{Outcome}
+use Rattle.comparison_spec.specs.declared.Outcome.the-variants.{Refines, Stray, Refusal, Denied}
+use Rattle.comparison_spec.specs.Comparison.{pairs, nearest, nearestTrace, judged, outcomeOf, traceAfter, workAfter}
+use Rattle.comparison_spec.specs.Meaning.{ReachedBefore, ReachedEver, Number, Nearest, SmallestStray, Describes, refines, stray, refusal}
+
+-- a sheet is accepted as kept, or as bytes that are read as it
+abbrev pub Accepted : Sheet → Type 0
+Accepted s = (sheetFault s ≡ 0) ⊎ ((b : List ℕ) × (readSheet b ≡ accepted s))
+
+-- the lists lent to a comparison are long enough: neither 12 nor 13 applies
+abbrev pub LongEnough : Sheet → Sheet → List ℕ → List ℕ → Type 0
+LongEnough P Q work trace = (3 * (P .n * Q .n) ≤ length work) × (P .n * Q .n - 1 ≤ length trace)
+
+-- what is named after the trace t witnesses the violation: a stray, or a set X that an acceptance A of the device's node has no
+-- event of and the reference's node may not refuse
+pub data Witness (P Q : Sheet) (t : List ℕ) : Outcome → Type 0 where
+  by-stray : (d c i : ℕ) → Does Q t i → ¬ Does P t i → Witness P Q t (Stray d c i)
+  by-refusal : (d c X A : ℕ) → ((w : ℕ) × After Q t w × ((j : ℕ) × (j < row Q w .c) × (acceptance (row Q w) j ≡ A))) → Apart A X → ¬ Refuses P t X
+      → Witness P Q t (Refusal d c X A)
+
+-- the length d that an answer reports, and its count "cleared"
+pub data Reports : Outcome → ℕ → ℕ → Type 0 where
+  stray-reports : (d c i : ℕ) → Reports (Stray d c i) d c
+  refusal-reports : (d c X A : ℕ) → Reports (Refusal d c X A) d c
+
+-- what holds of the answer o and the trace list `after` at exit where the device does not refine the reference
+pub record Violated (traceOnly : Bool) (P Q : Sheet) (o : Outcome) (after : List ℕ) : Type 0 where
+  pub d : ℕ
+  pub cleared : ℕ
+  -- the answer reports d, which is below p q
+  pub reports : Reports o d cleared
+  pub below : d < P .n * Q .n
+  -- d is the number of the first test failed
+  pub fails : verdictOf P Q d traceOnly ≡ Fails
+  pub earlier : (k : ℕ) → k < d → verdictOf P Q k traceOnly ≡ Passes
+  -- the trace is a violation of exactly d events; none has fewer, and none of d events is less in event order
+  pub violates : ViolationIn traceOnly P Q (take d after)
+  pub exactly : length (take d after) ≡ d
+  pub shortest : (t : List ℕ) → ViolationIn traceOnly P Q t → d ≤ length t
+  pub least : (t : List ℕ) → ViolationIn traceOnly P Q t → length t ≡ d → Lex (take d after) t
+  -- what is named witnesses it
+  pub witness : Witness P Q (take d after) o
+  -- with traces alone it is a stray
+  pub strays : traceOnly ≡ true → Strays P Q (take d after)
+  -- cleared is the number of pairs reached by common traces shorter than d
+  pub counted : Number P Q (ReachedBefore P Q d) cleared
+
+pub record Claim (traceOnly : Bool) (P Q : Sheet) : Type 0 where
+  -- demand 3: if there is a violation, one has fewer than p q events
+  pub near : (t : List ℕ) → ViolationIn traceOnly P Q t → (s : List ℕ) × (length s < P .n * Q .n) × ViolationIn traceOnly P Q s
+  -- demand 3: tests 0 to p q - 1 have a verdict, never a refusal, and all are "passes" exactly if the device refines the reference
+  pub judges : (k : ℕ) → k < P .n * Q .n → (verdictOf P Q k traceOnly ≡ Passes) ⊎ (verdictOf P Q k traceOnly ≡ Fails)
+  pub complete : ((k : ℕ) → k < P .n * Q .n → verdictOf P Q k traceOnly ≡ Passes) ↔ RefinesIn traceOnly P Q
+  -- demand 3: given long enough lists, of any content, the comparison is never refused, and says "refines" exactly then
+  pub answers : (work trace : List ℕ) → LongEnough P Q work trace → (m : ℕ) → outcomeOf traceOnly P Q work trace ≢ Denied m
+  pub refined : (work trace : List ℕ) → LongEnough P Q work trace → ((c : ℕ) × (outcomeOf traceOnly P Q work trace ≡ Refines c)) ↔ RefinesIn traceOnly P Q
+  -- demand 3: otherwise its d is the first failing test and its trace a violation of d events, none shorter
+  pub violated : (work trace : List ℕ) → LongEnough P Q work trace → ¬ RefinesIn traceOnly P Q
+      → Violated traceOnly P Q (outcomeOf traceOnly P Q work trace) (traceAfter traceOnly P Q work trace)
+  -- demand 2: a verdict is "fails" exactly if some run against the device can end failed
+  pub fails : (k : ℕ) → k ≤ 1023 → (verdictOf P Q k traceOnly ≡ Fails) ↔ FailsTest traceOnly P Q k
+  -- demand 2: where it refines, cleared is the number of all pairs reached by common traces
+  pub counted : (work trace : List ℕ) → LongEnough P Q work trace → (c : ℕ) → outcomeOf traceOnly P Q work trace ≡ Refines c → Number P Q (ReachedEver P Q) c
+  -- the trace-only reading: the single test p q - 1 decides
+  pub single : traceOnly ≡ true → (verdictOf P Q (P .n * Q .n - 1) traceOnly ≡ Passes) ↔ RefinesIn traceOnly P Q

@@ -1,0 +1,202 @@
+-- The theorem: the claim holds of every two accepted sheets with equal event counts.
+use mathlib.Core.Path.{_≡_, refl, sym, ap, _∙_, subst}
+use mathlib.Core.Logic.{_⊎_, inl, inr, _≢_, _↔_}
+use mathlib.Core.Bool.{Bool, true, false, true≢false}
+use mathlib.Core.List.{List, _++_}
+use Prim.Native.Nat.{ℕ, _-_, _*_, _≤_, _<_}
+use native.Mathlib.Omega.{arith}
+use native.Mathlib.Nat.{mul-le-mul}
+use lib.ListN.{length, getD, take, drop}
+use lib.Seq.{take-at}
+use Rattle.base.specs.Truth.{lt-or-ge, not-i, clash, dec}
+use Rattle.events.specs.Bit.{bit, Apart}
+use Rattle.sheet_spec.specs.declared.Sheet.{Sheet}
+use Rattle.sheet_spec.specs.Kept.{row, acceptance, acceptances}
+use Rattle.sheet_spec.specs.Rules.{sheetFault}
+use Rattle.sheet_spec.specs.Reading.{readSheet}
+use Rattle.sheet_spec.specs.RowLaws.{acceptances-length, acceptances-at}
+use Rattle.sheet_spec.specs.Accepted.{read-accepted}
+use Rattle.sheet_spec.specs.EncodingLaws.{accepted, reads→}
+use Rattle.sheet_spec.specs.Sound.{Sound, check-sound}
+use Rattle.probes_spec.specs.Probes.{probes, Probe}
+use Rattle.probes_spec.specs.FirstMissed.{MissedFirst}
+use Rattle.probes_spec.specs.ProbeLaws.{probe-at}
+use Rattle.refinement.specs.Refinement.{After, Refuses, Strays, ViolationIn, RefinesIn}
+use Rattle.refinement.specs.RefinementLaws.{after-unique, violation-near, refines-means}
+use Rattle.tests_spec.specs.declared.Verdict.the-variants.{Passes, Fails}
+use Rattle.tests_spec.specs.Verdicts.{FailsTest, failsFrom, verdictOf}
+use Rattle.tests_spec.specs.VerdictLaws.{fails-means, verdict-means, verdict-passes}
+use Rattle.tests_spec.specs.TestLaws.{verdicts-complete, first-failing, single-test}
+use Rattle.comparison_spec.specs.declared.Outcome.{Outcome}
+use Rattle.comparison_spec.specs.declared.Outcome.the-variants.{Refines, Stray, Refusal, Denied}
+use Rattle.comparison_spec.specs.Comparison.{pairs, nearest, nearestTrace, judged, compareFault, outcomeOf, traceAfter}
+use Rattle.comparison_spec.specs.Numbers.{compared}
+use Rattle.comparison_spec.specs.Meaning.{ReachedBefore, ReachedEver, Number, Nearest, SmallestStray, FirstRefused, Describes, refines, stray, refusal}
+use Rattle.comparison_spec.specs.ComparisonLaws.{trace-length, nearest-below, nearest-only, refines-nearest}
+use Rattle.comparison_spec.specs.OutcomeLaws.{traceOf, judged-describes}
+use Rattle.comparison_spec.specs.CallLaws.{compare-fits, given-outcome, given-trace}
+use Rattle.claim.specs.Claim.{Accepted, LongEnough, Witness, by-stray, by-refusal, Reports, stray-reports, refusal-reports, Violated, Claim}
+
+-- accepted as bytes or as kept, a sheet is not refused by a later call
+pub accepted-unrefused : (s : Sheet) → Accepted s → sheetFault s ≡ 0
+accepted-unrefused s (inl h) = h
+accepted-unrefused s (inr (b, e)) = let r = reads→ b s e in rw (r .1) at (read-accepted b (r .0))
+
+module _ (P Q : Sheet) (accP : sheetFault P ≡ 0) (accQ : sheetFault Q ≡ 0) (same : P .e ≡ Q .e) (to : Bool) where
+  op : Sound P
+  op = check-sound P accP
+
+  oq : Sound Q
+  oq = check-sound Q accQ
+
+  -- every test below p q has a number that a test may have
+  few : P .n * Q .n ≤ 1024
+  few = mul-le-mul (op .ranges .n-high) (oq .ranges .n-high)
+
+  -- a verdict that is given is one of the two words
+  judges : (k : ℕ) → k < P .n * Q .n → (verdictOf P Q k to ≡ Passes) ⊎ (verdictOf P Q k to ≡ Fails)
+  judges k l = go (dec (failsFrom to P Q k 0 0))
+    where
+      small : k ≤ 1023
+      small = omega (arith, few)
+
+      go : (failsFrom to P Q k 0 0 ≡ true) ⊎ (failsFrom to P Q k 0 0 ≡ false) → (verdictOf P Q k to ≡ Passes) ⊎ (verdictOf P Q k to ≡ Fails)
+      go (inl f) = inr (verdict-means P Q accP accQ same to k small .1 (fails-means P Q accP accQ same to k small .0 f))
+      go (inr f) = inl (verdict-passes P Q accP accQ same to k small .1 (λ x. clash (fails-means P Q accP accQ same to k small .1 x) f))
+
+  -- with lists that are long enough the comparison answers
+  fits : (work trace : List ℕ) → LongEnough P Q work trace → compareFault P Q work trace ≡ 0
+  unfolding pairs
+  fits work trace l = compare-fits P Q work trace accP accQ same (l .0) (l .1)
+
+  given : (work trace : List ℕ) → LongEnough P Q work trace → outcomeOf to P Q work trace ≡ judged to P Q
+  given work trace l = given-outcome P Q work trace to (fits work trace l)
+
+  -- an answer that is described is not a refusal, and "refines" only if the device does
+  described-given : (o : Outcome) (t : List ℕ) (m : ℕ) → Describes to P Q o t → o ≢ Denied m
+  unfolding compared
+  described-given o t m (refines c r n) e = let z : compared (Refines c) .kind ≡ compared (Denied m) .kind = ap (λ (x : Outcome). compared x .kind) e in omega arith
+  described-given o t m (stray d c i u w n s) e = let z : compared (Stray d c i) .kind ≡ compared (Denied m) .kind = ap (λ (x : Outcome). compared x .kind) e in omega arith
+  described-given o t m (refusal d c X A u w n s f) e = let z : compared (Refusal d c X A) .kind ≡ compared (Denied m) .kind = ap (λ (x : Outcome). compared x .kind) e in omega arith
+
+  described-refines : (o : Outcome) (t : List ℕ) (c : ℕ) → Describes to P Q o t → o ≡ Refines c → RefinesIn to P Q × Number P Q (ReachedEver P Q) c
+  unfolding compared
+  described-refines o t c (refines b r n) e = let z : b ≡ c = ap (λ (x : Outcome). compared x .cleared) e in (r, rw z at n)
+  described-refines o t c (stray d b i u w n s) e = let z : compared (Stray d b i) .kind ≡ compared (Refines c) .kind = ap (λ (x : Outcome). compared x .kind) e in absurd (omega arith)
+  described-refines o t c (refusal d b X A u w n s f) e = let z : compared (Refusal d b X A) .kind ≡ compared (Refines c) .kind = ap (λ (x : Outcome). compared x .kind) e in absurd (omega arith)
+
+  -- a probe that an acceptance misses is a set that the reference does not refuse
+  refused-witness : (d c X A : ℕ) (t : List ℕ) → FirstRefused P Q t X A → Witness P Q t (Refusal d c X A)
+  refused-witness d c X A t (v, w, a, b, m) =
+      let k : m .spot < row Q w .c = omega (arith, m .spot-in, acceptances-length (row Q w)) in
+      by-refusal d c X A (w, b, (m .spot, k, sym (acceptances-at (row Q w) (m .spot) k) ∙ m .acceptance)) (λ i. omega (arith, m .misses i)) not-refused
+    where
+      probe : Probe (acceptances (row P v)) X
+      probe = rw (m .probe) at (probe-at (acceptances (row P v)) (P .e) (m .place) (m .place-in))
+
+      not-refused : ¬ Refuses P t X
+      not-refused (u, b′, (j, l, p)) = hit u (after-unique op t u v b′ a) j l p
+        where
+          hit : (u : ℕ) → u ≡ v → (j : ℕ) → j < row P u .c → Apart (acceptance (row P u) j) X → ⊥
+          hit u e j l p =
+              let l′ : j < row P v .c = rw e at l in
+              let p′ : Apart (acceptance (row P v) j) X = rw e at p in
+              let x = probe .hits j (omega (arith, l′, acceptances-length (row P v))) in
+              omega (arith, x .2, p′ (x .0), ap (λ (y : ℕ). bit y (x .0)) (acceptances-at (row P v) j l′), x .1)
+
+  -- the first failing test
+  first : ¬ RefinesIn to P Q → (verdictOf P Q (nearest to P Q) to ≡ Fails) × ((k : ℕ) → k < nearest to P Q → verdictOf P Q k to ≡ Passes)
+  unfolding nearest
+  first n =
+      let f = first-failing P Q accP accQ same to n in (
+        verdict-means P Q accP accQ same to (nearest to P Q) (omega (arith, few, f .0)) .1 (fails-means P Q accP accQ same to (nearest to P Q) (omega (arith, few, f .0)) .0 (f .1)),
+        λ k l. verdict-passes P Q accP accQ same to k (omega (arith, few, f .0)) .1 (λ x. clash (fails-means P Q accP accQ same to k (omega (arith, few, f .0)) .1 x) (f .2 k l)),
+      )
+
+  -- with traces alone a violation is a stray
+  strays-only : (t : List ℕ) → ViolationIn to P Q t → to ≡ true → Strays P Q t
+  strays-only t v e = go to e v
+    where
+      go : (b : Bool) → b ≡ true → ViolationIn b P Q t → Strays P Q t
+      go true e v = v .2
+      go false e v = absurd (true≢false (sym e))
+
+  -- what holds of a nearest violation with its witness
+  module _ (n : ¬ RefinesIn to P Q) (after : List ℕ) (q : take (nearest to P Q) after ≡ nearestTrace to P Q) where
+    nearest-violated : (o : Outcome) (d c : ℕ) (u : List ℕ) → Reports o d c → Nearest to P Q d u → Number P Q (ReachedBefore P Q d) c → Witness P Q u o → Violated to P Q o after
+    nearest-violated o d c u p w k x =
+        let y = nearest-only op oq same to d u w in
+        let f = first n in
+        let e : take d after ≡ u = rw (y .0) (q ∙ sym (y .1)) in
+        let v = w .violates in
+        record {
+          d = d;
+          cleared = c;
+          reports = p;
+          below = unfold pairs in rw (y .0) (nearest-below op oq same to u v);
+          fails = rw (y .0) (f .0);
+          earlier = λ j l. f .1 j (omega (arith, y .0));
+          violates = rw e v;
+          exactly = rw e (w .long);
+          shortest = w .shortest;
+          least = λ t s l. rw e (w .least t s l);
+          witness = rw e x;
+          strays = λ z. rw e (strays-only u v z);
+          counted = k;
+        }
+
+    described-violated : (o : Outcome) (t : List ℕ) → Describes to P Q o t → Violated to P Q o after
+    described-violated o t (refines c r k) = absurd (n r)
+    described-violated o t (stray d c i u w k m) = nearest-violated (Stray d c i) d c u (stray-reports d c i) w k (by-stray d c i (m .does) (m .does-not))
+    described-violated o t (refusal d c X A u w k s f) = nearest-violated (Refusal d c X A) d c u (refusal-reports d c X A) w k (refused-witness d c X A u f)
+
+  -- the front of the trace list at exit is the trace
+  trace-front : (work trace : List ℕ) → LongEnough P Q work trace → ¬ RefinesIn to P Q → take (nearest to P Q) (traceAfter to P Q work trace) ≡ nearestTrace to P Q
+  trace-front work trace l n = go (lt-or-ge (nearest to P Q) (pairs P Q))
+    where
+      go : (nearest to P Q < pairs P Q) ⊎ (pairs P Q ≤ nearest to P Q) → take (nearest to P Q) (traceAfter to P Q work trace) ≡ nearestTrace to P Q
+      go (inl k) = rw (given-trace P Q work trace to (fits work trace l) k) (take-at (nearestTrace to P Q) (drop (nearest to P Q) trace) (nearest to P Q) (trace-length op oq same to))
+      go (inr k) = absurd (n (refines-nearest op oq same to .1 k))
+
+  described : (work trace : List ℕ) → LongEnough P Q work trace → Describes to P Q (outcomeOf to P Q work trace) (traceOf to P Q)
+  described work trace l = rw (given work trace l) (judged-describes op oq same to)
+
+  -- "refines" is said exactly if the device refines the reference
+  says-refines : (work trace : List ℕ) → LongEnough P Q work trace → ((c : ℕ) × (outcomeOf to P Q work trace ≡ Refines c)) ↔ RefinesIn to P Q
+  says-refines work trace l = ((λ x. described-refines (outcomeOf to P Q work trace) (traceOf to P Q) (x .0) (described work trace l) (x .1) .0), λ r. back r (outcomeOf to P Q work trace) (traceOf to P Q) (described work trace l) refl)
+    where
+      back : RefinesIn to P Q → (o : Outcome) (t : List ℕ) → Describes to P Q o t → outcomeOf to P Q work trace ≡ o → (c : ℕ) × (outcomeOf to P Q work trace ≡ Refines c)
+      back r o t (refines c s k) e = (c, e)
+      back r o t (stray d c i u w k m) e = absurd (refines-means op oq same to .0 r u (w .violates))
+      back r o t (refusal d c X A u w k s f) e = absurd (refines-means op oq same to .0 r u (w .violates))
+
+  -- the single trace-only test
+  single : to ≡ true → (verdictOf P Q (P .n * Q .n - 1) to ≡ Passes) ↔ RefinesIn to P Q
+  single e = go to e
+    where
+      small : P .n * Q .n - 1 ≤ 1023
+      small = omega (arith, few)
+
+      go : (b : Bool) → b ≡ true → (verdictOf P Q (P .n * Q .n - 1) b ≡ Passes) ↔ RefinesIn b P Q
+      go true e = (
+        (λ p. single-test P Q accP accQ same .0 (not-i (λ f. verdict-passes P Q accP accQ same true (P .n * Q .n - 1) small .0 p (fails-means P Q accP accQ same true (P .n * Q .n - 1) small .0 f)))),
+        λ r. verdict-passes P Q accP accQ same true (P .n * Q .n - 1) small .1 (λ x. clash (fails-means P Q accP accQ same true (P .n * Q .n - 1) small .1 x) (single-test P Q accP accQ same .1 r)),
+      )
+      go false e = absurd (true≢false (sym e))
+
+-- demand 3, whole, and demand 2 beside it
+pub claim : (traceOnly : Bool) (P Q : Sheet) → Accepted P → Accepted Q → P .e ≡ Q .e → Claim traceOnly P Q
+claim to P Q a b same =
+    let p = accepted-unrefused P a in
+    let q = accepted-unrefused Q b in
+    record {
+      near = violation-near (check-sound P p) (check-sound Q q) same to;
+      judges = judges P Q p q same to;
+      complete = verdicts-complete P Q p q same to;
+      answers = λ work trace l m. described-given P Q p q same to (outcomeOf to P Q work trace) (traceOf to P Q) m (described P Q p q same to work trace l);
+      refined = says-refines P Q p q same to;
+      violated = λ work trace l n. described-violated P Q p q same to n (traceAfter to P Q work trace) (trace-front P Q p q same to work trace l n) (outcomeOf to P Q work trace) (traceOf to P Q) (described P Q p q same to work trace l);
+      fails = λ k l. verdict-means P Q p q same to k l;
+      counted = λ work trace l c e. described-refines P Q p q same to (outcomeOf to P Q work trace) (traceOf to P Q) c (described P Q p q same to work trace l) e .1;
+      single = single P Q p q same to;
+    }

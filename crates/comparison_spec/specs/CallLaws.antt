@@ -1,0 +1,117 @@
+-- The call of a comparison: when each refusal is given, and what it then answers and leaves.
+use mathlib.Core.Path.{_≡_, refl}
+use mathlib.Core.Logic.{_⊎_, inl, inr, _≢_, _↔_}
+use mathlib.Core.Bool.{Bool, true, false, _&&_, cond}
+use mathlib.Core.List.{List, _++_}
+use Prim.Native.Nat.{ℕ, _-_, _*_, _≤_, _<_}
+use native.Mathlib.Omega.{arith}
+use lib.Dec.{eqb, leb}
+use lib.ListN.{length, drop, replicate}
+use borrow.Author.Tests.{eq-eqb, ne-eqb, lt-ltb, le-ltb}
+use Rattle.base.specs.Finds.{finds-eq, finds-le}
+use Rattle.base.specs.Refusal.{unless, orElse, unless-hit, unless-pass, unless-none, unless-other, orElse-some, orElse-then}
+use Rattle.sheet_spec.specs.declared.Sheet.{Sheet}
+use Rattle.sheet_spec.specs.Rules.{sheetFault}
+use Rattle.sheet_spec.specs.CheckLaws.{check-below, further, finally}
+use Rattle.comparison_spec.specs.declared.Outcome.the-variants.{Denied}
+use Rattle.comparison_spec.specs.Comparison.{pairs, nearest, nearestTrace, judged, compareFault, outcomeOf, traceAfter, workAfter}
+
+module _ (P Q : Sheet) (work trace : List ℕ) where
+  -- neither sheet is refused
+  abbrev pub Accepted : Type 0
+  Accepted = (sheetFault P ≡ 0) × (sheetFault Q ≡ 0)
+
+  -- what is tested after the sheets, after 11 and after 12
+  abbrev after12 : ℕ
+  after12 = unless (leb (pairs P Q - 1) (length trace)) 13 0
+
+  abbrev after11 : ℕ
+  after11 = unless (leb (3 * pairs P Q) (length work)) 12 after12
+
+  abbrev afterSheets : ℕ
+  afterSheets = unless (eqb (P .e) (Q .e)) 11 after11
+
+  -- the reference's own refusal comes first, then the device's
+  pub compare-reference : sheetFault P ≢ 0 → compareFault P Q work trace ≡ sheetFault P
+  unfolding compareFault
+  compare-reference n = orElse-some (sheetFault P) _ (omega (arith, n))
+
+  pub compare-device : sheetFault P ≡ 0 → sheetFault Q ≢ 0 → compareFault P Q work trace ≡ sheetFault Q
+  unfolding compareFault
+  compare-device z n = rw z (orElse-some (sheetFault Q) _ (omega (arith, n)))
+
+  -- a number above 8, or none, comes from what is tested after the sheets
+  past-sheets : (m : ℕ) → (8 < m) ⊎ (m ≡ 0) → (compareFault P Q work trace ≡ m) ↔ (Accepted × (afterSheets ≡ m))
+  unfolding compareFault
+  past-sheets m h = further (orElse-then (sheetFault P) (orElse (sheetFault Q) afterSheets) m (own (sheetFault P) (check-below P) h))
+      (λ z. orElse-then (sheetFault Q) afterSheets m (own (sheetFault Q) (check-below Q) h))
+    where
+      own : (k : ℕ) → k ≤ 8 → (8 < m) ⊎ (m ≡ 0) → (k ≢ m) ⊎ (m ≡ 0)
+      own k l (inl p) = inl (λ e. omega arith)
+      own k l (inr p) = inr p
+
+  pub compare-11 : (compareFault P Q work trace ≡ 11) ↔ (Accepted × (P .e ≢ Q .e))
+  compare-11 = finally (past-sheets 11 (inl (omega arith)))
+      (λ f. unless-hit 11 after11 (finds-eq (P .e) (Q .e)) (unless-other (leb (3 * pairs P Q) (length work)) (λ p. omega arith) (unless-other (leb (pairs P Q - 1) (length trace)) (λ p. omega arith) (λ p. omega arith))))
+
+  pub compare-12 : (compareFault P Q work trace ≡ 12) ↔ ((Accepted × (¬ (P .e ≢ Q .e))) × (length work < 3 * pairs P Q))
+  compare-12 = finally (further (past-sheets 12 (inl (omega arith))) (λ f. unless-pass 11 after11 12 (finds-eq (P .e) (Q .e)) (λ p. omega arith)))
+      (λ f. unless-hit 12 after12 (finds-le (3 * pairs P Q) (length work)) (unless-other (leb (pairs P Q - 1) (length trace)) (λ p. omega arith) (λ p. omega arith)))
+
+  -- a work list that is long enough, once the sheets may be paired
+  past-12 : (m : ℕ) → (12 < m) ⊎ (m ≡ 0) → (compareFault P Q work trace ≡ m) ↔ (((Accepted × (¬ (P .e ≢ Q .e))) × (¬ (length work < 3 * pairs P Q))) × (after12 ≡ m))
+  past-12 m h = further (further (past-sheets m (wide h)) (λ f. unless-pass 11 after11 m (finds-eq (P .e) (Q .e)) (not-it 11 (omega arith) (omega arith) h)))
+      (λ f. unless-pass 12 after12 m (finds-le (3 * pairs P Q) (length work)) (not-it 12 (omega arith) (omega arith) h))
+    where
+      wide : (12 < m) ⊎ (m ≡ 0) → (8 < m) ⊎ (m ≡ 0)
+      wide (inl p) = inl (omega arith)
+      wide (inr p) = inr p
+
+      not-it : (k : ℕ) → 0 < k → k ≤ 12 → (12 < m) ⊎ (m ≡ 0) → k ≢ m
+      not-it k z l (inl p) e = omega arith
+      not-it k z l (inr p) e = omega arith
+
+  pub compare-13 : (compareFault P Q work trace ≡ 13) ↔ (((Accepted × (¬ (P .e ≢ Q .e))) × (¬ (length work < 3 * pairs P Q))) × (length trace < pairs P Q - 1))
+  compare-13 = finally (past-12 13 (inl (omega arith))) (λ f. unless-hit 13 0 (finds-le (pairs P Q - 1) (length trace)) (λ p. omega arith))
+
+  pub compare-0 : (compareFault P Q work trace ≡ 0) ↔ (((Accepted × (¬ (P .e ≢ Q .e))) × (¬ (length work < 3 * pairs P Q))) × (¬ (length trace < pairs P Q - 1)))
+  compare-0 = finally (past-12 0 (inr refl)) (λ f. unless-none 13 (finds-le (pairs P Q - 1) (length trace)) (λ p. omega arith))
+
+  -- two sheets that are not refused, with equal event counts and lists that are long enough
+  pub compare-fits : sheetFault P ≡ 0 → sheetFault Q ≡ 0 → P .e ≡ Q .e → 3 * pairs P Q ≤ length work → pairs P Q - 1 ≤ length trace → compareFault P Q work trace ≡ 0
+  compare-fits p q e w t = compare-0 .1 ((((p, q), λ n. n e), λ l. omega arith), λ l. omega arith)
+
+  module _ (to : Bool) where
+    -- a refusal answers its number and alters nothing
+    pub denied-outcome : compareFault P Q work trace ≢ 0 → outcomeOf to P Q work trace ≡ Denied (compareFault P Q work trace)
+    unfolding outcomeOf
+    denied-outcome n = rw (ne-eqb (compareFault P Q work trace) 0 n)
+
+    pub denied-trace : compareFault P Q work trace ≢ 0 → traceAfter to P Q work trace ≡ trace
+    unfolding traceAfter
+    denied-trace n = rw (ne-eqb (compareFault P Q work trace) 0 n)
+
+    pub denied-work : compareFault P Q work trace ≢ 0 → workAfter P Q work trace ≡ work
+    unfolding workAfter
+    denied-work n = rw (ne-eqb (compareFault P Q work trace) 0 n)
+
+    -- without one the answer is the comparison's, the trace fills the front of its list, and the work list's front is 0
+    pub given-outcome : compareFault P Q work trace ≡ 0 → outcomeOf to P Q work trace ≡ judged to P Q
+    unfolding outcomeOf
+    given-outcome z = rw (eq-eqb (compareFault P Q work trace) 0 z)
+
+    pub given-trace : compareFault P Q work trace ≡ 0 → nearest to P Q < pairs P Q → traceAfter to P Q work trace ≡ nearestTrace to P Q ++ drop (nearest to P Q) trace
+    unfolding traceAfter
+    given-trace z l = rw (eq-eqb (compareFault P Q work trace) 0 z, lt-ltb (nearest to P Q) (pairs P Q) l)
+
+    pub given-no-trace : pairs P Q ≤ nearest to P Q → traceAfter to P Q work trace ≡ trace
+    unfolding traceAfter
+    given-no-trace l = rw (le-ltb (nearest to P Q) (pairs P Q) l) (off (eqb (compareFault P Q work trace) 0))
+      where
+        off : (b : Bool) → cond (b && false) (nearestTrace to P Q ++ drop (nearest to P Q) trace) trace ≡ trace
+        off true = refl
+        off false = refl
+
+    pub given-work : compareFault P Q work trace ≡ 0 → workAfter P Q work trace ≡ replicate (3 * pairs P Q) 0 ++ drop (3 * pairs P Q) work
+    unfolding workAfter
+    given-work z = rw (eq-eqb (compareFault P Q work trace) 0 z)

@@ -1,0 +1,6 @@
+pub mod Comparison
+pub mod Numbers
+pub mod Meaning
+pub mod ComparisonLaws
+pub mod OutcomeLaws
+pub mod CallLaws

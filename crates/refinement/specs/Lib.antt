@@ -1,0 +1,4 @@
+pub mod Refinement
+pub mod PairTests
+pub mod PairLaws
+pub mod RefinementLaws

@@ -1,0 +1,175 @@
+-- The test of a verdict by the pairs that common traces reach, one length after the other: the form that loops compute.
+use mathlib.Core.Path.{_≡_, refl}
+use mathlib.Core.Logic.{_⊎_, inl, inr, _↔_}
+use mathlib.Core.Bool.{Bool, true, false, not, _&&_, _||_}
+use mathlib.Core.List.{List, [], _∷_}
+use Prim.Native.Nat.{ℕ, zero, suc, _+_, _-_, _<_}
+use native.Mathlib.Omega.{arith}
+use native.Mathlib.Nat.{zero-add, suc-add}
+use lib.Dec.{ltb}
+use lib.ListN.{length}
+use borrow.Author.Tests.{ltb-true, lt-ltb}
+use Rattle.base.specs.Truth.{and-l, and-r, and-i, or-e, or-l, or-r, not-t, not-f, same}
+use Rattle.base.specs.Range.{any, any→, any←}
+use Rattle.walks.specs.Graph.{walk, ahead}
+use Rattle.walks.specs.Pairs.{PairReachedIn, pairReached, pairReached-means}
+use Rattle.sheet_spec.specs.declared.Sheet.{Sheet}
+use Rattle.sheet_spec.specs.Kept.{row, mayStop, step, graph}
+use Rattle.sheet_spec.specs.Sound.{Sound}
+use Rattle.refinement.specs.PairTests.{hasStray, violating}
+use Rattle.tests_spec.specs.Verdicts.{failsFrom}
+
+-- a device that may stop where the reference may not, unless traces alone count
+abbrev pub StopsAt : Bool → Sheet → Sheet → ℕ → ℕ → Type 0
+StopsAt to P Q n m = (to ≡ false) × (mayStop (row Q m) ≡ true) × (mayStop (row P n) ≡ false)
+
+-- an event leads both on to a pair from which the test fails with k events to go
+abbrev pub FailsOn : Bool → Sheet → Sheet → ℕ → ℕ → ℕ → Type 0
+FailsOn to P Q k n m =
+    (i : ℕ) × (i < P .e) × (step P n i < P .n) × (step Q m i < Q .n) × (failsFrom to P Q k (step P n i) (step Q m i) ≡ true)
+
+stopping : Bool → Sheet → Sheet → ℕ → ℕ → Bool
+stopping to P Q n m = not to && (mayStop (row Q m) && not (mayStop (row P n)))
+
+stopping-means : (to : Bool) (P Q : Sheet) (n m : ℕ) → (stopping to P Q n m ≡ true) ↔ StopsAt to P Q n m
+unfolding stopping
+stopping-means to P Q n m = (forth, λ s. and-i (not-t (s .0)) (and-i (s .1) (not-t (s .2))))
+  where
+    forth : (not to && (mayStop (row Q m) && not (mayStop (row P n)))) ≡ true → StopsAt to P Q n m
+    forth t =
+        let u = and-r (not to) _ t in
+        (not-f to (and-l (not to) _ t), and-l (mayStop (row Q m)) _ u, not-f _ (and-r (mayStop (row Q m)) _ u))
+
+onward : Bool → Sheet → Sheet → ℕ → ℕ → ℕ → ℕ → Bool
+onward to P Q k n m i = (ltb (step P n i) (P .n) && ltb (step Q m i) (Q .n)) && failsFrom to P Q k (step P n i) (step Q m i)
+
+-- with events to go the test fails at a stray, at a stop, or further on
+pub fails-next : (to : Bool) (P Q : Sheet) (k n m : ℕ)
+    → (failsFrom to P Q (suc k) n m ≡ true) ↔ ((hasStray (P .e) (row P n) (row Q m) ≡ true) ⊎ (StopsAt to P Q n m ⊎ FailsOn to P Q k n m))
+unfolding failsFrom stopping onward
+fails-next to P Q k n m = (λ t. forth (or-e (hasStray (P .e) (row P n) (row Q m)) _ t), back)
+  where
+    step→ : any (onward to P Q k n m) (P .e) ≡ true → FailsOn to P Q k n m
+    step→ t =
+        let w = any→ (onward to P Q k n m) (P .e) t in
+        let u = and-l (ltb (step P n (w .0)) (P .n) && ltb (step Q m (w .0)) (Q .n)) _ (w .2) in (
+          w .0,
+          w .1,
+          ltb-true _ _ (and-l (ltb (step P n (w .0)) (P .n)) _ u),
+          ltb-true _ _ (and-r (ltb (step P n (w .0)) (P .n)) _ u),
+          and-r (ltb (step P n (w .0)) (P .n) && ltb (step Q m (w .0)) (Q .n)) _ (w .2),
+        )
+
+    pick : (stopping to P Q n m ≡ true) ⊎ (any (onward to P Q k n m) (P .e) ≡ true) → StopsAt to P Q n m ⊎ FailsOn to P Q k n m
+    pick (inl s) = inl (stopping-means to P Q n m .0 s)
+    pick (inr s) = inr (step→ s)
+
+    forth : (hasStray (P .e) (row P n) (row Q m) ≡ true) ⊎ ((stopping to P Q n m || any (onward to P Q k n m) (P .e)) ≡ true)
+        → (hasStray (P .e) (row P n) (row Q m) ≡ true) ⊎ (StopsAt to P Q n m ⊎ FailsOn to P Q k n m)
+    forth (inl s) = inl s
+    forth (inr s) = inr (pick (or-e (stopping to P Q n m) _ s))
+
+    back : (hasStray (P .e) (row P n) (row Q m) ≡ true) ⊎ (StopsAt to P Q n m ⊎ FailsOn to P Q k n m)
+        → (hasStray (P .e) (row P n) (row Q m) || (stopping to P Q n m || any (onward to P Q k n m) (P .e))) ≡ true
+    back (inl s) = or-l _ s
+    back (inr (inl s)) = or-r (hasStray (P .e) (row P n) (row Q m)) (or-l _ (stopping-means to P Q n m .1 s))
+    back (inr (inr (i, l, a, b, f))) =
+        or-r (hasStray (P .e) (row P n) (row Q m))
+        (or-r (stopping to P Q n m) (any← (onward to P Q k n m) (P .e) i l (and-i (and-i (lt-ltb _ _ a) (lt-ltb _ _ b)) f)))
+
+-- the test at a pair with this many events to go: a violating pair with none, else a stray or a stop
+unfoldable pub faulty : Bool → Sheet → Sheet → ℕ → ℕ → ℕ → Bool
+faulty to P Q zero n m = violating to P Q n m
+faulty to P Q (suc left) n m = hasStray (P .e) (row P n) (row Q m) || (not to && (mayStop (row Q m) && not (mayStop (row P n))))
+
+-- what it is with events to go
+pub faulty-means : (to : Bool) (P Q : Sheet) (left n m : ℕ)
+    → (faulty to P Q (suc left) n m ≡ true) ↔ ((hasStray (P .e) (row P n) (row Q m) ≡ true) ⊎ StopsAt to P Q n m)
+unfolding faulty stopping
+faulty-means to P Q left n m = (λ t. forth (or-e (hasStray (P .e) (row P n) (row Q m)) _ t), back)
+  where
+    forth : (hasStray (P .e) (row P n) (row Q m) ≡ true) ⊎ (stopping to P Q n m ≡ true) → (hasStray (P .e) (row P n) (row Q m) ≡ true) ⊎ StopsAt to P Q n m
+    forth (inl s) = inl s
+    forth (inr s) = inr (stopping-means to P Q n m .0 s)
+
+    back : (hasStray (P .e) (row P n) (row Q m) ≡ true) ⊎ StopsAt to P Q n m → (hasStray (P .e) (row P n) (row Q m) || stopping to P Q n m) ≡ true
+    back (inl s) = or-l _ s
+    back (inr s) = or-r (hasStray (P .e) (row P n) (row Q m)) (stopping-means to P Q n m .1 s)
+
+-- a common list of events leads from the pair (n, m) to one that is faulty with the rest of k events to go
+abbrev pub FaultyEnd : Bool → Sheet → Sheet → ℕ → ℕ → ℕ → Type 0
+FaultyEnd to P Q k n m =
+    (t : List ℕ) × (left : ℕ) × (length t + left ≡ k) × (walk (graph P) n t < P .n) × (walk (graph Q) m t < Q .n)
+    × (faulty to P Q left (walk (graph P) n t) (walk (graph Q) m t) ≡ true)
+
+module _ (to : Bool) (P Q : Sheet) where
+  -- where the test fails there is such a list
+  pub fails-end : (k n m : ℕ) → n < P .n → m < Q .n → failsFrom to P Q k n m ≡ true → FaultyEnd to P Q k n m
+  unfolding walk faulty
+  fails-end zero n m a b t = ([], 0, refl, a, b, unfold failsFrom in t)
+  fails-end (suc k) n m a b t = go (fails-next to P Q k n m .0 t) (fails-end k)
+    where
+      go : (hasStray (P .e) (row P n) (row Q m) ≡ true) ⊎ (StopsAt to P Q n m ⊎ FailsOn to P Q k n m)
+          → ((n m : ℕ) → n < P .n → m < Q .n → failsFrom to P Q k n m ≡ true → FaultyEnd to P Q k n m) → FaultyEnd to P Q (suc k) n m
+      go (inl s) ih = ([], suc k, omega arith, a, b, faulty-means to P Q k n m .1 (inl s))
+      go (inr (inl s)) ih = ([], suc k, omega arith, a, b, faulty-means to P Q k n m .1 (inr s))
+      go (inr (inr (i, l, p, q, f))) ih =
+          let v = ih (step P n i) (step Q m i) p q f in
+          (i ∷ v .0, v .1, omega (arith, v .2), v .3, v .4, v .5)
+
+  -- and where there is such a list the test fails
+  pub end-fails : Sound P → Sound Q → (t : List ℕ) (left n m : ℕ) → walk (graph P) n t < P .n → walk (graph Q) m t < Q .n
+      → faulty to P Q left (walk (graph P) n t) (walk (graph Q) m t) ≡ true → failsFrom to P Q (length t + left) n m ≡ true
+  unfolding walk
+  end-fails op oq [] zero n m a b f = unfold failsFrom faulty in f
+  end-fails op oq [] (suc left) n m a b f = rw (zero-add (suc left)) (fails-next to P Q left n m .1 (pick (faulty-means to P Q left n m .0 f)))
+    where
+      pick : (hasStray (P .e) (row P n) (row Q m) ≡ true) ⊎ StopsAt to P Q n m
+          → (hasStray (P .e) (row P n) (row Q m) ≡ true) ⊎ (StopsAt to P Q n m ⊎ FailsOn to P Q left n m)
+      pick (inl s) = inl s
+      pick (inr s) = inr (inl s)
+  end-fails op oq (i ∷ t) left n m a b f =
+      let p : step P n i < P .n = ahead (op .graphed) (step P n i) t a in
+      let q : step Q m i < Q .n = ahead (oq .graphed) (step Q m i) t b in
+      rw (suc-add (length t) left)
+      (fails-next to P Q (length t + left) n m .1
+      (inr (inr (i, op .graphed .labels n i p, p, q, end-fails op oq t left (step P n i) (step Q m i) a b f))))
+
+  -- the test fails exactly if, for some j up to k, some pair reached in j common events is faulty with k - j to go
+  pub fails-layers : Sound P → Sound Q → (k : ℕ)
+      → failsFrom to P Q k 0 0 ≡ any (λ j. any (λ n. any (λ m. pairReached (graph P) (graph Q) j n m && faulty to P Q (k - j) n m) (Q .n)) (P .n)) (suc k)
+  fails-layers op oq k = same (failsFrom to P Q k 0 0) (any layer (suc k)) forth back
+    where
+      at : ℕ → ℕ → ℕ → Bool
+      at j n m = pairReached (graph P) (graph Q) j n m && faulty to P Q (k - j) n m
+
+      layer : ℕ → Bool
+      layer j = any (λ n. any (at j n) (Q .n)) (P .n)
+
+      forth : failsFrom to P Q k 0 0 ≡ true → any layer (suc k) ≡ true
+      forth f = end (fails-end k 0 0 (op .graphed .start) (oq .graphed .start) f)
+        where
+          end : FaultyEnd to P Q k 0 0 → any layer (suc k) ≡ true
+          end (t, left, e, a, b, f) =
+              let s : left ≡ k - length t = omega arith in
+              let v = walk (graph P) 0 t in
+              let w = walk (graph Q) 0 t in
+              any← layer (suc k) (length t) (omega arith)
+              (any← (λ n. any (at (length t) n) (Q .n)) (P .n) v a
+              (any← (at (length t) v) (Q .n) w b
+              (and-i (pairReached-means (op .graphed) (oq .graphed) (length t) v w a b .1 (t, refl, refl, refl)) (rw s at f))))
+
+      back : any layer (suc k) ≡ true → failsFrom to P Q k 0 0 ≡ true
+      back f =
+          let j = any→ layer (suc k) f in
+          let n = any→ (λ n. any (at (j .0) n) (Q .n)) (P .n) (j .2) in
+          let m = any→ (at (j .0) (n .0)) (Q .n) (n .2) in
+          end (j .0) (n .0) (m .0) (j .1) (n .1) (m .1)
+          (pairReached-means (op .graphed) (oq .graphed) (j .0) (n .0) (m .0) (n .1) (m .1) .0 (and-l (pairReached (graph P) (graph Q) (j .0) (n .0) (m .0)) _ (m .2)))
+          (and-r (pairReached (graph P) (graph Q) (j .0) (n .0) (m .0)) _ (m .2))
+        where
+          end : (j n m : ℕ) → j < suc k → n < P .n → m < Q .n → PairReachedIn (graph P) (graph Q) j n m
+              → faulty to P Q (k - j) n m ≡ true → failsFrom to P Q k 0 0 ≡ true
+          end j n m l a b (t, e, u, v) f =
+              let s : length t + (k - j) ≡ k = omega arith in
+              rw s at (end-fails op oq t (k - j) 0 0 (rw u a) (rw v b) (rw (u, v) f))

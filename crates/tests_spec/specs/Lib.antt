@@ -1,0 +1,10 @@
+pub mod Runs
+pub mod Verdicts
+pub mod Numbers
+pub mod Offers
+pub mod Blocks
+pub mod RunLaws
+pub mod Layers
+pub mod VerdictLaws
+pub mod TestLaws
+pub mod Cases

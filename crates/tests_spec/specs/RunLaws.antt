@@ -1,0 +1,493 @@
+-- The rules of a live run (01, "Test k and a live run" and "Who can cause a refusal"): what is refused, what each report is
+-- answered, and how many reports a run takes.
+use mathlib.Core.Path.{_≡_, refl, sym, ap, _∙_}
+use mathlib.Core.Logic.{_⊎_, inl, inr, _≢_, _↔_}
+use mathlib.Core.Bool.{Bool, true, false, not}
+use mathlib.Core.List.{List, [], _∷_}
+use Prim.Native.Nat.{ℕ, _+_, _-_, _≤_, _<_}
+use native.Mathlib.Omega.{arith}
+use lib.Dec.{eqb, ltb, leb}
+use borrow.Author.Tests.{eqb-true, eqb-false, eq-eqb, ne-eqb, lt-ltb, le-ltb}
+use Rattle.base.specs.Truth.{dec, clash, lt-or-ge, or-r, not-i}
+use Rattle.base.specs.Finds.{Finds, finds-le, finds-lt, finds-and, finds-not}
+use Rattle.base.specs.Refusal.{unless, unless-hit, unless-pass, unless-none, unless-other, orElse-some, orElse-first, orElse-then}
+use Rattle.events.specs.Bit.{bit}
+use Rattle.events.specs.Sets.{has, has→, has←}
+use Rattle.sheet_spec.specs.declared.Sheet.{Sheet}
+use Rattle.sheet_spec.specs.Kept.{row, successor, initials, mayStop}
+use Rattle.sheet_spec.specs.Faults.{Initial}
+use Rattle.sheet_spec.specs.Rules.{sheetFault}
+use Rattle.sheet_spec.specs.RuleLaws.{Ranges, initials→, initials←}
+use Rattle.sheet_spec.specs.CheckLaws.{check-numbers, further, finally}
+use Rattle.sheet_spec.specs.Sound.{Sound, check-sound}
+use Rattle.tests_spec.specs.declared.Run.{Run}
+use Rattle.tests_spec.specs.declared.Report.{Report}
+use Rattle.tests_spec.specs.declared.Report.the-variants.{Event, Blocked}
+use Rattle.tests_spec.specs.declared.Answer.{Answer}
+use Rattle.tests_spec.specs.declared.Answer.the-variants.{Going, Stray, Refused, Passed, Denied}
+use Rattle.tests_spec.specs.declared.Stepped.{Stepped}
+use Rattle.tests_spec.specs.Runs.{offerOf, newRun, zeroRun, openFault, openOf, recordOk, eventFault, reportFault, movedBy, endedRun, answerOf, stepOf}
+use Rattle.tests_spec.specs.Numbers.{said}
+
+-- an answer with its record
+abbrev pub with : Answer → Run → Stepped
+with a r = record { answer = a; run = r }
+
+-- a sheet gives no refusal from 9 on
+pub sheet-small : (s : Sheet) (m : ℕ) → 8 < m → sheetFault s ≢ m
+sheet-small s m l e = go (check-numbers s m e)
+  where
+    go : (m ≡ 0) ⊎ ((m ≡ 3) ⊎ ((m ≡ 5) ⊎ ((m ≡ 6) ⊎ ((m ≡ 7) ⊎ (m ≡ 8))))) → ⊥
+    go (inl e) = omega arith
+    go (inr (inl e)) = omega arith
+    go (inr (inr (inl e))) = omega arith
+    go (inr (inr (inr (inl e)))) = omega arith
+    go (inr (inr (inr (inr (inl e))))) = omega arith
+    go (inr (inr (inr (inr (inr e))))) = omega arith
+
+-- Opening.
+module _ (s : Sheet) (k : ℕ) where
+  -- a sheet that is refused is refused with its own number
+  pub open-sheet : (m : ℕ) → 0 < m → m < 9 → (openFault s k ≡ m) ↔ (sheetFault s ≡ m)
+  unfolding openFault
+  open-sheet m z l =
+      orElse-first (sheetFault s) (unless (leb k 1023) 14 0) m (λ e. omega arith) (unless-other (leb k 1023) (λ e. omega arith) (λ e. omega arith))
+
+  -- 14: k is above 1,023
+  pub open-14 : (openFault s k ≡ 14) ↔ ((sheetFault s ≡ 0) × (1023 < k))
+  unfolding openFault
+  open-14 =
+      finally (orElse-then (sheetFault s) (unless (leb k 1023) 14 0) 14 (inl (sheet-small s 14 (omega arith))))
+      (λ h. unless-hit 14 0 (finds-le k 1023) (λ e. omega arith))
+
+  -- no refusal: the sheet is accepted and k is not above 1,023
+  pub open-0 : (openFault s k ≡ 0) ↔ ((sheetFault s ≡ 0) × (¬ (1023 < k)))
+  unfolding openFault
+  open-0 =
+      finally (orElse-then (sheetFault s) (unless (leb k 1023) 14 0) 0 (inr refl)) (λ h. unless-none 14 (finds-le k 1023) (λ e. omega arith))
+
+  module _ (h : ℕ) (to : Bool) where
+    -- an opening that is not refused has the first offer and the record of a run at its start
+    pub open-going : openFault s k ≡ 0 → openOf s k h to ≡ with (Going (offerOf s (newRun k h to))) (newRun k h to)
+    unfolding openOf
+    open-going z = rw (eq-eqb (openFault s k) 0 z)
+
+    -- one that is refused has its number and a record of zeros
+    pub open-denied : openFault s k ≢ 0 → openOf s k h to ≡ with (Denied (openFault s k)) zeroRun
+    unfolding openOf
+    open-denied z = rw (ne-eqb (openFault s k) 0 z)
+
+    -- no run is passed, nor ended in any way, before a report: opening goes on or is refused
+    pub open-answers : ((x : ℕ) × (openOf s k h to .answer ≡ Going x)) ⊎ ((m : ℕ) × (m ≢ 0) × (openOf s k h to .answer ≡ Denied m))
+    open-answers = go (dec (eqb (openFault s k) 0))
+      where
+        go : (eqb (openFault s k) 0 ≡ true) ⊎ (eqb (openFault s k) 0 ≡ false)
+            → ((x : ℕ) × (openOf s k h to .answer ≡ Going x)) ⊎ ((m : ℕ) × (m ≢ 0) × (openOf s k h to .answer ≡ Denied m))
+        go (inl t) = inl (offerOf s (newRun k h to), ap (λ (z : Stepped). z .answer) (open-going (eqb-true _ 0 t)))
+        go (inr t) = let n = eqb-false (openFault s k) 0 t in inr (openFault s k, n, ap (λ (z : Stepped). z .answer) (open-denied n))
+
+-- A report: what 15, 17 and 9 are.
+-- 15: an event that the sheet has not
+unfoldable pub Beyond : Sheet → Report → Type 0
+Beyond s (Event i) = s .e ≤ i
+Beyond s Blocked = ⊥
+
+-- 17: an event that is not offered
+unfoldable pub NotOffered : Sheet → Run → Report → Type 0
+NotOffered s r (Event i) = bit (offerOf s r) i ≢ 1
+NotOffered s r Blocked = ⊥
+
+-- 9: the node is not on the sheet, the depth exceeds k, or k is above 1,023
+abbrev pub RecordFault : Sheet → Run → Type 0
+RecordFault s r = (s .n ≤ r .node) ⊎ ((r .k < r .depth) ⊎ (1023 < r .k))
+
+-- the sheet is accepted; and the run has not ended; and its record is good
+abbrev pub Shown : Sheet → Run → Type 0
+Shown s r = (sheetFault s ≡ 0) × (¬ (r .ended ≡ true))
+
+abbrev pub Kept : Sheet → Run → Type 0
+Kept s r = Shown s r × (¬ RecordFault s r)
+
+record-finds : (s : Sheet) (r : Run) → Finds (recordOk s r) (RecordFault s r)
+unfolding recordOk
+record-finds s r = finds-and (finds-lt (r .node) (s .n)) (finds-and (finds-le (r .depth) (r .k)) (finds-le (r .k) 1023))
+
+ended-finds : (b : Bool) → Finds (not b) (b ≡ true)
+ended-finds b = finds-not (λ t. t) (λ t x. clash x t)
+
+has-finds : (X i : ℕ) → Finds (has X i) (bit X i ≢ 1)
+has-finds X i = record { clear = λ t n. n (has→ X i t); fault = λ t e. clash (has← X i e) t }
+
+event-15 : (s : Sheet) (r : Run) (x : Report) → (eventFault s r x ≡ 15) ↔ Beyond s x
+unfolding eventFault Beyond
+event-15 s r (Event i) =
+    unless-hit 15 (unless (has (offerOf s r) i) 17 0) (finds-lt i (s .e)) (unless-other (has (offerOf s r) i) (λ e. omega arith) (λ e. omega arith))
+event-15 s r Blocked = (λ e. absurd (omega arith), λ e. absurd e)
+
+event-17 : (s : Sheet) (r : Run) (x : Report) → (eventFault s r x ≡ 17) ↔ ((¬ Beyond s x) × NotOffered s r x)
+unfolding eventFault Beyond NotOffered
+event-17 s r (Event i) =
+    finally (unless-pass 15 (unless (has (offerOf s r) i) 17 0) 17 (finds-lt i (s .e)) (λ e. omega arith))
+    (λ h. unless-hit 17 0 (has-finds (offerOf s r) i) (λ e. omega arith))
+event-17 s r Blocked = (λ e. absurd (omega arith), λ e. absurd (e .1))
+
+event-0 : (s : Sheet) (r : Run) (x : Report) → (eventFault s r x ≡ 0) ↔ ((¬ Beyond s x) × (¬ NotOffered s r x))
+unfolding eventFault Beyond NotOffered
+event-0 s r (Event i) =
+    finally (unless-pass 15 (unless (has (offerOf s r) i) 17 0) 0 (finds-lt i (s .e)) (λ e. omega arith))
+    (λ h. unless-none 17 (has-finds (offerOf s r) i) (λ e. omega arith))
+event-0 s r Blocked = (λ e. (λ x. x, λ x. x), λ e. refl)
+
+event-numbers : (s : Sheet) (r : Run) (x : Report) (m : ℕ) → m ≢ 0 → m ≢ 15 → m ≢ 17 → eventFault s r x ≢ m
+unfolding eventFault
+event-numbers s r (Event i) m a b c = unless-other (ltb i (s .e)) (λ e. b (sym e)) (unless-other (has (offerOf s r) i) (λ e. c (sym e)) (λ e. a (sym e)))
+event-numbers s r Blocked m a b c = λ e. a (sym e)
+
+module _ (s : Sheet) (r : Run) (x : Report) where
+  after9 : ℕ
+  after9 = eventFault s r x
+
+  after16 : ℕ
+  after16 = unless (recordOk s r) 9 (eventFault s r x)
+
+  after-sheet : ℕ
+  after-sheet = unless (not (r .ended)) 16 (unless (recordOk s r) 9 (eventFault s r x))
+
+  pass-sheet : (m : ℕ) → (8 < m) ⊎ (m ≡ 0) → (reportFault s r x ≡ m) ↔ ((sheetFault s ≡ 0) × (after-sheet ≡ m))
+  unfolding reportFault after-sheet
+  pass-sheet m (inl l) = orElse-then (sheetFault s) after-sheet m (inl (sheet-small s m l))
+  pass-sheet m (inr z) = orElse-then (sheetFault s) after-sheet m (inr z)
+
+  pass-16 : (m : ℕ) → (8 < m) ⊎ (m ≡ 0) → 16 ≢ m → (reportFault s r x ≡ m) ↔ (Shown s r × (after16 ≡ m))
+  unfolding after-sheet after16
+  pass-16 m c n = further (pass-sheet m c) (λ h. unless-pass 16 after16 m (ended-finds (r .ended)) n)
+
+  pass-9 : (m : ℕ) → (8 < m) ⊎ (m ≡ 0) → 16 ≢ m → 9 ≢ m → (reportFault s r x ≡ m) ↔ (Kept s r × (after9 ≡ m))
+  unfolding after16 after9
+  pass-9 m c n o = further (pass-16 m c n) (λ h. unless-pass 9 after9 m (record-finds s r) o)
+
+  -- a sheet that is refused is refused with its own number
+  pub report-sheet : (m : ℕ) → 0 < m → m < 9 → (reportFault s r x ≡ m) ↔ (sheetFault s ≡ m)
+  unfolding reportFault
+  report-sheet m z l =
+      orElse-first (sheetFault s) _ m (λ e. omega arith)
+      (unless-other (not (r .ended)) (λ e. omega arith)
+      (unless-other (recordOk s r) (λ e. omega arith) (event-numbers s r x m (λ e. omega arith) (λ e. omega arith) (λ e. omega arith))))
+
+  -- 16: the run has ended
+  pub report-16 : (reportFault s r x ≡ 16) ↔ ((sheetFault s ≡ 0) × (r .ended ≡ true))
+  unfolding after-sheet
+  report-16 =
+      finally (pass-sheet 16 (inl (omega arith)))
+      (λ h. unless-hit 16 _ (ended-finds (r .ended))
+      (unless-other (recordOk s r) (λ e. omega arith) (event-numbers s r x 16 (λ e. omega arith) (λ e. omega arith) (λ e. omega arith))))
+
+  -- 9: the record does not fit the sheet
+  pub report-9 : (reportFault s r x ≡ 9) ↔ (Shown s r × RecordFault s r)
+  unfolding after16
+  report-9 =
+      finally (pass-16 9 (inl (omega arith)) (λ e. omega arith))
+      (λ h. unless-hit 9 _ (record-finds s r) (event-numbers s r x 9 (λ e. omega arith) (λ e. omega arith) (λ e. omega arith)))
+
+  -- 15: an event that the sheet has not
+  pub report-15 : (reportFault s r x ≡ 15) ↔ (Kept s r × Beyond s x)
+  unfolding after9
+  report-15 = finally (pass-9 15 (inl (omega arith)) (λ e. omega arith) (λ e. omega arith)) (λ h. event-15 s r x)
+
+  -- 17: an event that is not offered
+  pub report-17 : (reportFault s r x ≡ 17) ↔ ((Kept s r × (¬ Beyond s x)) × NotOffered s r x)
+  unfolding after9
+  report-17 = further (pass-9 17 (inl (omega arith)) (λ e. omega arith) (λ e. omega arith)) (λ h. event-17 s r x)
+
+  -- no refusal: none of these holds
+  pub report-0 : (reportFault s r x ≡ 0) ↔ ((Kept s r × (¬ Beyond s x)) × (¬ NotOffered s r x))
+  unfolding after9
+  report-0 = further (pass-9 0 (inr refl) (λ e. omega arith) (λ e. omega arith)) (λ h. event-0 s r x)
+
+  -- a report that is refused is answered with its number, and the record is as it came
+  pub step-denied : reportFault s r x ≢ 0 → stepOf s r x ≡ with (Denied (reportFault s r x)) r
+  unfolding stepOf
+  step-denied n = rw (ne-eqb (reportFault s r x) 0 n)
+
+  -- one that is not refused is answered by the rules
+  pub step-answers : reportFault s r x ≡ 0 → stepOf s r x ≡ answerOf s r x
+  unfolding stepOf
+  step-answers z = rw (eq-eqb (reportFault s r x) 0 z)
+
+-- what a report that is not refused says of the run and the sheet
+pub unrefused : (s : Sheet) (r : Run) (x : Report) → reportFault s r x ≡ 0 → (sheetFault s ≡ 0) × (¬ (r .ended ≡ true))
+unrefused s r x z = report-0 s r x .0 z .0 .0 .0
+
+module _ (s : Sheet) (r : Run) where
+  -- an event outside the initials: ended, failed as stray, with that event
+  pub stray-step : (i : ℕ) → reportFault s r (Event i) ≡ 0 → ¬ Initial (s .e) (row s (r .node)) i → stepOf s r (Event i) ≡ with (Stray i) (endedRun r)
+  unfolding answerOf
+  stray-step i z n = step-answers s r (Event i) z ∙ rw out
+    where
+      small : s .e ≤ 12
+      small = check-sound s (unrefused s r (Event i) z .0) .ranges .e-high
+
+      out : has (initials (s .e) (row s (r .node))) i ≡ false
+      out = not-i (λ t. n (initials→ (s .e) (row s (r .node)) small i (has→ _ i t)))
+
+  -- an event inside them is found among them
+  inner : (i : ℕ) → reportFault s r (Event i) ≡ 0 → Initial (s .e) (row s (r .node)) i → has (initials (s .e) (row s (r .node))) i ≡ true
+  inner i z a = has← _ i (initials← (s .e) (row s (r .node)) (check-sound s (unrefused s r (Event i) z .0) .ranges .e-high) i a)
+
+  -- an event inside them below depth k: the run moves on and the depth grows by one
+  pub moving-step : (i : ℕ) → reportFault s r (Event i) ≡ 0 → Initial (s .e) (row s (r .node)) i → r .depth < r .k
+      → stepOf s r (Event i) ≡ with (Going (offerOf s (movedBy s r i))) (movedBy s r i)
+  unfolding answerOf
+  moving-step i z a l = step-answers s r (Event i) z ∙ rw (inner i z a, lt-ltb (r .depth) (r .k) l)
+
+  -- an event inside them at depth k: the run has passed
+  pub passing-step : (i : ℕ) → reportFault s r (Event i) ≡ 0 → Initial (s .e) (row s (r .node)) i → r .k ≤ r .depth
+      → stepOf s r (Event i) ≡ with Passed (endedRun r)
+  unfolding answerOf
+  passing-step i z a l = step-answers s r (Event i) z ∙ rw (inner i z a, le-ltb (r .depth) (r .k) l)
+
+  -- blocked: passed in a trace-only run and where the node may stop
+  pub blocked-passes : reportFault s r Blocked ≡ 0 → (r .traces ≡ true) ⊎ (mayStop (row s (r .node)) ≡ true) → stepOf s r Blocked ≡ with Passed (endedRun r)
+  unfolding answerOf
+  blocked-passes z (inl t) = step-answers s r Blocked z ∙ rw t
+  blocked-passes z (inr m) = step-answers s r Blocked z ∙ rw (or-r (r .traces) m)
+
+  -- blocked otherwise: ended, failed as refused, with the set offered
+  pub blocked-refused : reportFault s r Blocked ≡ 0 → r .traces ≡ false → mayStop (row s (r .node)) ≡ false
+      → stepOf s r Blocked ≡ with (Refused (offerOf s r)) (endedRun r)
+  unfolding answerOf
+  blocked-refused z t m = step-answers s r Blocked z ∙ rw (t, m)
+
+-- What becomes of a report: it is refused and alters nothing, or moves the run on below depth k, or ends it.
+pub data Taken (s : Sheet) (r : Run) (x : Report) : Type 0 where
+  denies : reportFault s r x ≢ 0 → stepOf s r x ≡ with (Denied (reportFault s r x)) r → Taken s r x
+  moves : (i : ℕ) → x ≡ Event i → reportFault s r x ≡ 0 → Initial (s .e) (row s (r .node)) i → r .depth < r .k
+      → stepOf s r x ≡ with (Going (offerOf s (movedBy s r i))) (movedBy s r i) → Taken s r x
+  strays : (i : ℕ) → x ≡ Event i → reportFault s r x ≡ 0 → ¬ Initial (s .e) (row s (r .node)) i → stepOf s r x ≡ with (Stray i) (endedRun r) → Taken s r x
+  refuses : x ≡ Blocked → reportFault s r x ≡ 0 → r .traces ≡ false → mayStop (row s (r .node)) ≡ false
+      → stepOf s r x ≡ with (Refused (offerOf s r)) (endedRun r) → Taken s r x
+  passes : reportFault s r x ≡ 0 → stepOf s r x ≡ with Passed (endedRun r) → Taken s r x
+
+-- every report is one of these
+pub taken : (s : Sheet) (r : Run) (x : Report) → Taken s r x
+taken s r x = go (dec (eqb (reportFault s r x) 0))
+  where
+    answered : (x : Report) → reportFault s r x ≡ 0 → Taken s r x
+    answered (Event i) z = pick (dec (has (initials (s .e) (row s (r .node))) i)) (lt-or-ge (r .depth) (r .k))
+      where
+        small : s .e ≤ 12
+        small = check-sound s (unrefused s r (Event i) z .0) .ranges .e-high
+
+        initial : has (initials (s .e) (row s (r .node))) i ≡ true → Initial (s .e) (row s (r .node)) i
+        initial t = initials→ (s .e) (row s (r .node)) small i (has→ _ i t)
+
+        pick : (has (initials (s .e) (row s (r .node))) i ≡ true) ⊎ (has (initials (s .e) (row s (r .node))) i ≡ false) → (r .depth < r .k) ⊎ (r .k ≤ r .depth)
+            → Taken s r (Event i)
+        pick (inl t) (inl l) = moves i refl z (initial t) l (moving-step s r i z (initial t) l)
+        pick (inl t) (inr l) = passes z (passing-step s r i z (initial t) l)
+        pick (inr t) d =
+            let n : ¬ Initial (s .e) (row s (r .node)) i = λ a. clash (inner s r i z a) t in
+            strays i refl z n (stray-step s r i z n)
+    answered Blocked z = pick (dec (r .traces)) (dec (mayStop (row s (r .node))))
+      where
+        pick : (r .traces ≡ true) ⊎ (r .traces ≡ false) → (mayStop (row s (r .node)) ≡ true) ⊎ (mayStop (row s (r .node)) ≡ false) → Taken s r Blocked
+        pick (inl t) m = passes z (blocked-passes s r z (inl t))
+        pick (inr t) (inl m) = passes z (blocked-passes s r z (inr m))
+        pick (inr t) (inr m) = refuses refl z t m (blocked-refused s r z t m)
+
+    go : (eqb (reportFault s r x) 0 ≡ true) ⊎ (eqb (reportFault s r x) 0 ≡ false) → Taken s r x
+    go (inl t) = answered x (eqb-true _ 0 t)
+    go (inr t) = let n = eqb-false (reportFault s r x) 0 t in denies n (step-denied s r x n)
+
+-- the numbers of the answer and its record, read off an equation of a step
+pub answer-of : {z : Stepped} {a : Answer} {r : Run} → z ≡ with a r → z .answer ≡ a
+answer-of e = ap (λ (z : Stepped). z .answer) e
+
+pub run-of : {z : Stepped} {a : Answer} {r : Run} → z ≡ with a r → z .run ≡ r
+run-of e = ap (λ (z : Stepped). z .run) e
+
+-- an answer has one kind
+pub kind-once : {a b : Answer} → a ≡ b → said a .kind ≡ said b .kind
+kind-once e = ap (λ (z : Answer). said z .kind) e
+
+-- and one value
+pub value-once : {a b : Answer} → a ≡ b → said a .value ≡ said b .value
+value-once e = ap (λ (z : Answer). said z .value) e
+
+-- an opening is answered with a refusal exactly if it has that number
+pub open-refused : (s : Sheet) (k h : ℕ) (to : Bool) (m : ℕ) → (openOf s k h to .answer ≡ Denied m) ↔ ((openFault s k ≡ m) × (m ≢ 0))
+unfolding said
+open-refused s k h to m = (λ e. forth e (dec (eqb (openFault s k) 0)), back)
+  where
+    forth : openOf s k h to .answer ≡ Denied m → (eqb (openFault s k) 0 ≡ true) ⊎ (eqb (openFault s k) 0 ≡ false) → (openFault s k ≡ m) × (m ≢ 0)
+    forth e (inl t) = absurd (omega (arith, kind-once (sym (answer-of (open-going s k h to (eqb-true _ 0 t))) ∙ e)))
+    forth e (inr t) =
+        let n = eqb-false (openFault s k) 0 t in
+        let q : openFault s k ≡ m = ap (λ (z : Answer). said z .refusal) (sym (answer-of (open-denied s k h to n)) ∙ e) in
+        (q, λ z. n (q ∙ z))
+
+    back : (openFault s k ≡ m) × (m ≢ 0) → openOf s k h to .answer ≡ Denied m
+    back (e, n) = answer-of (open-denied s k h to (λ z. n (sym e ∙ z))) ∙ ap Denied e
+
+-- the record q is r moved on by event i
+pub record Moved (s : Sheet) (r : Run) (i : ℕ) (q : Run) : Type 0 where
+  pub depth : q .depth ≡ r .depth + 1
+  pub node : q .node ≡ successor (row s (r .node)) i
+  pub k : q .k ≡ r .k
+  pub h : q .h ≡ r .h
+  pub traces : q .traces ≡ r .traces
+  pub ended : q .ended ≡ r .ended
+
+-- the record q is r, ended
+pub record Marked (r q : Run) : Type 0 where
+  pub ended : q .ended ≡ true
+  pub node : q .node ≡ r .node
+  pub depth : q .depth ≡ r .depth
+  pub k : q .k ≡ r .k
+  pub h : q .h ≡ r .h
+  pub traces : q .traces ≡ r .traces
+
+module _ (s : Sheet) (r : Run) (x : Report) where
+  -- a refusal is answered exactly with the number of the report's refusal
+  pub step-refused : (m : ℕ) → (stepOf s r x .answer ≡ Denied m) ↔ ((reportFault s r x ≡ m) × (m ≢ 0))
+  unfolding said
+  step-refused m = (λ e. forth e (taken s r x), back)
+    where
+      forth : stepOf s r x .answer ≡ Denied m → Taken s r x → (reportFault s r x ≡ m) × (m ≢ 0)
+      forth e (denies n p) = let q : reportFault s r x ≡ m = ap (λ (z : Answer). said z .refusal) (sym (answer-of p) ∙ e) in (q, λ z. n (q ∙ z))
+      forth e (moves i _ z a l p) = absurd (omega (arith, kind-once (sym (answer-of p) ∙ e)))
+      forth e (strays i _ z n p) = absurd (omega (arith, kind-once (sym (answer-of p) ∙ e)))
+      forth e (refuses _ z t m p) = absurd (omega (arith, kind-once (sym (answer-of p) ∙ e)))
+      forth e (passes z p) = absurd (omega (arith, kind-once (sym (answer-of p) ∙ e)))
+
+      back : (reportFault s r x ≡ m) × (m ≢ 0) → stepOf s r x .answer ≡ Denied m
+      back (e, n) = answer-of (step-denied s r x (λ z. n (sym e ∙ z))) ∙ ap Denied e
+
+  -- a refused report leaves the record as it came
+  pub denied-still : (m : ℕ) → stepOf s r x .answer ≡ Denied m → stepOf s r x .run ≡ r
+  denied-still m e = let w = step-refused m .0 e in run-of (step-denied s r x (λ z. w .1 (sym (w .0) ∙ z)))
+
+  -- an ended run, shown an accepted sheet, answers 16 and its record stays
+  pub ended-16 : sheetFault s ≡ 0 → r .ended ≡ true → stepOf s r x ≡ with (Denied 16) r
+  ended-16 z t =
+      let q : reportFault s r x ≡ 16 = report-16 s r x .1 (z, t) in
+      step-denied s r x (λ e. omega (arith, q)) ∙ rw q
+
+  -- shown any other sheet, every run answers that sheet's number and its record stays
+  pub sheet-refused : sheetFault s ≢ 0 → stepOf s r x ≡ with (Denied (sheetFault s)) r
+  sheet-refused n = step-denied s r x (λ e. n (sym q ∙ e)) ∙ rw q
+    where
+      q : reportFault s r x ≡ sheetFault s
+      q = unfold reportFault in orElse-some (sheetFault s) _ (omega (arith, n))
+
+  -- so an ended run's record never changes
+  pub ended-still : r .ended ≡ true → stepOf s r x .run ≡ r
+  ended-still t = go (dec (eqb (sheetFault s) 0))
+    where
+      go : (eqb (sheetFault s) 0 ≡ true) ⊎ (eqb (sheetFault s) 0 ≡ false) → stepOf s r x .run ≡ r
+      go (inl z) = run-of (ended-16 (eqb-true _ 0 z) t)
+      go (inr z) = run-of (sheet-refused (eqb-false (sheetFault s) 0 z))
+
+  -- a trace-only run never answers "refused"
+  pub traces-unrefused : r .traces ≡ true → (X : ℕ) → stepOf s r x .answer ≢ Refused X
+  unfolding said
+  traces-unrefused t X e = go (taken s r x)
+    where
+      go : Taken s r x → ⊥
+      go (denies n p) = omega (arith, kind-once (sym (answer-of p) ∙ e))
+      go (moves i _ z a l p) = omega (arith, kind-once (sym (answer-of p) ∙ e))
+      go (strays i _ z n p) = omega (arith, kind-once (sym (answer-of p) ∙ e))
+      go (refuses _ z f m p) = clash t f
+      go (passes z p) = omega (arith, kind-once (sym (answer-of p) ∙ e))
+
+  -- a report with which the run goes on is an event; the run, at most k deep, is one deeper and at the event's successor, and
+  -- nothing else of it alters; the answer has its next offer
+  pub going-deeper : (X : ℕ) → stepOf s r x .answer ≡ Going X
+      → (i : ℕ) × (x ≡ Event i) × (r .depth < r .k) × Moved s r i (stepOf s r x .run) × (X ≡ offerOf s (stepOf s r x .run))
+  unfolding said movedBy
+  going-deeper X e = go (taken s r x)
+    where
+      go : Taken s r x → (i : ℕ) × (x ≡ Event i) × (r .depth < r .k) × Moved s r i (stepOf s r x .run) × (X ≡ offerOf s (stepOf s r x .run))
+      go (denies n p) = absurd (omega (arith, kind-once (sym (answer-of p) ∙ e)))
+      go (moves i q z a l p) = (
+        i,
+        q,
+        l,
+        rw (run-of p) (record { depth = refl; node = refl; k = refl; h = refl; traces = refl; ended = refl }),
+        sym (value-once (sym (answer-of p) ∙ e)) ∙ ap (offerOf s) (sym (run-of p)),
+      )
+      go (strays i _ z n p) = absurd (omega (arith, kind-once (sym (answer-of p) ∙ e)))
+      go (refuses _ z f m p) = absurd (omega (arith, kind-once (sym (answer-of p) ∙ e)))
+      go (passes z p) = absurd (omega (arith, kind-once (sym (answer-of p) ∙ e)))
+
+  -- an answer that neither refuses nor goes on ends the run: the record is marked, and nothing else of it alters
+  pub ending-marks : ((m : ℕ) → stepOf s r x .answer ≢ Denied m) → ((X : ℕ) → stepOf s r x .answer ≢ Going X) → Marked r (stepOf s r x .run)
+  unfolding endedRun
+  ending-marks a b = go (taken s r x)
+    where
+      marked : {a : Answer} → stepOf s r x ≡ with a (endedRun r) → Marked r (stepOf s r x .run)
+      marked p = rw (run-of p) (record { ended = refl; node = refl; depth = refl; k = refl; h = refl; traces = refl })
+
+      go : Taken s r x → Marked r (stepOf s r x .run)
+      go (denies n p) = absurd (a (reportFault s r x) (answer-of p))
+      go (moves i _ z u l p) = absurd (b (offerOf s (movedBy s r i)) (answer-of p))
+      go (strays i _ z n p) = marked p
+      go (refuses _ z f m p) = marked p
+      go (passes z p) = marked p
+
+-- 1 for an answer that is not a refusal
+unfoldable pub counts : Answer → ℕ
+counts (Going x) = 1
+counts (Stray i) = 1
+counts (Refused x) = 1
+counts Passed = 1
+counts (Denied m) = 0
+
+-- how many of a sequence of reports, each shown some sheet, are not denied
+unfoldable pub accepted : Run → List (Sheet × Report) → ℕ
+accepted r [] = 0
+accepted r (l ∷ ls) = counts (stepOf (l .0) r (l .1) .answer) + accepted (stepOf (l .0) r (l .1) .run) ls
+
+-- the record after all of them
+unfoldable pub runAfter : Run → List (Sheet × Report) → Run
+runAfter r [] = r
+runAfter r (l ∷ ls) = runAfter (stepOf (l .0) r (l .1) .run) ls
+
+-- whatever an ended run is shown, its record stays
+pub ended-stays : (ls : List (Sheet × Report)) (r : Run) → r .ended ≡ true → runAfter r ls ≡ r
+unfolding runAfter
+ended-stays [] r t = refl
+ended-stays (l ∷ ls) r t = rw (ended-still (l .0) r (l .1) t) (ended-stays ls r t)
+
+-- and it accepts nothing
+pub ended-none : (ls : List (Sheet × Report)) (r : Run) → r .ended ≡ true → accepted r ls ≡ 0
+unfolding accepted counts
+ended-none [] r t = refl
+ended-none (l ∷ ls) r t = go (taken (l .0) r (l .1)) (ended-none ls r t)
+  where
+    live : reportFault (l .0) r (l .1) ≢ 0
+    live z = unrefused (l .0) r (l .1) z .1 t
+
+    go : Taken (l .0) r (l .1) → accepted r ls ≡ 0 → counts (stepOf (l .0) r (l .1) .answer) + accepted (stepOf (l .0) r (l .1) .run) ls ≡ 0
+    go (denies n p) ih = rw p (omega arith)
+    go (moves i _ z a h p) ih = absurd (live z)
+    go (strays i _ z n p) ih = absurd (live z)
+    go (refuses _ z f m p) ih = absurd (live z)
+    go (passes z p) ih = absurd (live z)
+
+-- over any sequence of sheets and reports a record with depth at most k has at most k + 1 - depth reports that are not denied
+pub accepted-bound : (ls : List (Sheet × Report)) (r : Run) → r .depth ≤ r .k → accepted r ls ≤ r .k + 1 - r .depth
+unfolding accepted counts movedBy endedRun
+accepted-bound [] r d = omega arith
+accepted-bound (l ∷ ls) r d = go (taken (l .0) r (l .1)) (accepted-bound ls)
+  where
+    last : accepted (endedRun r) ls ≡ 0
+    last = ended-none ls (endedRun r) refl
+
+    go : Taken (l .0) r (l .1) → ((r : Run) → r .depth ≤ r .k → accepted r ls ≤ r .k + 1 - r .depth)
+        → counts (stepOf (l .0) r (l .1) .answer) + accepted (stepOf (l .0) r (l .1) .run) ls ≤ r .k + 1 - r .depth
+    go (denies n p) ih = rw p (omega (arith, ih r d))
+    go (moves i _ z a h p) ih = rw p (omega (arith, ih (movedBy (l .0) r i) (omega arith)))
+    go (strays i _ z n p) ih = rw p (omega (arith, last))
+    go (refuses _ z f m p) ih = rw p (omega (arith, last))
+    go (passes z p) ih = rw p (omega (arith, last))

@@ -1,0 +1,97 @@
+-- Test k as a live run (01, "Test k and a live run"): what is offered, what a report is answered, and the record after it.
+use mathlib.Core.Bool.{Bool, true, false, not, _&&_, _||_, cond}
+use mathlib.Core.List.{List}
+use Prim.Native.Nat.{ℕ, _+_, _-_, _%_, _^_}
+use lib.Bits.{bitOr}
+use lib.Dec.{eqb, ltb, leb}
+use lib.ListN.{length, getD}
+use Rattle.base.specs.Refusal.{unless, orElse}
+use Rattle.events.specs.Sets.{has}
+use Rattle.sheet_spec.specs.declared.Sheet.{Sheet}
+use Rattle.sheet_spec.specs.Kept.{row, successor, acceptances, initials, mayStop}
+use Rattle.sheet_spec.specs.Rules.{sheetFault}
+use Rattle.probes_spec.specs.Probes.{probes}
+use Rattle.tests_spec.specs.declared.Run.{Run}
+use Rattle.tests_spec.specs.declared.Report.{Report}
+use Rattle.tests_spec.specs.declared.Report.the-variants.{Event, Blocked}
+use Rattle.tests_spec.specs.declared.Answer.{Answer}
+use Rattle.tests_spec.specs.declared.Answer.the-variants.{Going, Stray, Refused, Passed, Denied}
+use Rattle.tests_spec.specs.declared.Stepped.{Stepped}
+
+-- all e events, as a set
+unfoldable pub allEvents : ℕ → ℕ
+allEvents e = 2 ^ e - 1
+
+-- the events outside the initials of node v
+unfoldable pub outside : Sheet → ℕ → ℕ
+outside s v = allEvents (s .e) - initials (s .e) (row s v)
+
+-- the probes of node v
+unfoldable pub probesAt : Sheet → ℕ → List ℕ
+probesAt s v = probes (acceptances (row s v)) (s .e)
+
+-- probe number (h remainder m) of m probes, counted from 0; nothing where there is none
+unfoldable pub chosen : List ℕ → ℕ → ℕ
+chosen ps h = cond (eqb (length ps) 0) 0 (getD ps (h % length ps) 0)
+
+-- below depth k, and in a trace-only run, all events are offered; at depth k the chosen probe and all events outside the initials
+unfoldable pub offerOf : Sheet → Run → ℕ
+offerOf s r = cond (r .traces || ltb (r .depth) (r .k)) (allEvents (s .e)) (bitOr (chosen (probesAt s (r .node)) (r .h)) (outside s (r .node)))
+
+-- a run at its start
+unfoldable pub newRun : ℕ → ℕ → Bool → Run
+newRun k h traceOnly = record { k = k; h = h; traces = traceOnly; ended = false; node = 0; depth = 0 }
+
+-- a record with 0 in every place
+abbrev pub zeroRun : Run
+zeroRun = record { k = 0; h = 0; traces = false; ended = false; node = 0; depth = 0 }
+
+-- the refusal of an opening: the sheet's own; 14: k above 1,023
+unfoldable pub openFault : Sheet → ℕ → ℕ
+openFault s k = orElse (sheetFault s) (unless (leb k 1023) 14 0)
+
+-- opening answers with the first offer; refused, it has the number and a record of zeros
+unfoldable pub openOf : Sheet → ℕ → ℕ → Bool → Stepped
+openOf s k h traceOnly =
+    cond (eqb (openFault s k) 0)
+    (record { answer = Going (offerOf s (newRun k h traceOnly)); run = newRun k h traceOnly })
+    (record { answer = Denied (openFault s k); run = zeroRun })
+
+-- 9: the record's node is not on the sheet, its depth exceeds its k, or its k is above 1,023
+unfoldable pub recordOk : Sheet → Run → Bool
+recordOk s r = ltb (r .node) (s .n) && (leb (r .depth) (r .k) && leb (r .k) 1023)
+
+-- 15: an event not below E; 17: an event not offered; "blocked" is always a report
+unfoldable pub eventFault : Sheet → Run → Report → ℕ
+eventFault s r (Event i) = unless (ltb i (s .e)) 15 (unless (has (offerOf s r) i) 17 0)
+eventFault s r Blocked = 0
+
+-- the refusal of a report: the sheet's own; 16: the run has ended; 9; 15; 17
+unfoldable pub reportFault : Sheet → Run → Report → ℕ
+reportFault s r report = orElse (sheetFault s) (unless (not (r .ended)) 16 (unless (recordOk s r) 9 (eventFault s r report)))
+
+-- the run moved on by event i: its successor, and one more in depth
+unfoldable pub movedBy : Sheet → Run → ℕ → Run
+movedBy s r i = record { k = r .k; h = r .h; traces = r .traces; ended = r .ended; node = successor (row s (r .node)) i; depth = r .depth + 1 }
+
+-- an ending only marks the record; its node and depth stay
+unfoldable pub endedRun : Run → Run
+endedRun r = record { k = r .k; h = r .h; traces = r .traces; ended = true; node = r .node; depth = r .depth }
+
+-- an event outside the initials: failed as stray; inside them below depth k the run moves on, at depth k it has passed. Blocked:
+-- passed if the node may stop or the run is trace-only, else failed as refused with the set offered
+unfoldable pub answerOf : Sheet → Run → Report → Stepped
+answerOf s r (Event i) =
+    cond (has (initials (s .e) (row s (r .node))) i)
+    (cond (ltb (r .depth) (r .k))
+    (record { answer = Going (offerOf s (movedBy s r i)); run = movedBy s r i })
+    (record { answer = Passed; run = endedRun r }))
+    (record { answer = Stray i; run = endedRun r })
+answerOf s r Blocked =
+    cond (r .traces || mayStop (row s (r .node)))
+    (record { answer = Passed; run = endedRun r })
+    (record { answer = Refused (offerOf s r); run = endedRun r })
+
+-- a report is answered, or refused with its number and the record as it came
+unfoldable pub stepOf : Sheet → Run → Report → Stepped
+stepOf s r report = cond (eqb (reportFault s r report) 0) (answerOf s r report) (record { answer = Denied (reportFault s r report); run = r })

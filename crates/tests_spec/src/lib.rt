@@ -1,0 +1,44 @@
+// Numbered tests (01, "Test k and a live run"; 001's adaptive tests): the record of a live run, the reports of a device, the
+// answers, and the verdict on a device. The crate has the types; its specs say what each call answers and what a verdict means.
+// It has no function.
+
+// A live run: the test's number k, the choice number h, whether it is trace-only (`traces`), whether it has ended, the node reached on the
+// reference and how many events were accepted on the way.
+#[repr(C)]
+pub struct Run {
+    pub k: u16,
+    pub h: u16,
+    pub traces: bool,
+    pub ended: bool,
+    pub node: u8,
+    pub depth: u16,
+}
+
+// What the device did with the last offer: one of its events, or nothing.
+pub enum Report {
+    Event(u8),
+    Blocked,
+}
+
+// The answer to an opening or a report: the run goes on with the next offer, or has ended failed as stray with the event,
+// failed as refused with the set offered, or passed; or the call is refused with a number.
+pub enum Answer {
+    Going(u16),
+    Stray(u8),
+    Refused(u16),
+    Passed,
+    Denied(u8),
+}
+
+// An answer and the record beside it.
+pub struct Stepped {
+    pub answer: Answer,
+    pub run: Run,
+}
+
+// The verdict on a device, or the number of the refusal.
+pub enum Verdict {
+    Passes,
+    Fails,
+    Denied(u8),
+}

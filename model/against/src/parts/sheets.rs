@@ -1,0 +1,231 @@
+//! Reading and checking: valid sheets of every size, damaged bytes, kept sheets with any
+//! content.
+
+use model::faults::{check_with, read_with, Fault, ReadAnswer};
+use model::random::{
+    damaged, damaged_twice, full_sheet, kept, kept_noise, kept_twice, long_bytes, noise_bytes,
+    sheet_of_size, Rng, AIMS_KEPT, AIMS_READ,
+};
+use model::sheet::{encode, Row, Sheet, MAX_BYTES, MAX_EVENTS, MAX_NODES, MAX_SETS};
+
+use crate::edge;
+use crate::findings::Findings;
+use crate::play::Part;
+
+const READ: &str = "read, 0 accepted or the refusal";
+const CHECK: &str = "check, 0 accepted or the refusal";
+const NODES: &str = "valid sheets by nodes";
+const EVENTS: &str = "valid sheets by events";
+const SETS: &str = "valid sheets with a node of so many sets";
+const LARGE: &str = "valid sheets with 16 nodes or more (1) or fewer (0)";
+const LARGEST: &str = "valid sheets of the most bytes";
+const LONG: &str = "read, by the bytes that a right length field needs";
+
+pub const PART: Part = Part {
+    name: "sheets",
+    rounds: 20_000,
+    findings,
+    round,
+    demands,
+};
+
+fn findings() -> Findings {
+    let groups = vec![
+        (READ, (0..=8).collect()),
+        (CHECK, vec![0, 3, 5, 6, 7, 8]),
+        (NODES, (1..=MAX_NODES as u64).collect()),
+        (EVENTS, (1..=MAX_EVENTS as u64).collect()),
+        (SETS, (1..=MAX_SETS as u64).collect()),
+        (LARGE, vec![0, 1]),
+        (LARGEST, vec![MAX_BYTES as u64]),
+        (LONG, (0..=4).collect()),
+    ];
+    let plants = plants().into_iter();
+    let name = |(call, fault): (Call, Fault)| format!("{fault:?} in {call:?}");
+    Findings::new(groups, plants.map(name).collect())
+}
+
+/// The two calls of this part.
+#[derive(Clone, Copy, PartialEq, Eq, Debug)]
+enum Call {
+    Read,
+    Check,
+}
+
+/// Each call with each fault that can be planted in it.
+fn plants() -> Vec<(Call, Fault)> {
+    let read = Fault::ALL.into_iter().filter(|fault| fault.in_read());
+    let check = Fault::ALL.into_iter().filter(|fault| fault.in_check());
+    let read = read.map(|fault| (Call::Read, fault));
+    read.chain(check.map(|fault| (Call::Check, fault)))
+        .collect()
+}
+
+/// One valid sheet as bytes and as kept; bytes damaged once and twice, and noise; kept
+/// sheets with one place changed, with more changed, and noise. Now and then bytes longer
+/// than any sheet, or a sheet without unused places.
+fn round(rng: &mut Rng, round: u64, findings: &mut Findings) {
+    let sheet = valid(rng, round, findings);
+    try_read(findings, &encode(&sheet));
+    try_check(findings, &sheet);
+    let turn = round as usize;
+    try_read(findings, &damaged(rng, AIMS_READ[turn % AIMS_READ.len()]));
+    try_read(findings, &damaged_twice(rng));
+    try_read(findings, &noise_bytes(rng));
+    match turn % 16 {
+        0 => try_read(findings, &long_bytes(rng)),
+        1 | 9 => full(rng, findings),
+        _ => {}
+    }
+    try_check(findings, &kept(rng, AIMS_KEPT[turn % AIMS_KEPT.len()]));
+    try_check(findings, &kept_twice(rng));
+    try_check(findings, &kept_noise(rng));
+}
+
+/// A sheet with few unused places or none, as it is, with one byte changed, and with one
+/// kept place changed.
+fn full(rng: &mut Rng, findings: &mut Findings) {
+    let mut sheet = full_sheet(rng);
+    let mut bytes = encode(&sheet);
+    if bytes.len() == MAX_BYTES {
+        findings.count(LARGEST, MAX_BYTES as u64);
+    }
+    try_read(findings, &bytes);
+    try_check(findings, &sheet);
+    let place = rng.below(bytes.len());
+    bytes[place] = rng.byte();
+    try_read(findings, &bytes);
+    let row = &mut sheet.rows[rng.below(MAX_NODES)];
+    match rng.below(3) {
+        0 => row.succ[rng.below(MAX_EVENTS)] = rng.byte(),
+        1 => row.sets[rng.below(MAX_SETS)] ^= 1 << rng.below(16),
+        _ => row.c = rng.byte(),
+    }
+    try_check(findings, &sheet);
+}
+
+/// A valid sheet: each number of events in turn, and in one of three rounds 16 nodes or
+/// more.
+fn valid(rng: &mut Rng, round: u64, findings: &mut Findings) -> Sheet {
+    let e = 1 + (round / 3) as usize % MAX_EVENTS;
+    let n = match round % 3 {
+        0 => rng.range(16, MAX_NODES),
+        1 => rng.range(4, 15),
+        _ => rng.range(1, 6),
+    };
+    let sheet = sheet_of_size(rng, e, n);
+    findings.count(NODES, n as u64);
+    findings.count(EVENTS, e as u64);
+    findings.count(LARGE, u64::from(n >= 16));
+    for c in 1..=MAX_SETS as u8 {
+        if sheet.rows[..n].iter().any(|row| row.c == c) {
+            findings.count(SETS, u64::from(c));
+        }
+    }
+    sheet
+}
+
+fn demands(findings: &mut Findings) {
+    let large = findings.counted(LARGE, 1);
+    let small = findings.counted(LARGE, 0);
+    findings.demand(
+        2 * large >= small,
+        "a third of the valid sheets has 16 nodes or more",
+    );
+}
+
+/// One reading by the library, by the model, and by each fault planted in it that is not caught yet.
+fn try_read(findings: &mut Findings, bytes: &[u8]) {
+    let ours = edge::read(bytes);
+    let model = read_with(Fault::None, bytes);
+    findings.compared(ours == model, || {
+        format!(
+            "read of {}: {}",
+            shown_bytes(bytes),
+            read_difference(&model, &ours)
+        )
+    });
+    findings.count(READ, u64::from(model.number));
+    let follow = bytes.len().saturating_sub(4) as u32;
+    findings.count(LONG, u64::from((39 - follow.leading_zeros()) / 8));
+    catch(findings, Call::Read, |fault| {
+        read_with(fault, bytes) != ours
+    });
+}
+
+/// One check by the library, by the model, and by each fault planted in it that is not caught yet.
+fn try_check(findings: &mut Findings, sheet: &Sheet) {
+    let ours = edge::check(sheet);
+    let model = check_with(Fault::None, sheet);
+    findings.compared(ours == model, || {
+        format!(
+            "check of {}: model {model}, library {ours}",
+            shown_sheet(sheet)
+        )
+    });
+    findings.count(CHECK, u64::from(model));
+    catch(findings, Call::Check, |fault| {
+        check_with(fault, sheet) != ours
+    });
+}
+
+/// Marks the faults in a call that differ from the library on this input.
+fn catch(findings: &mut Findings, call: Call, differs: impl Fn(Fault) -> bool) {
+    let open = findings.uncaught();
+    if open.is_empty() {
+        return;
+    }
+    let plants = plants();
+    for plant in open {
+        let (planted, fault) = plants[plant];
+        if planted == call && differs(fault) {
+            findings.caught(plant);
+        }
+    }
+}
+
+/// The number, or the first place of the sheet, in which two answers differ.
+fn read_difference(model: &ReadAnswer, ours: &ReadAnswer) -> String {
+    let told = |place: String, model: u16, ours: u16| {
+        (model != ours).then(|| format!("{place}: model {model}, library {ours}"))
+    };
+    let heads = [
+        ("refusal", model.number, ours.number),
+        ("e", model.sheet.e, ours.sheet.e),
+        ("n", model.sheet.n, ours.sheet.n),
+    ];
+    let mut places = heads
+        .map(|(place, a, b)| told(place.into(), a.into(), b.into()))
+        .to_vec();
+    for (v, (a, b)) in model.sheet.rows.iter().zip(&ours.sheet.rows).enumerate() {
+        places.push(told(format!("rows[{v}].c"), a.c.into(), b.c.into()));
+        for (i, (a, b)) in a.succ.iter().zip(&b.succ).enumerate() {
+            places.push(told(
+                format!("rows[{v}].succ[{i}]"),
+                (*a).into(),
+                (*b).into(),
+            ));
+        }
+        for (j, (a, b)) in a.sets.iter().zip(&b.sets).enumerate() {
+            places.push(told(format!("rows[{v}].sets[{j}]"), *a, *b));
+        }
+    }
+    places.into_iter().flatten().next().unwrap_or_default()
+}
+
+fn shown_bytes(bytes: &[u8]) -> String {
+    let most = bytes.len().min(1_500);
+    let all: String = bytes[..most]
+        .iter()
+        .map(|byte| format!("{byte:02x}"))
+        .collect();
+    format!("{} bytes {all}", bytes.len())
+}
+
+fn shown_sheet(sheet: &Sheet) -> String {
+    let rows = sheet.rows.iter().enumerate();
+    let used = rows.filter(|(_, row)| **row != Row::UNUSED);
+    let row = |(v, row): (usize, &Row)| format!("{v} {:?} {:?} {}", row.succ, row.sets, row.c);
+    let rows: Vec<String> = used.map(row).collect();
+    format!("e {} n {} rows {}", sheet.e, sheet.n, rows.join("; "))
+}

@@ -1,0 +1,16 @@
+//! A plain model of the dialogue bench: sheets, probes, tests and comparisons.
+//!
+//! Everything here follows the written definitions as directly as possible.
+//! Speed is given up wherever it would need a cleverer argument.
+
+pub mod comparison;
+pub mod examples;
+pub mod faults;
+pub mod probes;
+pub mod random;
+mod rules;
+pub mod sheet;
+pub mod small;
+pub mod tests;
+pub mod text;
+pub mod verdict;

@@ -1,0 +1,72 @@
+//! A small deterministic generator, and random sheets, bytes, runs and pairs.
+
+mod damage;
+mod input;
+mod kept;
+mod pairs;
+mod raw;
+mod runs;
+
+pub use damage::{damaged, damaged_twice, long_bytes, noise_bytes, AIMS_READ};
+pub use input::program_input;
+pub use kept::{kept, kept_noise, kept_twice, AIMS_KEPT};
+pub use pairs::{device_of, pair};
+pub use raw::{antichain, full_sheet, random_raw, random_sheet, sheet_of_size, Raw};
+pub use runs::{random_record, random_report};
+
+/// splitmix64.
+#[derive(Clone, Copy, PartialEq, Eq, Debug)]
+pub struct Rng {
+    state: u64,
+}
+
+impl Rng {
+    pub fn new(seed: u64) -> Rng {
+        Rng { state: seed }
+    }
+
+    /// The next 64 bits.
+    pub fn next_u64(&mut self) -> u64 {
+        self.state = self.state.wrapping_add(0x9E37_79B9_7F4A_7C15);
+        let mut z = self.state;
+        z = (z ^ (z >> 30)).wrapping_mul(0xBF58_476D_1CE4_E5B9);
+        z = (z ^ (z >> 27)).wrapping_mul(0x94D0_49BB_1331_11EB);
+        z ^ (z >> 31)
+    }
+
+    /// A number below `bound`, which is not 0.
+    pub fn below(&mut self, bound: usize) -> usize {
+        (self.next_u64() % bound as u64) as usize
+    }
+
+    /// A number from `low` to `high`, both included.
+    pub fn range(&mut self, low: usize, high: usize) -> usize {
+        low + self.below(high - low + 1)
+    }
+
+    /// True once in `bound` times.
+    pub fn one_in(&mut self, bound: usize) -> bool {
+        self.below(bound) == 0
+    }
+
+    pub fn byte(&mut self) -> u8 {
+        self.next_u64() as u8
+    }
+
+    pub fn word(&mut self) -> u16 {
+        self.next_u64() as u16
+    }
+
+    /// One of some values.
+    pub fn pick<T: Copy>(&mut self, values: &[T]) -> T {
+        values[self.below(values.len())]
+    }
+
+    /// Some values in random order.
+    pub fn shuffle<T>(&mut self, values: &mut [T]) {
+        for last in (1..values.len()).rev() {
+            let other = self.below(last + 1);
+            values.swap(last, other);
+        }
+    }
+}

@@ -1,0 +1,127 @@
+//! Random pairs of sheets with equal E: unrelated, equal, and devices drawn from their
+//! reference with or without a planted violation, so that far violations occur.
+
+use super::raw::{antichain, random_nodes, random_raw, Raw};
+use super::Rng;
+use crate::sheet::{Sheet, MAX_EVENTS, MAX_NODES, MAX_SETS, NO_NODE};
+
+/// A random pair: reference, then device.
+pub fn pair(rng: &mut Rng) -> (Sheet, Sheet) {
+    let e = rng.range(1, MAX_EVENTS);
+    let n = random_nodes(rng);
+    let raw = random_raw(rng, e, n);
+    let reference = raw.keep();
+    let device = match rng.below(6) {
+        0 => {
+            let n = random_nodes(rng);
+            random_raw(rng, e, n).keep()
+        }
+        1 => reference,
+        _ => {
+            let plant = rng.one_in(2);
+            device_of(rng, &raw, plant).keep()
+        }
+    };
+    (reference, device)
+}
+
+/// A device whose nodes are copies of reference nodes that do no more and refuse no
+/// more; with `plant`, one random node is then changed so that it may.
+pub fn device_of(rng: &mut Rng, reference: &Raw, plant: bool) -> Raw {
+    let mut origins = vec![0u8];
+    let mut spare = rng.below(MAX_NODES - reference.nodes.len() + 1);
+    let mut device = Raw {
+        e: reference.e,
+        nodes: Vec::new(),
+    };
+    while device.nodes.len() < origins.len() {
+        let origin = origins[device.nodes.len()] as usize;
+        let (succ, sets) = &reference.nodes[origin];
+        let sets = weaker_choice(rng, reference.initials(origin), sets);
+        let needed = sets.iter().fold(0, |all, set| all | set);
+        let mut row = vec![NO_NODE; succ.len()];
+        for event in 0..succ.len() {
+            let kept = needed >> event & 1 == 1 || !rng.one_in(4);
+            if kept && succ[event] != NO_NODE {
+                row[event] = copy_of(rng, succ[event], &mut origins, &mut spare);
+            }
+        }
+        device.nodes.push((row, sets));
+    }
+    if plant {
+        plant_violation(rng, &mut device, reference, &origins);
+    }
+    device
+}
+
+/// A device node for a reference node: one there is, or a new one while there is room.
+/// The first copy of each reference node always has room.
+fn copy_of(rng: &mut Rng, node: u8, origins: &mut Vec<u8>, spare: &mut usize) -> u8 {
+    let there: Vec<usize> = (0..origins.len()).filter(|&i| origins[i] == node).collect();
+    let anew = there.is_empty() || *spare > 0 && !rng.one_in(3);
+    if !anew {
+        return rng.pick(&there) as u8;
+    }
+    if !there.is_empty() {
+        *spare -= 1;
+    }
+    origins.push(node);
+    origins.len() as u8 - 1
+}
+
+/// Acceptances that each include one of the reference's.
+fn weaker_choice(rng: &mut Rng, initials: u16, sets: &[u16]) -> Vec<u16> {
+    if sets == [0] {
+        return antichain(rng, initials, MAX_SETS);
+    }
+    let all = rng.one_in(2);
+    let mut larger: Vec<u16> = Vec::new();
+    for &set in sets {
+        let more = if rng.one_in(4) {
+            rng.word() & initials
+        } else {
+            0
+        };
+        if all || larger.is_empty() || rng.one_in(2) {
+            larger.push(set | more);
+        }
+    }
+    let minimal = |set: &u16| {
+        !larger
+            .iter()
+            .any(|&other| other != *set && other & !set == 0)
+    };
+    let mut kept: Vec<u16> = larger.iter().copied().filter(minimal).collect();
+    kept.sort_unstable();
+    kept.dedup();
+    kept
+}
+
+/// At a random node: a stray successor, or an acceptance that includes none of the
+/// reference's (which a reference node that may stop does not have).
+fn plant_violation(rng: &mut Rng, device: &mut Raw, reference: &Raw, origins: &[u8]) {
+    let node = rng.below(device.nodes.len());
+    let origin = origins[node] as usize;
+    let initials = reference.initials(origin);
+    let strays: Vec<usize> = (0..device.e as usize)
+        .filter(|i| initials >> i & 1 == 0)
+        .collect();
+    if !strays.is_empty() && rng.one_in(2) {
+        let event = rng.pick(&strays);
+        device.nodes[node].0[event] = rng.below(device.nodes.len()) as u8;
+        return;
+    }
+    let own = device.initials(node);
+    let fewer: Vec<u16> = (0..=own)
+        .filter(|set| set & !own == 0)
+        .filter(|set| {
+            reference.nodes[origin]
+                .1
+                .iter()
+                .all(|small| small & !set != 0)
+        })
+        .collect();
+    if !fewer.is_empty() {
+        device.nodes[node].1 = vec![rng.pick(&fewer)];
+    }
+}

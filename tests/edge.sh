@@ -1,0 +1,26 @@
+#!/bin/sh
+# The library for C: builds it, compiles the example with every warning an error, runs it, and compares what it writes.
+set -eu
+cd "$(dirname "$0")/.."
+
+echo "edge: rt staticlib edge"
+mkdir -p target/examples
+rt staticlib edge > target/examples/staticlib.out 2>&1 || {
+    cat target/examples/staticlib.out
+    exit 1
+}
+
+for source in examples/*.c; do
+    name=$(basename "$source" .c)
+    echo "edge: $source"
+    gcc -std=c11 -Wall -Wextra -Werror -pedantic -O2 -Iinclude "$source" target/staticlib/libedge.a -o "target/examples/$name"
+    "target/examples/$name" > "target/examples/$name.out"
+    diff "examples/$name.out" "target/examples/$name.out"
+done
+
+# Every function of the library stands in the header, and every function of the header is there.
+sed -n '/^ \*/d; /^\/\*/d; s/^.*[ *]\(bench_[a-z_0-9]*\)(.*/\1/p' include/bench.h | sort > target/examples/declared
+nm -g --defined-only target/staticlib/libedge.a | sed -n 's/^[0-9a-f]* T \(bench_.*\)$/\1/p' | sort > target/examples/defined
+echo "edge: the header has the library's functions:" $(cat target/examples/declared)
+diff target/examples/declared target/examples/defined
+echo "edge: ok"

@@ -1,0 +1,21 @@
+#!/bin/sh
+# The model's own tests: the cases of the papers, and its definitions held against literal ones.
+set -eu
+cd "$(dirname "$0")/.."
+
+# cargo writes only here, whoever runs it.
+export CARGO_HOME="$PWD/target/cargo" CARGO_TARGET_DIR="$PWD/model/target"
+mkdir -p "$CARGO_HOME"
+
+for package in model model/against; do
+    if cargo fmt --version > /dev/null 2>&1; then
+        echo "model: the layout of $package"
+        cargo fmt --check --manifest-path "$package/Cargo.toml"
+    else
+        echo "model: cargo fmt is not installed; the layout of $package is not looked at"
+    fi
+done
+
+echo "model: its tests"
+cargo test --release --offline --locked --quiet --manifest-path model/Cargo.toml
+echo "model: ok"

@@ -1,0 +1,27 @@
+#!/bin/sh
+# The model against the proved library on random inputs.
+#
+#     tests/random.sh [SEED [COUNT [FIRST]]]
+set -eu
+cd "$(dirname "$0")/.."
+
+echo "random: rt staticlib edge"
+mkdir -p target/random
+rt staticlib edge > target/random/staticlib.out 2>&1 || {
+    cat target/random/staticlib.out
+    exit 1
+}
+
+echo "random: building the comparison"
+# cargo writes only here, whoever runs it.
+export CARGO_HOME="$PWD/target/cargo" CARGO_TARGET_DIR="$PWD/model/target"
+mkdir -p "$CARGO_HOME"
+cargo build --release --offline --locked --quiet --manifest-path model/against/Cargo.toml
+
+status=0
+model/target/release/against "$@" || status=$?
+if [ "$status" -gt 128 ]; then
+    echo "random: a call ended the program by signal $((status - 128)); smaller COUNTs lead to its round"
+fi
+[ "$status" = 0 ] || exit "$status"
+echo "random: ok"
