@@ -1,6 +1,8 @@
 -- The sheets of 01's cases, as bytes.
 use mathlib.Core.List.{List, [], _∷_}
 use Prim.Native.Nat.{ℕ}
+use Rattle.sheet_spec.specs.declared.Sheet.{Sheet}
+use Rattle.sheet_spec.specs.Reading.{readSheet}
 
 -- the reference and the device of the program's example
 unfoldable pub exampleReference : List ℕ
@@ -36,3 +38,7 @@ stopped = 0 ∷ 0 ∷ 0 ∷ 7 ∷ 1 ∷ 1 ∷ 1 ∷ 255 ∷ 1 ∷ 0 ∷ 0 ∷ []
 -- all of them
 unfoldable pub caseSheets : List (List ℕ)
 caseSheets = exampleReference ∷ exampleDevice ∷ onlyZero ∷ onlyOne ∷ mayLoop ∷ mustLoop ∷ stopped ∷ []
+
+-- the sheet that bytes spell
+unfoldable pub sheet : List ℕ → Sheet
+sheet b = readSheet b .sheet

@@ -1,34 +1,139 @@
--- The P cases of 01 as one table: each row is a call, its answer is a list of numbers, and one equation has them all. Sheets
--- come as bytes, through the definition of reading.
+-- The P cases of 01 as one table: each row is a call or a whole run, its answer is a list of numbers, and one equation has them
+-- all. Sheets come as bytes, through the definition of reading. The rows compute through the definitions that the contracts cite,
+-- the probe lists among them.
 use mathlib.Core.Path.{_≡_, refl}
-use mathlib.Core.List.{List, [], _∷_, map}
+use mathlib.Core.Bool.{Bool, true, false, cond}
+use mathlib.Core.List.{List, [], _∷_, _++_, map}
 use Prim.Native.Nat.{ℕ}
-use Rattle.cases.specs.Sheets.{exampleReference, exampleDevice, onlyZero, onlyOne, mayLoop, mustLoop, stopped}
-use Rattle.sheet_spec.specs.declared.ReadSheet.{ReadSheet}
-use Rattle.base.specs.Range.{all, any}
+use lib.ListN.{replicate}
+use Rattle.base.specs.Range.{all, any, first}
+use Rattle.base.specs.Count.{count}
 use Rattle.base.specs.Table.{upTo}
-use Rattle.events.specs.Bit.{setOf}
-use Rattle.events.specs.Sets.{inside}
+use Rattle.events.specs.Bit.{bit, setOf}
+use Rattle.events.specs.Sets.{has, inside, meets}
+use Rattle.walks.specs.Graph.{walk}
 use Rattle.walks.specs.Reach.{nearer, leads}
-use Rattle.sheet_spec.specs.Kept.{successor, acceptance, initials, step}
-use Rattle.sheet_spec.specs.Rules.{rangesOk, countOk, successorsOk, rowSuccessorsOk, successorOk, setsOk, rowSetsOk, setOk, ascends, apart, reachedOk}
+use Rattle.walks.specs.Near.{meets as meetsIn, distance, later, choice, leastFrom, leastTrace}
+use Rattle.walks.specs.Cleared.{cleared}
+use Rattle.walks.specs.Product.{code, pairNext, product}
+use Rattle.walks.specs.Pairs.{onCodes, pairDistance, pairTrace, pairCleared}
+use Rattle.sheet_spec.specs.declared.Sheet.{Sheet}
+use Rattle.sheet_spec.specs.declared.ReadSheet.{ReadSheet}
+use Rattle.sheet_spec.specs.Kept.{successor, acceptance, acceptances, initials, mayStop, step}
+use Rattle.sheet_spec.specs.Rules.{rangesOk, countOk, countsOk, successorsOk, rowSuccessorsOk, successorOk, setsOk, rowSetsOk, setOk, ascends, apart, blank, unusedOk, blanksOk, reachedOk, sheetFault}
 use Rattle.sheet_spec.specs.Reading.{readSheet, answer, bytesFault, headFault, lengthField, layoutFault, nextAt, startOf, succOf, setsOf, rowAt, rowOf, sheetOf, graphFault}
+use Rattle.probes_spec.specs.Probes.{hits, isProbe, gather, select, probes}
+use Rattle.probes_spec.specs.FirstMissed.{missing, orNext, firstMissing, firstMissed}
+use Rattle.refinement.specs.PairTests.{strays, hasStray, firstStray, covers, hasRefusal, violates, violating}
+use Rattle.tests_spec.specs.declared.Run.{Run}
+use Rattle.tests_spec.specs.declared.Report.{Report}
+use Rattle.tests_spec.specs.declared.Report.the-variants.{Event, Blocked}
+use Rattle.tests_spec.specs.declared.Stepped.{Stepped}
+use Rattle.tests_spec.specs.Runs.{allEvents, outside, probesAt, chosen, offerOf, newRun, openFault, openOf, recordOk, eventFault, reportFault, movedBy, endedRun, answerOf, stepOf}
+use Rattle.tests_spec.specs.Verdicts.{failsFrom, verdictFault, verdictOf}
+use Rattle.tests_spec.specs.Numbers.{Said, said, judged}
+use Rattle.comparison_spec.specs.Comparison.{pairs, nearest, nearestTrace, clearedOf, lastRow, refusalNamed, named, judged as judgedPair, compareFault, outcomeOf, traceAfter}
+use Rattle.comparison_spec.specs.Numbers.{Compared, compared}
+use Rattle.cases.specs.Sheets.{caseSheets, exampleReference, exampleDevice, onlyZero, onlyOne, mayLoop, mustLoop, stopped, sheet}
 
 -- a row of the table
 pub data Case : Type 0 where
   -- the bytes are read
   reading : List ℕ → Case
+  -- the probes of acceptances among three events
+  listing : List ℕ → Case
+  -- the verdict of a reference on a device for test k, trace-only or not
+  verdict : List ℕ → List ℕ → ℕ → Bool → Case
+  -- a run of test k with choice number h, trace-only or not, through these reports
+  running : List ℕ → ℕ → ℕ → Bool → List Report → Case
+  -- the comparison of a reference with a device, with a trace list of six places that hold 9
+  comparing : List ℕ → List ℕ → Bool → Case
 
 -- the refusal, E and N
 unfoldable pub readNumbers : ReadSheet → List ℕ
 readNumbers a = a .refusal ∷ a .sheet .e ∷ a .sheet .n ∷ []
 
-unfoldable pub answerOf : Case → List ℕ
-answerOf (reading b) = readNumbers (readSheet b)
+-- the refusal, the kind and the value of an answer
+unfoldable pub numbers : Said → List ℕ
+numbers a = a .refusal ∷ a .kind ∷ a .value ∷ []
 
+-- a record: k, h, trace-only, ended, node and depth
+unfoldable pub recordNumbers : Run → List ℕ
+recordNumbers r = r .k ∷ r .h ∷ cond (r .traces) 1 0 ∷ cond (r .ended) 1 0 ∷ r .node ∷ r .depth ∷ []
+
+-- the numbers of a run's answers, one after the other, and the record in the end
+unfoldable pub answersOf : Sheet → Stepped → List Report → List ℕ
+answersOf s z [] = numbers (said (z .answer)) ++ recordNumbers (z .run)
+answersOf s z (x ∷ xs) = numbers (said (z .answer)) ++ answersOf s (stepOf s (z .run) x) xs
+
+-- the refusal, the kind, d, cleared, the event, the probe and the acceptance of a comparison's answer
+unfoldable pub comparedNumbers : Compared → List ℕ
+comparedNumbers a = a .denied ∷ a .kind ∷ a .d ∷ a .cleared ∷ a .event ∷ a .probe ∷ a .acceptance ∷ []
+
+-- the lists lent to a comparison
+unfoldable pub work : List ℕ
+work = replicate 18 7
+
+unfoldable pub trace : List ℕ
+trace = replicate 6 9
+
+-- what a row answers
+unfoldable pub numbersOf : Case → List ℕ
+numbersOf (reading b) = readNumbers (readSheet b)
+numbersOf (listing l) = probes l 3
+numbersOf (verdict P Q k to) = numbers (judged (verdictOf (sheet P) (sheet Q) k to))
+numbersOf (running P k h to reports) = answersOf (sheet P) (openOf (sheet P) k h to) reports
+numbersOf (comparing P Q to) = comparedNumbers (compared (outcomeOf to (sheet P) (sheet Q) work trace)) ++ traceAfter to (sheet P) (sheet Q) work trace
+
+-- the rows
 unfoldable pub table : List Case
-table = reading exampleReference ∷ reading exampleDevice ∷ reading onlyZero ∷ reading onlyOne ∷ reading mayLoop ∷ reading mustLoop ∷ reading stopped ∷ []
+table =
+    reading exampleReference ∷ reading exampleDevice ∷ reading onlyZero ∷ reading onlyOne ∷ reading mayLoop ∷ reading mustLoop ∷ reading stopped
+    ∷ listing (3 ∷ [])
+    ∷ listing (3 ∷ 6 ∷ [])
+    ∷ listing (1 ∷ 2 ∷ [])
+    ∷ listing (3 ∷ 5 ∷ 6 ∷ [])
+    ∷ listing (0 ∷ [])
+    ∷ listing (5 ∷ 6 ∷ [])
+    ∷ listing (1 ∷ [])
+    ∷ listing (1 ∷ 6 ∷ [])
+    ∷ listing (6 ∷ [])
+    ∷ verdict exampleReference exampleDevice 0 false
+    ∷ verdict exampleReference exampleDevice 1 false
+    ∷ verdict exampleReference exampleDevice 2 false
+    ∷ verdict exampleReference exampleDevice 3 false
+    ∷ verdict exampleReference exampleDevice 4 false
+    ∷ verdict exampleReference exampleDevice 5 false
+    ∷ verdict exampleReference exampleDevice 6 false
+    ∷ verdict exampleReference exampleDevice 5 true
+    ∷ verdict exampleReference exampleDevice 1024 false
+    ∷ verdict onlyZero onlyOne 0 false
+    ∷ verdict onlyZero onlyOne 3 true
+    ∷ verdict mayLoop stopped 0 false
+    ∷ verdict mayLoop stopped 1 false
+    ∷ verdict mustLoop stopped 0 false
+    ∷ verdict mustLoop stopped 1 false
+    ∷ verdict mustLoop stopped 0 true
+    ∷ verdict exampleReference stopped 0 false
+    ∷ running exampleReference 5 1 false (Event 0 ∷ Event 0 ∷ Event 0 ∷ Event 0 ∷ Event 0 ∷ Blocked ∷ Blocked ∷ [])
+    ∷ running exampleReference 5 0 false (Event 0 ∷ Event 1 ∷ Event 0 ∷ Event 1 ∷ Event 2 ∷ Event 0 ∷ Event 1 ∷ Event 0 ∷ [])
+    ∷ running onlyZero 0 0 false (Event 1 ∷ [])
+    ∷ running onlyZero 2 0 true (Event 0 ∷ Event 0 ∷ Event 0 ∷ [])
+    ∷ running onlyZero 2 0 true (Event 0 ∷ Blocked ∷ [])
+    ∷ running onlyZero 2 0 true (Event 0 ∷ Event 1 ∷ [])
+    ∷ running mayLoop 1 7 false (Event 0 ∷ Event 0 ∷ Blocked ∷ [])
+    ∷ running mayLoop 1024 0 false []
+    ∷ comparing exampleReference exampleDevice false
+    ∷ comparing exampleReference exampleDevice true
+    ∷ comparing onlyZero onlyOne false
+    ∷ comparing onlyZero onlyOne true
+    ∷ comparing mayLoop stopped false
+    ∷ comparing mustLoop stopped false
+    ∷ comparing mustLoop stopped true
+    ∷ comparing exampleReference stopped false
+    ∷ []
 
+-- what they answer
 unfoldable pub answers : List (List ℕ)
 answers =
     (0 ∷ 2 ∷ 2 ∷ [])
@@ -38,8 +143,56 @@ answers =
     ∷ (0 ∷ 1 ∷ 1 ∷ [])
     ∷ (0 ∷ 1 ∷ 1 ∷ [])
     ∷ (0 ∷ 1 ∷ 1 ∷ [])
+    ∷ (1 ∷ 2 ∷ [])
+    ∷ (2 ∷ 5 ∷ [])
+    ∷ (3 ∷ [])
+    ∷ (3 ∷ 5 ∷ 6 ∷ [])
+    ∷ []
+    ∷ (3 ∷ 4 ∷ [])
+    ∷ (1 ∷ [])
+    ∷ (3 ∷ 5 ∷ [])
+    ∷ (2 ∷ 4 ∷ [])
+    ∷ (0 ∷ 1 ∷ 0 ∷ [])
+    ∷ (0 ∷ 1 ∷ 0 ∷ [])
+    ∷ (0 ∷ 1 ∷ 0 ∷ [])
+    ∷ (0 ∷ 1 ∷ 0 ∷ [])
+    ∷ (0 ∷ 1 ∷ 0 ∷ [])
+    ∷ (0 ∷ 2 ∷ 0 ∷ [])
+    ∷ (0 ∷ 1 ∷ 0 ∷ [])
+    ∷ (0 ∷ 1 ∷ 0 ∷ [])
+    ∷ (14 ∷ 0 ∷ 0 ∷ [])
+    ∷ (0 ∷ 2 ∷ 0 ∷ [])
+    ∷ (0 ∷ 2 ∷ 0 ∷ [])
+    ∷ (0 ∷ 1 ∷ 0 ∷ [])
+    ∷ (0 ∷ 1 ∷ 0 ∷ [])
+    ∷ (0 ∷ 2 ∷ 0 ∷ [])
+    ∷ (0 ∷ 2 ∷ 0 ∷ [])
+    ∷ (0 ∷ 1 ∷ 0 ∷ [])
+    ∷ (11 ∷ 0 ∷ 0 ∷ [])
+    ∷ (0 ∷ 1 ∷ 3 ∷ 0 ∷ 1 ∷ 3 ∷ 0 ∷ 1 ∷ 3 ∷ 0 ∷ 1 ∷ 3 ∷ 0 ∷ 1 ∷ 3 ∷ 0 ∷ 1 ∷ 2 ∷ 0 ∷ 3 ∷ 2 ∷ 16 ∷ 0 ∷ 0 ∷ 5 ∷ 1 ∷ 0 ∷ 1 ∷ 1 ∷ 5 ∷ [])
+    ∷ (0 ∷ 1 ∷ 3 ∷ 0 ∷ 1 ∷ 3 ∷ 0 ∷ 1 ∷ 3 ∷ 0 ∷ 1 ∷ 3 ∷ 0 ∷ 1 ∷ 3 ∷ 15 ∷ 0 ∷ 0 ∷ 0 ∷ 1 ∷ 1 ∷ 17 ∷ 0 ∷ 0 ∷ 0 ∷ 4 ∷ 0 ∷ 5 ∷ 0 ∷ 0 ∷ 1 ∷ 1 ∷ 5 ∷ [])
+    ∷ (0 ∷ 1 ∷ 3 ∷ 0 ∷ 2 ∷ 1 ∷ 0 ∷ 0 ∷ 0 ∷ 1 ∷ 0 ∷ 0 ∷ [])
+    ∷ (0 ∷ 1 ∷ 3 ∷ 0 ∷ 1 ∷ 3 ∷ 0 ∷ 1 ∷ 3 ∷ 0 ∷ 4 ∷ 0 ∷ 2 ∷ 0 ∷ 1 ∷ 1 ∷ 0 ∷ 2 ∷ [])
+    ∷ (0 ∷ 1 ∷ 3 ∷ 0 ∷ 1 ∷ 3 ∷ 0 ∷ 4 ∷ 0 ∷ 2 ∷ 0 ∷ 1 ∷ 1 ∷ 0 ∷ 1 ∷ [])
+    ∷ (0 ∷ 1 ∷ 3 ∷ 0 ∷ 1 ∷ 3 ∷ 0 ∷ 2 ∷ 1 ∷ 2 ∷ 0 ∷ 1 ∷ 1 ∷ 0 ∷ 1 ∷ [])
+    ∷ (0 ∷ 1 ∷ 1 ∷ 0 ∷ 1 ∷ 0 ∷ 17 ∷ 0 ∷ 0 ∷ 0 ∷ 4 ∷ 0 ∷ 1 ∷ 7 ∷ 0 ∷ 1 ∷ 0 ∷ 1 ∷ [])
+    ∷ (14 ∷ 0 ∷ 0 ∷ 0 ∷ 0 ∷ 0 ∷ 0 ∷ 0 ∷ 0 ∷ [])
+    ∷ (0 ∷ 2 ∷ 5 ∷ 5 ∷ 0 ∷ 2 ∷ 1 ∷ 0 ∷ 0 ∷ 0 ∷ 0 ∷ 0 ∷ 9 ∷ [])
+    ∷ (0 ∷ 0 ∷ 0 ∷ 6 ∷ 0 ∷ 0 ∷ 0 ∷ 9 ∷ 9 ∷ 9 ∷ 9 ∷ 9 ∷ 9 ∷ [])
+    ∷ (0 ∷ 1 ∷ 0 ∷ 0 ∷ 1 ∷ 0 ∷ 0 ∷ 9 ∷ 9 ∷ 9 ∷ 9 ∷ 9 ∷ 9 ∷ [])
+    ∷ (0 ∷ 1 ∷ 0 ∷ 0 ∷ 1 ∷ 0 ∷ 0 ∷ 9 ∷ 9 ∷ 9 ∷ 9 ∷ 9 ∷ 9 ∷ [])
+    ∷ (0 ∷ 0 ∷ 0 ∷ 1 ∷ 0 ∷ 0 ∷ 0 ∷ 9 ∷ 9 ∷ 9 ∷ 9 ∷ 9 ∷ 9 ∷ [])
+    ∷ (0 ∷ 2 ∷ 0 ∷ 0 ∷ 0 ∷ 1 ∷ 0 ∷ 9 ∷ 9 ∷ 9 ∷ 9 ∷ 9 ∷ 9 ∷ [])
+    ∷ (0 ∷ 0 ∷ 0 ∷ 1 ∷ 0 ∷ 0 ∷ 0 ∷ 9 ∷ 9 ∷ 9 ∷ 9 ∷ 9 ∷ 9 ∷ [])
+    ∷ (11 ∷ 3 ∷ 0 ∷ 0 ∷ 0 ∷ 0 ∷ 0 ∷ 9 ∷ 9 ∷ 9 ∷ 9 ∷ 9 ∷ 9 ∷ [])
     ∷ []
 
-pub cases-hold : map answerOf table ≡ answers
-unfolding answerOf table answers readNumbers exampleReference exampleDevice onlyZero onlyOne mayLoop mustLoop stopped readSheet answer bytesFault headFault lengthField layoutFault nextAt startOf succOf setsOf rowAt rowOf sheetOf graphFault rangesOk countOk successorsOk rowSuccessorsOk successorOk setsOk rowSetsOk setOk ascends apart reachedOk successor acceptance initials step inside setOf nearer leads all any upTo
+-- every row answers what 01 says
+pub cases-hold : map numbersOf table ≡ answers
+unfolding numbersOf table answers readNumbers numbers recordNumbers answersOf comparedNumbers work trace sheet exampleReference exampleDevice onlyZero onlyOne mayLoop mustLoop stopped readSheet answer bytesFault headFault lengthField layoutFault nextAt startOf succOf setsOf rowAt rowOf sheetOf graphFault rangesOk countOk countsOk successorsOk rowSuccessorsOk successorOk setsOk rowSetsOk setOk ascends apart blank unusedOk blanksOk reachedOk sheetFault successor acceptance acceptances initials mayStop step bit has inside meets setOf walk nearer leads meetsIn distance later choice leastFrom leastTrace cleared code pairNext product onCodes pairDistance pairTrace pairCleared all any first count upTo hits isProbe gather select probes missing orNext firstMissing firstMissed strays hasStray firstStray covers hasRefusal violates violating allEvents outside probesAt chosen offerOf newRun openFault openOf recordOk eventFault reportFault movedBy endedRun answerOf stepOf failsFrom verdictFault verdictOf said judged pairs nearest nearestTrace clearedOf lastRow refusalNamed named judgedPair compareFault outcomeOf traceAfter compared
 cases-hold = refl
+
+-- any case sheet against itself refines: the kind of its comparison with itself is 0 (`judged-self` says so of every accepted sheet)
+pub selves-refine : map (λ b. compared (outcomeOf false (sheet b) (sheet b) (replicate 27 7) (replicate 8 9)) .kind) caseSheets ≡ replicate 7 0
+unfolding caseSheets sheet exampleReference exampleDevice onlyZero onlyOne mayLoop mustLoop stopped readSheet answer bytesFault headFault lengthField layoutFault nextAt startOf succOf setsOf rowAt rowOf sheetOf graphFault rangesOk countOk countsOk successorsOk rowSuccessorsOk successorOk setsOk rowSetsOk setOk ascends apart blank unusedOk blanksOk reachedOk sheetFault successor acceptance acceptances initials mayStop step bit has inside meets setOf walk nearer leads meetsIn distance later choice leastFrom leastTrace cleared code pairNext product onCodes pairDistance pairTrace pairCleared all any first count upTo hits isProbe gather select probes missing orNext firstMissing firstMissed strays hasStray firstStray covers hasRefusal violates violating allEvents outside probesAt chosen offerOf newRun openFault openOf recordOk eventFault reportFault movedBy endedRun answerOf stepOf failsFrom verdictFault verdictOf said judged pairs nearest nearestTrace clearedOf lastRow refusalNamed named judgedPair compareFault outcomeOf traceAfter compared
+selves-refine = refl

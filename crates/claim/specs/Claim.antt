@@ -2,39 +2,26 @@
 -- (the device, of q nodes) with equal event counts. `traceOnly` is true for the trace-only reading: strays alone, trace-only
 -- tests, traces alone. Every notion here is one that a contract equates (`verdictOf` of the verdict, `outcomeOf` and
 -- `traceAfter` of the comparison) or one in the mission's words (Trace, Does, Refuses, Violation, Refines of Refinement).
-use mathlib.Core.Path.{_≡_, refl, sym, ap, _∙_, subst}
-use mathlib.Core.Logic.{_⊎_, inl, inr, _≢_, _↔_}
-use mathlib.Core.Bool.{Bool, true, false}
-use mathlib.Core.List.{List, []}
+use mathlib.Core.Path.{_≡_}
+use mathlib.Core.Logic.{_⊎_, _≢_, _↔_}
+use mathlib.Core.Bool.{Bool, true}
+use mathlib.Core.List.{List}
 use Prim.Native.Nat.{ℕ, _-_, _*_, _≤_, _<_}
-use native.Mathlib.Omega.{arith}
-use native.Mathlib.Nat.{mul-le-mul}
-use lib.ListN.{length, take, drop}
-use lib.Seq.{take-at}
-use Rattle.base.specs.Truth.{lt-or-ge}
+use lib.ListN.{length, take}
 use Rattle.events.specs.Bit.{Apart}
 use Rattle.walks.specs.Order.{Lex}
-use Rattle.sheet_spec.specs.declared.Row.{Row}
 use Rattle.sheet_spec.specs.declared.Sheet.{Sheet}
-use Rattle.sheet_spec.specs.declared.ReadSheet.{ReadSheet}
-use Rattle.sheet_spec.specs.Kept.{row, acceptance, acceptances}
+use Rattle.sheet_spec.specs.Kept.{row, acceptance}
 use Rattle.sheet_spec.specs.Rules.{sheetFault}
 use Rattle.sheet_spec.specs.Reading.{readSheet}
-use Rattle.sheet_spec.specs.Accepted.{read-accepted}
-use Rattle.sheet_spec.specs.EncodingLaws.{accepted, reads→}
-use Rattle.sheet_spec.specs.Sound.{Sound, check-sound}
-use Rattle.probes_spec.specs.Probes.{probes, Probe}
-use Rattle.refinement.specs.Refinement.{After, Trace, Does, Refuses, MayRefuse, Strays, ViolationIn, RefinesIn}
-use Rattle.refinement.specs.RefinementLaws.{violation-near, refines-or-violation}
-use Rattle.tests_spec.specs.declared.Verdict.{Verdict}
+use Rattle.sheet_spec.specs.EncodingLaws.{accepted}
+use Rattle.refinement.specs.Refinement.{After, Does, Refuses, Strays, ViolationIn, RefinesIn}
 use Rattle.tests_spec.specs.declared.Verdict.the-variants.{Passes, Fails}
-use Rattle.tests_spec.specs.Verdicts.{FailsTest, failsFrom, verdictOf}
-use Rattle.tests_spec.specs.VerdictLaws.{verdict-means, verdict-passes, fails-means}
-use Rattle.tests_spec.specs.TestLaws.{verdicts-complete, nearer-passes, first-failing, single-test}
+use Rattle.tests_spec.specs.Verdicts.{FailsTest, verdictOf}
 use Rattle.comparison_spec.specs.declared.Outcome.{Outcome}
 use Rattle.comparison_spec.specs.declared.Outcome.the-variants.{Refines, Stray, Refusal, Denied}
-use Rattle.comparison_spec.specs.Comparison.{pairs, nearest, nearestTrace, judged, outcomeOf, traceAfter, workAfter}
-use Rattle.comparison_spec.specs.Meaning.{ReachedBefore, ReachedEver, Number, Nearest, SmallestStray, Describes, refines, stray, refusal}
+use Rattle.comparison_spec.specs.Comparison.{outcomeOf, traceAfter}
+use Rattle.comparison_spec.specs.Meaning.{ReachedBefore, ReachedEver, Number}
 
 -- a sheet is accepted as kept, or as bytes that are read as it
 abbrev pub Accepted : Sheet → Type 0

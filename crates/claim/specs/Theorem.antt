@@ -1,37 +1,35 @@
 -- The theorem: the claim holds of every two accepted sheets with equal event counts.
-use mathlib.Core.Path.{_≡_, refl, sym, ap, _∙_, subst}
+use mathlib.Core.Path.{_≡_, refl, sym, ap, _∙_}
 use mathlib.Core.Logic.{_⊎_, inl, inr, _≢_, _↔_}
 use mathlib.Core.Bool.{Bool, true, false, true≢false}
-use mathlib.Core.List.{List, _++_}
+use mathlib.Core.List.{List}
 use Prim.Native.Nat.{ℕ, _-_, _*_, _≤_, _<_}
 use native.Mathlib.Omega.{arith}
 use native.Mathlib.Nat.{mul-le-mul}
-use lib.ListN.{length, getD, take, drop}
+use lib.ListN.{take, drop}
 use lib.Seq.{take-at}
 use Rattle.base.specs.Truth.{lt-or-ge, not-i, clash, dec}
 use Rattle.events.specs.Bit.{bit, Apart}
 use Rattle.sheet_spec.specs.declared.Sheet.{Sheet}
 use Rattle.sheet_spec.specs.Kept.{row, acceptance, acceptances}
 use Rattle.sheet_spec.specs.Rules.{sheetFault}
-use Rattle.sheet_spec.specs.Reading.{readSheet}
 use Rattle.sheet_spec.specs.RowLaws.{acceptances-length, acceptances-at}
 use Rattle.sheet_spec.specs.Accepted.{read-accepted}
-use Rattle.sheet_spec.specs.EncodingLaws.{accepted, reads→}
+use Rattle.sheet_spec.specs.EncodingLaws.{reads→}
 use Rattle.sheet_spec.specs.Sound.{Sound, check-sound}
-use Rattle.probes_spec.specs.Probes.{probes, Probe}
-use Rattle.probes_spec.specs.FirstMissed.{MissedFirst}
+use Rattle.probes_spec.specs.Probes.{Probe}
 use Rattle.probes_spec.specs.ProbeLaws.{probe-at}
-use Rattle.refinement.specs.Refinement.{After, Refuses, Strays, ViolationIn, RefinesIn}
+use Rattle.refinement.specs.Refinement.{Refuses, Strays, ViolationIn, RefinesIn}
 use Rattle.refinement.specs.RefinementLaws.{after-unique, violation-near, refines-means}
 use Rattle.tests_spec.specs.declared.Verdict.the-variants.{Passes, Fails}
-use Rattle.tests_spec.specs.Verdicts.{FailsTest, failsFrom, verdictOf}
+use Rattle.tests_spec.specs.Verdicts.{failsFrom, verdictOf}
 use Rattle.tests_spec.specs.VerdictLaws.{fails-means, verdict-means, verdict-passes}
 use Rattle.tests_spec.specs.TestLaws.{verdicts-complete, first-failing, single-test}
 use Rattle.comparison_spec.specs.declared.Outcome.{Outcome}
 use Rattle.comparison_spec.specs.declared.Outcome.the-variants.{Refines, Stray, Refusal, Denied}
 use Rattle.comparison_spec.specs.Comparison.{pairs, nearest, nearestTrace, judged, compareFault, outcomeOf, traceAfter}
 use Rattle.comparison_spec.specs.Numbers.{compared}
-use Rattle.comparison_spec.specs.Meaning.{ReachedBefore, ReachedEver, Number, Nearest, SmallestStray, FirstRefused, Describes, refines, stray, refusal}
+use Rattle.comparison_spec.specs.Meaning.{ReachedBefore, ReachedEver, Number, Nearest, FirstRefused, Describes, refines, stray, refusal}
 use Rattle.comparison_spec.specs.ComparisonLaws.{trace-length, nearest-below, nearest-only, refines-nearest}
 use Rattle.comparison_spec.specs.OutcomeLaws.{traceOf, judged-describes}
 use Rattle.comparison_spec.specs.CallLaws.{compare-fits, given-outcome, given-trace}

@@ -17,9 +17,9 @@ use Rattle.sheet_spec.specs.declared.Sheet.{Sheet}
 use Rattle.sheet_spec.specs.Kept.{row, successor, initials, mayStop}
 use Rattle.sheet_spec.specs.Faults.{Initial}
 use Rattle.sheet_spec.specs.Rules.{sheetFault}
-use Rattle.sheet_spec.specs.RuleLaws.{Ranges, initials→, initials←}
+use Rattle.sheet_spec.specs.RuleLaws.{initials→, initials←}
 use Rattle.sheet_spec.specs.CheckLaws.{check-numbers, further, finally}
-use Rattle.sheet_spec.specs.Sound.{Sound, check-sound}
+use Rattle.sheet_spec.specs.Sound.{check-sound}
 use Rattle.tests_spec.specs.declared.Run.{Run}
 use Rattle.tests_spec.specs.declared.Report.{Report}
 use Rattle.tests_spec.specs.declared.Report.the-variants.{Event, Blocked}

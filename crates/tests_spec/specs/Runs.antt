@@ -14,7 +14,6 @@ use Rattle.probes_spec.specs.Probes.{probes}
 use Rattle.tests_spec.specs.declared.Run.{Run}
 use Rattle.tests_spec.specs.declared.Report.{Report}
 use Rattle.tests_spec.specs.declared.Report.the-variants.{Event, Blocked}
-use Rattle.tests_spec.specs.declared.Answer.{Answer}
 use Rattle.tests_spec.specs.declared.Answer.the-variants.{Going, Stray, Refused, Passed, Denied}
 use Rattle.tests_spec.specs.declared.Stepped.{Stepped}
 
