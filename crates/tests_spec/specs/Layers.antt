@@ -165,7 +165,8 @@ module _ (to : Bool) (P Q : Sheet) where
           let n = any→ (λ n. any (at (j .0) n) (Q .n)) (P .n) (j .2) in
           let m = any→ (at (j .0) (n .0)) (Q .n) (n .2) in
           end (j .0) (n .0) (m .0) (j .1) (n .1) (m .1)
-          (pairReached-means (op .graphed) (oq .graphed) (j .0) (n .0) (m .0) (n .1) (m .1) .0 (and-l (pairReached (graph P) (graph Q) (j .0) (n .0) (m .0)) _ (m .2)))
+          (pairReached-means (op .graphed) (oq .graphed) (j .0) (n .0) (m .0) (n .1) (m .1) .0
+          (and-l (pairReached (graph P) (graph Q) (j .0) (n .0) (m .0)) _ (m .2)))
           (and-r (pairReached (graph P) (graph Q) (j .0) (n .0) (m .0)) _ (m .2))
         where
           end : (j n m : ℕ) → j < suc k → n < P .n → m < Q .n → PairReachedIn (graph P) (graph Q) j n m

@@ -101,13 +101,15 @@ NotOffered s r Blocked = ⊥
 abbrev pub RecordFault : Sheet → Run → Type 0
 RecordFault s r = (s .n ≤ r .node) ⊎ ((r .k < r .depth) ⊎ (1023 < r .k))
 
--- the sheet is accepted; and the run has not ended; and its record is good
+-- neither the sheet's own refusal nor 16: the sheet is accepted and the run has not ended
 abbrev pub Shown : Sheet → Run → Type 0
 Shown s r = (sheetFault s ≡ 0) × (¬ (r .ended ≡ true))
 
-abbrev pub Kept : Sheet → Run → Type 0
-Kept s r = Shown s r × (¬ RecordFault s r)
+-- nor 9: the record fits the sheet
+abbrev pub Fitting : Sheet → Run → Type 0
+Fitting s r = Shown s r × (¬ RecordFault s r)
 
+-- the tests of 9, 16 and 17 look for these
 record-finds : (s : Sheet) (r : Run) → Finds (recordOk s r) (RecordFault s r)
 unfolding recordOk
 record-finds s r = finds-and (finds-lt (r .node) (s .n)) (finds-and (finds-le (r .depth) (r .k)) (finds-le (r .k) 1023))
@@ -118,6 +120,7 @@ ended-finds b = finds-not (λ t. t) (λ t x. clash x t)
 has-finds : (X i : ℕ) → Finds (has X i) (bit X i ≢ 1)
 has-finds X i = record { clear = λ t n. n (has→ X i t); fault = λ t e. clash (has← X i e) t }
 
+-- the numbers that come from the event
 event-15 : (s : Sheet) (r : Run) (x : Report) → (eventFault s r x ≡ 15) ↔ Beyond s x
 unfolding eventFault Beyond
 event-15 s r (Event i) =
@@ -162,7 +165,7 @@ module _ (s : Sheet) (r : Run) (x : Report) where
   unfolding after-sheet after16
   pass-16 m c n = further (pass-sheet m c) (λ h. unless-pass 16 after16 m (ended-finds (r .ended)) n)
 
-  pass-9 : (m : ℕ) → (8 < m) ⊎ (m ≡ 0) → 16 ≢ m → 9 ≢ m → (reportFault s r x ≡ m) ↔ (Kept s r × (after9 ≡ m))
+  pass-9 : (m : ℕ) → (8 < m) ⊎ (m ≡ 0) → 16 ≢ m → 9 ≢ m → (reportFault s r x ≡ m) ↔ (Fitting s r × (after9 ≡ m))
   unfolding after16 after9
   pass-9 m c n o = further (pass-16 m c n) (λ h. unless-pass 9 after9 m (record-finds s r) o)
 
@@ -190,17 +193,17 @@ module _ (s : Sheet) (r : Run) (x : Report) where
       (λ h. unless-hit 9 _ (record-finds s r) (event-numbers s r x 9 (λ e. omega arith) (λ e. omega arith) (λ e. omega arith)))
 
   -- 15: an event that the sheet has not
-  pub report-15 : (reportFault s r x ≡ 15) ↔ (Kept s r × Beyond s x)
+  pub report-15 : (reportFault s r x ≡ 15) ↔ (Fitting s r × Beyond s x)
   unfolding after9
   report-15 = finally (pass-9 15 (inl (omega arith)) (λ e. omega arith) (λ e. omega arith)) (λ h. event-15 s r x)
 
   -- 17: an event that is not offered
-  pub report-17 : (reportFault s r x ≡ 17) ↔ ((Kept s r × (¬ Beyond s x)) × NotOffered s r x)
+  pub report-17 : (reportFault s r x ≡ 17) ↔ ((Fitting s r × (¬ Beyond s x)) × NotOffered s r x)
   unfolding after9
   report-17 = further (pass-9 17 (inl (omega arith)) (λ e. omega arith) (λ e. omega arith)) (λ h. event-17 s r x)
 
   -- no refusal: none of these holds
-  pub report-0 : (reportFault s r x ≡ 0) ↔ ((Kept s r × (¬ Beyond s x)) × (¬ NotOffered s r x))
+  pub report-0 : (reportFault s r x ≡ 0) ↔ ((Fitting s r × (¬ Beyond s x)) × (¬ NotOffered s r x))
   unfolding after9
   report-0 = further (pass-9 0 (inr refl) (λ e. omega arith) (λ e. omega arith)) (λ h. event-0 s r x)
 
@@ -299,10 +302,11 @@ taken s r x = go (dec (eqb (reportFault s r x) 0))
     go (inl t) = answered x (eqb-true _ 0 t)
     go (inr t) = let n = eqb-false (reportFault s r x) 0 t in denies n (step-denied s r x n)
 
--- the numbers of the answer and its record, read off an equation of a step
+-- the answer, read off an equation of a step
 pub answer-of : {z : Stepped} {a : Answer} {r : Run} → z ≡ with a r → z .answer ≡ a
 answer-of e = ap (λ (z : Stepped). z .answer) e
 
+-- and the record beside it
 pub run-of : {z : Stepped} {a : Answer} {r : Run} → z ≡ with a r → z .run ≡ r
 run-of e = ap (λ (z : Stepped). z .run) e
 

@@ -34,7 +34,8 @@ use Rattle.tests_spec.specs.Verdicts.{CanReport, Failed, deviceAfter, En
 use Rattle.tests_spec.specs.Numbers.{said, judged}
 use Rattle.tests_spec.specs.Offers.{offer-all, offer-below, offer-at, offer-outside}
 use Rattle.tests_spec.specs.Blocks.{stop-blocks, all-blocked, block-refusal, refusal-block}
-use Rattle.tests_spec.specs.RunLaws.{sheet-small, open-0, open-going, Beyond, NotOffered, RecordFault, report-0, with, answer-of, run-of, kind-once, value-once}
+use Rattle.tests_spec.specs.RunLaws.{sheet-small, open-0, open-going, Beyond, NotOffered, RecordFault}
+use Rattle.tests_spec.specs.RunLaws.{report-0, with, answer-of, run-of, kind-once, value-once}
 use Rattle.tests_spec.specs.RunLaws.{stray-step, moving-step, blocked-refused, Taken, denies, moves, strays, refuses, passes, taken}
 use Rattle.tests_spec.specs.Layers.{StopsAt, FailsOn, fails-next}
 
@@ -128,7 +129,7 @@ verdict-refused P Q k to m = (λ e. forth e (dec (eqb (verdictFault P Q k) 0)), 
     back : (verdictFault P Q k ≡ m) × (m ≢ 0) → verdictOf P Q k to ≡ NoVerdict m
     back (e, n) = verdict-denied P Q k to (λ z. n (sym e ∙ z)) ∙ ap NoVerdict e
 
--- at a node an initial leads on to a node, and the events that lead on are the initials
+-- at a node an initial leads on to a node ..
 leads-on : {s : Sheet} → Sound s → (v i : ℕ) → v < s .n → Initial (s .e) (row s v) i → (step s v i ≡ successor (row s v) i) × (successor (row s v) i < s .n)
 unfolding step
 leads-on {s} o v i l (k, n) = (rw (lt-ltb v (s .n) l, lt-ltb i (s .e) k), go (o .successors v i l k))
@@ -137,6 +138,7 @@ leads-on {s} o v i l (k, n) = (rw (lt-ltb v (s .n) l, lt-ltb i (s .e) k), go (o 
     go (inl e) = absurd (n e)
     go (inr d) = d
 
+-- .. and an event that leads on is an initial
 led-on : {s : Sheet} → Sound s → (v i : ℕ) → v < s .n → step s v i < s .n → Initial (s .e) (row s v) i × (step s v i ≡ successor (row s v) i)
 unfolding step
 led-on {s} o v i l d =
@@ -406,8 +408,10 @@ module _ (P Q : Sheet) (accP : sheetFault P ≡ 0) (accQ : sheetFault Q ≡ 0) (
   -- and "passes" exactly if none can
   pub verdict-passes : (verdictOf P Q k to ≡ Passes) ↔ (¬ FailsTest to P Q k)
   unfolding judged
-  verdict-passes =
-      (λ e f. forth (failsFrom to P Q k 0 0) (sym given ∙ e) (fails-means .1 f), λ n. given ∙ ap (λ (b : Bool). cond b Fails Passes) (not-i (λ t. n (fails-means .0 t))))
+  verdict-passes = (
+    λ e f. forth (failsFrom to P Q k 0 0) (sym given ∙ e) (fails-means .1 f),
+    λ n. given ∙ ap (λ (b : Bool). cond b Fails Passes) (not-i (λ t. n (fails-means .0 t))),
+  )
     where
       forth : (b : Bool) → cond b Fails Passes ≡ Passes → b ≡ true → ⊥
       forth true e t = let z : judged Fails .kind ≡ judged Passes .kind = ap (λ (v : Verdict). judged v .kind) e in omega arith
