@@ -90,13 +90,13 @@ pub fn count(sets: [u16; 16], c: usize, e: usize) -> usize
     ensures { λ r. ⌜ r ≡ length (probes (take c sets) e) ⌝ }
 {
     let end = rounds(e);
-    let mut n: usize = 0;
+    let mut found: usize = 0;
     let mut x = next_turn(sets, c, e, 0);
     while x < end {
-        n += 1;
+        found += 1;
         x = next_turn(sets, c, e, x + 1);
     }
-    n
+    found
 }
 
 // The probe at a place of the list, 0 where the list has no such place.
@@ -122,12 +122,12 @@ fn fill(sets: [u16; 16], c: usize, e: usize, out: &mut [u16])
     requires { ⌜ (c ≤ 16) × (e ≤ 12) × (length (probes (take c sets) e) ≤ length (now out)) ⌝ }
     ensures { λ r. ⌜ now (out .exit) ≡ front (now (out .entry)) (probes (take c sets) e) ⌝ }
 {
-    let end = rounds(e);
-    let mut n: usize = 0;
+    let last = rounds(e);
+    let mut at: usize = 0;
     let mut x = next_turn(sets, c, e, 0);
-    while x < end {
-        out[n] = set_of(e, x);
-        n += 1;
+    while x < last {
+        out[at] = set_of(e, x);
+        at += 1;
         x = next_turn(sets, c, e, x + 1);
     }
 }

@@ -8,4 +8,3 @@ pub mod FirstMissed
 pub mod FirstMissedLaws
 pub mod Listing
 pub mod ListingLaws
-pub mod Cases

@@ -17,13 +17,15 @@ unfoldable pub onePass : List ℕ → ℕ → ℕ → Bool
 onePass [] x own = eqb own x
 onePass (a ∷ accs) x own = cond (eqb (bitAnd a x) 0) false (onePass accs x (bitOr own (lone (bitAnd a x))))
 
--- the loop over all sets: how many turns it has, which set a turn looks at, and whether it lists that set
+-- how many turns the loop over all sets of e events has
 unfoldable pub turns : ℕ → ℕ
 turns e = 2 ^ e
 
+-- the set that turn n looks at
 unfoldable pub value : ℕ → ℕ → ℕ
 value e n = n
 
+-- whether turn n lists its set
 unfoldable pub turn : List ℕ → ℕ → ℕ → Bool
 turn accs e n = isProbe accs (value e n)
 

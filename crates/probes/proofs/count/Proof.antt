@@ -1,4 +1,4 @@
--- `probes::count`. The loop's invariant: it stands at a turn that lists its set, or at the end, and `n` sets were listed before.
+-- `probes::count`. The loop's invariant: it stands at a turn that lists its set, or at the end, and `found` sets were listed before.
 use mathlib.Core.Path.{_≡_, sym, ap, _∙_}
 use Prim.Native.Nat.{_+_, _-_, _≤_}
 use native.Mathlib.Omega.{arith}
@@ -9,10 +9,10 @@ use Rattle.probes.proofs.count.Statement.{statement}
 use Rattle.probes.proofs.count.Tie as tie
 
 abbrev Inv-loop : tie.InvT-loop
-Inv-loop sets c e end n₀ x₀ n x = (x ≤ end) × Stands (take c sets) e x × (n ≡ length (seen (take c sets) e x))
+Inv-loop sets c e end found₀ x₀ found x = (x ≤ end) × Stands (take c sets) e x × (found ≡ length (seen (take c sets) e x))
 
 abbrev μ-loop : tie.MeasureT-loop
-μ-loop sets c e end n₀ x₀ n x = end - x
+μ-loop sets c e end found₀ x₀ found x = end - x
 
 rounds-requires : tie.Need-rounds-requires Inv-loop μ-loop
 rounds-requires c κs = omega arith
@@ -26,8 +26,8 @@ loop-holds c =
     let s = stands-next (take (a .c) (a .sets)) (a .e) 0 (c .next-turn .result) (omega arith) (c .next-turn .ensures) in
     (omega (arith, s .most), s, sym (ap length (seen-start (take (a .c) (a .sets)) (a .e) (c .next-turn .result) (c .next-turn .ensures))))
 
-add-n : tie.Need-add-n Inv-loop μ-loop
-add-n c =
+add-found : tie.Need-add-found Inv-loop μ-loop
+add-found c =
     let a = c .before .before .before .before .args in
     omega (arith, seen-short (take (a .c) (a .sets)) (a .e) (c .before .loop .x))
 
@@ -65,7 +65,7 @@ count-spec =
     rounds-requires
     next-turn-requires
     loop-holds
-    add-n
+    add-found
     add-next-turn
     next-turn-requires-2
     loop-less

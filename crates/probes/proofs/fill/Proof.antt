@@ -1,4 +1,4 @@
--- `probes::fill`. The loop's invariant: it stands at a turn that lists its set, or at the end, and the `n` sets listed before are
+-- `probes::fill`. The loop's invariant: it stands at a turn that lists its set, or at the end, and the `at` sets listed before are
 -- the front of the list, the rest of which is as it was.
 use mathlib.Core.Path.{_≡_, sym, ap, _∙_}
 use Prim.Native.Nat.{_+_, _-_, _≤_}
@@ -12,11 +12,11 @@ use Rattle.probes.proofs.fill.Statement.{statement}
 use Rattle.probes.proofs.fill.Tie as tie
 
 abbrev Inv-loop : tie.InvT-loop
-Inv-loop sets c e out₀ end n₀ x₀ out n x =
-    (x ≤ end) × Stands (take c sets) e x × (n ≡ length (seen (take c sets) e x)) × (out ≡ front out₀ (seen (take c sets) e x)) × (length out ≡ length out₀)
+Inv-loop sets c e out₀ last at₀ x₀ out at x =
+    (x ≤ last) × Stands (take c sets) e x × (at ≡ length (seen (take c sets) e x)) × (out ≡ front out₀ (seen (take c sets) e x)) × (length out ≡ length out₀)
 
 abbrev μ-loop : tie.MeasureT-loop
-μ-loop sets c e out₀ end n₀ x₀ out n x = end - x
+μ-loop sets c e out₀ last at₀ x₀ out at x = last - x
 
 rounds-requires : tie.Need-rounds-requires Inv-loop μ-loop
 rounds-requires c κs = omega arith
@@ -46,8 +46,8 @@ slice-write-out c =
     let a = l .before .before .before .before .args in
     omega (arith, seen-room (take (a .c) (a .sets)) (a .e) (l .loop .x) (l .loop .inv .1) (omega arith))
 
-add-n : tie.Need-add-n Inv-loop μ-loop
-add-n c =
+add-at : tie.Need-add-at Inv-loop μ-loop
+add-at c =
     let l = c .before .before in
     let a = l .before .before .before .before .args in
     omega (arith, seen-short (take (a .c) (a .sets)) (a .e) (l .loop .x))
@@ -74,9 +74,9 @@ loop-again c =
       omega (arith, s .most),
       s,
       omega (arith, l .loop .inv .2, seen-count (take (a .c) (a .sets)) (a .e) (l .loop .x) (l .loop .inv .1) (omega arith) (y .result) (y .ensures)),
-      ap (set (l .loop .out) (l .loop .n)) (v .ensures)
-          ∙ fill-more (take (a .c) (a .sets)) (a .e) (l .loop .x) (l .loop .inv .1) (omega arith) (now (a .out)) (l .loop .out) (l .loop .n) (y .result) (l .loop .inv .2) (l .loop .inv .3) (omega arith) (y .ensures),
-      length-set (l .loop .out) (l .loop .n) (v .result) ∙ l .loop .inv .4,
+      ap (set (l .loop .out) (l .loop .at)) (v .ensures)
+          ∙ fill-more (take (a .c) (a .sets)) (a .e) (l .loop .x) (l .loop .inv .1) (omega arith) (now (a .out)) (l .loop .out) (l .loop .at) (y .result) (l .loop .inv .2) (l .loop .inv .3) (omega arith) (y .ensures),
+      length-set (l .loop .out) (l .loop .at) (v .result) ∙ l .loop .inv .4,
     )
 
 same-length : tie.Need-same-length Inv-loop μ-loop
@@ -100,7 +100,7 @@ fill-spec =
     set-of-requires
     mul-out
     slice-write-out
-    add-n
+    add-at
     add-next-turn
     next-turn-requires-2
     loop-less

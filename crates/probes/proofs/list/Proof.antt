@@ -39,6 +39,7 @@ sheet-good c = sym (c .before .before .before .before .check .ensures) ∙ c .be
 node-good : (c : tie.After-wide2) → c .before .before .before .before .before .before .args .node < c .before .before .before .before .before .before .args .t1 .n
 node-good c = omega (arith, c .before .before .if2 .left)
 
+-- the sheet has the form that its type says
 form : (c : tie.After-wide2) → SheetForm (c .before .before .before .before .before .before .args .t1)
 form c = let g = c .before .before .before .before .before .before in sheet-form (g .args .t1) _ (g .good .0)
 
