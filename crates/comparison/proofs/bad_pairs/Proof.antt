@@ -1,0 +1,119 @@
+-- After k turns the first k pairs are told in the table.
+use mathlib.Core.Path.{_∙_}
+use mathlib.Core.Bool.{false}
+use Prim.Native.Nat.{_-_, _≤_}
+use native.Mathlib.Omega.{arith}
+use Rattle.sheet.proofs.Loops.{Filling, empty, stored}
+use Rattle.comparison.specs.Shapes.{badAt}
+use Rattle.comparison.proofs.Pairs.{q-some, pairs-most, first-node, second-node, bad-is, bad-all}
+use Rattle.comparison.proofs.bad_pairs.Statement.{statement}
+use Rattle.comparison.proofs.bad_pairs.Tie as tie
+
+abbrev Inv-loop : tie.InvT-loop
+Inv-loop trace-only reference device e q n xs ys table₀ k₀ table k = (k ≤ n) × Filling (badAt trace-only reference device) false 1024 k table
+
+abbrev μ-loop : tie.MeasureT-loop
+μ-loop trace-only reference device e q n xs ys table₀ k₀ table k = n - k
+
+wide-requires : tie.Need-wide-requires Inv-loop μ-loop
+wide-requires c κs = tt
+
+wide-requires-2 : tie.Need-wide-requires-2 Inv-loop μ-loop
+wide-requires-2 c κs = tt
+
+wide-requires-3 : tie.Need-wide-requires-3 Inv-loop μ-loop
+wide-requires-3 c κs = tt
+
+mul-n : tie.Need-mul-n Inv-loop μ-loop
+mul-n c = omega (arith, pairs-most (c .before .before .before .args .t1) (c .before .before .before .args .t2) (c .before .before .before .pre) (c .before .before .wide .ensures) (c .wide3 .ensures) (c .before .wide2 .ensures))
+
+initials-requires : tie.Need-initials-requires Inv-loop μ-loop
+initials-requires c κs = tt
+
+initials-requires-2 : tie.Need-initials-requires-2 Inv-loop μ-loop
+initials-requires-2 c κs = tt
+
+loop-holds : tie.Need-loop-holds Inv-loop μ-loop
+loop-holds c = (omega arith, empty)
+
+div-v : tie.Need-div-v Inv-loop μ-loop
+div-v c = omega (arith, q-some (c .before .before .before .before .before .before .before .args .t1) (c .before .before .before .before .before .before .before .args .t2) (c .before .before .before .before .before .before .before .pre) (c .before .before .before .before .before .before .wide .ensures) (c .before .before .before .before .wide3 .ensures) (c .before .before .before .before .before .wide2 .ensures))
+
+rem-w : tie.Need-rem-w Inv-loop μ-loop
+rem-w c = omega (arith, q-some (c .before .before .before .before .before .before .before .args .t1) (c .before .before .before .before .before .before .before .args .t2) (c .before .before .before .before .before .before .before .pre) (c .before .before .before .before .before .before .wide .ensures) (c .before .before .before .before .wide3 .ensures) (c .before .before .before .before .before .wide2 .ensures))
+
+mul-a : tie.Need-mul-a Inv-loop μ-loop
+mul-a c = omega (arith, first-node (c .before .before .before .before .before .before .before .args .t1) (c .before .before .before .before .before .before .before .args .t2) (c .before .before .before .before .before .before .before .pre) (c .before .before .before .before .before .before .wide .ensures) (c .before .before .before .before .wide3 .ensures) (c .before .before .before .before .before .wide2 .ensures) (c .before .loop .k) (c .loop-test .taken))
+
+element-copy-out-a : tie.Need-element-copy-out-a Inv-loop μ-loop
+element-copy-out-a c = omega (arith, first-node (c .before .before .before .before .before .before .before .args .t1) (c .before .before .before .before .before .before .before .args .t2) (c .before .before .before .before .before .before .before .pre) (c .before .before .before .before .before .before .wide .ensures) (c .before .before .before .before .wide3 .ensures) (c .before .before .before .before .before .wide2 .ensures) (c .before .loop .k) (c .loop-test .taken))
+
+mul-b : tie.Need-mul-b Inv-loop μ-loop
+mul-b c = omega (arith, second-node (c .before .before .before .before .before .before .before .before .args .t1) (c .before .before .before .before .before .before .before .before .args .t2) (c .before .before .before .before .before .before .before .before .pre) (c .before .before .before .before .before .before .before .wide .ensures) (c .before .before .before .before .before .wide3 .ensures) (c .before .before .before .before .before .before .wide2 .ensures) (c .before .before .loop .k))
+
+element-copy-out-b : tie.Need-element-copy-out-b Inv-loop μ-loop
+element-copy-out-b c = omega (arith, second-node (c .before .before .before .before .before .before .before .before .args .t1) (c .before .before .before .before .before .before .before .before .args .t2) (c .before .before .before .before .before .before .before .before .pre) (c .before .before .before .before .before .before .before .wide .ensures) (c .before .before .before .before .before .wide3 .ensures) (c .before .before .before .before .before .before .wide2 .ensures) (c .before .before .loop .k))
+
+mul-is-bad : tie.Need-mul-is-bad Inv-loop μ-loop
+mul-is-bad c = omega (arith, first-node (c .before .before .before .before .before .before .before .before .before .args .t1) (c .before .before .before .before .before .before .before .before .before .args .t2) (c .before .before .before .before .before .before .before .before .before .pre) (c .before .before .before .before .before .before .before .before .wide .ensures) (c .before .before .before .before .before .before .wide3 .ensures) (c .before .before .before .before .before .before .before .wide2 .ensures) (c .before .before .before .loop .k) (c .before .before .loop-test .taken))
+
+array-read-is-bad : tie.Need-array-read-is-bad Inv-loop μ-loop
+array-read-is-bad c = omega (arith, first-node (c .before .before .before .before .before .before .before .before .before .args .t1) (c .before .before .before .before .before .before .before .before .before .args .t2) (c .before .before .before .before .before .before .before .before .before .pre) (c .before .before .before .before .before .before .before .before .wide .ensures) (c .before .before .before .before .before .before .wide3 .ensures) (c .before .before .before .before .before .before .before .wide2 .ensures) (c .before .before .before .loop .k) (c .before .before .loop-test .taken))
+
+mul-is-bad-2 : tie.Need-mul-is-bad-2 Inv-loop μ-loop
+mul-is-bad-2 c = omega (arith, second-node (c .before .before .before .before .before .before .before .before .before .args .t1) (c .before .before .before .before .before .before .before .before .before .args .t2) (c .before .before .before .before .before .before .before .before .before .pre) (c .before .before .before .before .before .before .before .before .wide .ensures) (c .before .before .before .before .before .before .wide3 .ensures) (c .before .before .before .before .before .before .before .wide2 .ensures) (c .before .before .before .loop .k))
+
+array-read-is-bad-2 : tie.Need-array-read-is-bad-2 Inv-loop μ-loop
+array-read-is-bad-2 c = omega (arith, second-node (c .before .before .before .before .before .before .before .before .before .args .t1) (c .before .before .before .before .before .before .before .before .before .args .t2) (c .before .before .before .before .before .before .before .before .before .pre) (c .before .before .before .before .before .before .before .before .wide .ensures) (c .before .before .before .before .before .before .wide3 .ensures) (c .before .before .before .before .before .before .before .wide2 .ensures) (c .before .before .before .loop .k))
+
+is-bad-requires : tie.Need-is-bad-requires Inv-loop μ-loop
+is-bad-requires c κs = tt
+
+array-write-table : tie.Need-array-write-table Inv-loop μ-loop
+array-write-table c = omega (arith, pairs-most (c .before .before .before .before .before .before .before .before .before .before .args .t1) (c .before .before .before .before .before .before .before .before .before .before .args .t2) (c .before .before .before .before .before .before .before .before .before .before .pre) (c .before .before .before .before .before .before .before .before .before .wide .ensures) (c .before .before .before .before .before .before .before .wide3 .ensures) (c .before .before .before .before .before .before .before .before .wide2 .ensures))
+
+add-k : tie.Need-add-k Inv-loop μ-loop
+add-k c = omega (arith, pairs-most (c .before .before .before .before .before .before .before .before .before .before .args .t1) (c .before .before .before .before .before .before .before .before .before .before .args .t2) (c .before .before .before .before .before .before .before .before .before .before .pre) (c .before .before .before .before .before .before .before .before .before .wide .ensures) (c .before .before .before .before .before .before .before .wide3 .ensures) (c .before .before .before .before .before .before .before .before .wide2 .ensures))
+
+loop-less : tie.Need-loop-less Inv-loop μ-loop
+loop-less c = omega arith
+
+loop-again : tie.Need-loop-again Inv-loop μ-loop
+loop-again c = (
+  omega arith,
+  stored (c .before .before .before .before .loop .inv .1) (omega (arith, pairs-most (c .before .before .before .before .before .before .before .before .before .before .args .t1) (c .before .before .before .before .before .before .before .before .before .before .args .t2) (c .before .before .before .before .before .before .before .before .before .before .pre) (c .before .before .before .before .before .before .before .before .before .wide .ensures) (c .before .before .before .before .before .before .before .wide3 .ensures) (c .before .before .before .before .before .before .before .before .wide2 .ensures))) (c .is-bad .ensures
+      ∙ bad-is (c .before .before .before .before .before .before .before .before .before .before .args .t1) (c .before .before .before .before .before .before .before .before .before .before .args .t2) (c .before .before .before .before .before .before .before .before .before .before .pre) (c .before .before .before .before .before .before .before .before .before .wide .ensures) (c .before .before .before .before .before .before .before .wide3 .ensures) (c .before .before .before .before .before .before .before .before .wide2 .ensures) _ _ _ (c .before .before .before .before .loop .k) (c .before .before .before .loop-test .taken) (c .before .before .before .before .before .before .initials .ensures) (c .before .before .before .before .before .initials2 .ensures)),
+)
+
+returns : tie.Need-returns Inv-loop μ-loop
+returns c = bad-all (c .before .before .before .before .before .before .before .args .t1) (c .before .before .before .before .before .before .before .args .t2) (c .before .before .before .before .before .before .before .pre) (c .before .before .before .before .before .before .wide .ensures) (c .before .before .before .before .wide3 .ensures) (c .before .before .before .before .before .wide2 .ensures) _ _ (c .before .loop .k) (c .before .loop .inv .0) (c .loop-test .left) (c .before .loop .inv .1)
+
+pub bad-pairs-spec : {M : Type 1} → statement M
+bad-pairs-spec =
+    tie.close
+    (tie.spec
+    Inv-loop
+    μ-loop
+    wide-requires
+    wide-requires-2
+    wide-requires-3
+    mul-n
+    initials-requires
+    initials-requires-2
+    loop-holds
+    div-v
+    rem-w
+    mul-a
+    element-copy-out-a
+    mul-b
+    element-copy-out-b
+    mul-is-bad
+    array-read-is-bad
+    mul-is-bad-2
+    array-read-is-bad-2
+    is-bad-requires
+    array-write-table
+    add-k
+    loop-less
+    loop-again
+    returns)

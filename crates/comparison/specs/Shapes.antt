@@ -1,0 +1,65 @@
+-- What the comparison's code makes on its way, and what it promises.
+use mathlib.Core.Path.{_≡_}
+use mathlib.Core.Bool.{Bool, false, not, _&&_, _||_}
+use mathlib.Core.List.{List, _++_}
+use Prim.Native.Nat.{ℕ, _-_, _*_, _/_, _%_, _≤_, _<_}
+use lib.Dec.{eqb, leb}
+use lib.ListN.{replicate}
+use Rattle.base.specs.Refusal.{unless, orElse}
+use Rattle.base.specs.Table.{upTo}
+use Rattle.sheet_spec.specs.declared.Row.{Row}
+use Rattle.sheet_spec.specs.declared.Sheet.{Sheet}
+use Rattle.sheet_spec.specs.Kept.{row, successor, initials}
+use Rattle.sheet_spec.specs.Rules.{sheetFault}
+use Rattle.refinement.specs.PairTests.{strays, hasRefusal, violating}
+use Rattle.comparison_spec.specs.declared.Outcome.{Outcome}
+use Rattle.comparison_spec.specs.declared.Outcome.the-variants.{Refines}
+use Rattle.comparison_spec.specs.Comparison.{named, outcomeOf, traceAfter, workAfter}
+use Rattle.comparison_spec.specs.Numbers.{compared}
+use Rattle.search_spec.specs.declared.Found.{Found}
+use Rattle.search_spec.specs.declared.Found.the-variants.{Clear, Bad}
+
+-- What `compare` promises: its answer, 01's numbers of the answer, and the two lent lists at exit.
+pub record Compares (traceOnly : Bool) (P Q : Sheet) (work trace work′ trace′ : List ℕ) (r : Outcome) : Type 0 where
+  pub answer : r ≡ outcomeOf traceOnly P Q work trace
+  pub numbers : compared r ≡ compared (outcomeOf traceOnly P Q work trace)
+  pub traced : trace′ ≡ traceAfter traceOnly P Q work trace
+  pub zeroed : work′ ≡ workAfter P Q work trace
+
+-- the refusal, by the lengths of the two lists
+unfoldable pub faultOn : Sheet → Sheet → ℕ → ℕ → ℕ
+faultOn P Q words places =
+    orElse (sheetFault P)
+    (orElse (sheetFault Q)
+    (unless (eqb (P .e) (Q .e)) 11
+    (unless (leb (3 * (P .n * Q .n)) words) 12
+    (unless (leb (P .n * Q .n - 1) places) 13 0))))
+
+-- what stands at place k of a sheet's table of successors
+unfoldable pub flatAt : Sheet → ℕ → ℕ
+flatAt s k = successor (row s (k / 12)) (k % 12)
+
+-- the initials of node v
+unfoldable pub initialsAt : ℕ → Sheet → ℕ → ℕ
+initialsAt e s v = initials e (row s v)
+
+-- the pair of two rows with the initials X and Y is violating
+unfoldable pub violatesBy : Bool → ℕ → ℕ → Row → Row → Bool
+violatesBy traceOnly X Y r q = not (eqb (strays X Y) 0) || (not traceOnly && hasRefusal r q)
+
+-- what stands at place k of the table of violating pairs
+unfoldable pub badAt : Bool → Sheet → Sheet → ℕ → Bool
+badAt traceOnly P Q k = violating traceOnly P Q (k / Q .n) (k % Q .n)
+
+unfoldable pub badTable : Bool → Sheet → Sheet → List Bool
+badTable traceOnly P Q = upTo (badAt traceOnly P Q) (P .n * Q .n) ++ replicate (1024 - P .n * Q .n) false
+
+-- the answer that follows from the search's
+unfoldable pub told : Sheet → Sheet → Found → Outcome
+told P Q (Clear cleared) = Refines cleared
+told P Q (Bad d v w cleared) = named d cleared (P .e) (row P v) (row Q w)
+
+-- the numbers that a search may give
+unfoldable pub Fits : Sheet → Sheet → Found → Type 0
+Fits P Q (Clear cleared) = cleared ≤ 1024
+Fits P Q (Bad d v w cleared) = (d ≤ 1024) × (v < P .n) × (w < Q .n) × (cleared ≤ 1024)

@@ -1,0 +1,157 @@
+-- What the search answers and leaves behind, said by the theory of walks alone; and that the queue's end gives it.
+use mathlib.Core.Path.{_≡_, sym, ap, _∙_}
+use mathlib.Core.Logic.{_⊎_, inl, inr}
+use mathlib.Core.Bool.{Bool, true, false, cond}
+use mathlib.Core.List.{List, _++_}
+use Prim.Native.Nat.{ℕ, _*_, _/_, _%_, _≤_, _<_}
+use native.Mathlib.Omega.{arith}
+use native.Mathlib.Nat.{div-add-mod', div-lt-iff-lt-mul, mod-lt}
+use lib.Dec.{leb, ltb}
+use lib.ListN.{length, drop, replicate}
+use borrow.Author.Tests.{lt-ltb, le-ltb}
+use Rattle.base.specs.Truth.{lt-or-ge}
+use Rattle.base.specs.Range.{first}
+use Rattle.walks.specs.Graph.{Graph, WellFormed, walk}
+use Rattle.walks.specs.Product.{code, product, product-at}
+use Rattle.walks.specs.Pairs.{pairDistance, pairTrace, pairTrace-length, pairCleared, onCodes}
+use Rattle.search_spec.specs.declared.Found.{Found}
+use Rattle.search_spec.specs.declared.Found.the-variants.{Clear, Bad}
+use Rattle.search_spec.specs.Tables.{tableGraph, tablePairs, badIn, badCode, table-wellFormed, pairs-wellFormed}
+use Rattle.search_spec.specs.Queue.{readBack, path-walk, cleared-all, distance-none, distance-is, trace-is, cleared-before}
+use Rattle.search_spec.specs.Words.{St, nodeAt, linkAt, distAt, Running, tail-le}
+
+module _ (r d : Graph) (bad : ℕ → ℕ → Bool) where
+  -- The answer of a search: the nearest bad pair with its distance, the pair to which its least trace leads, and how many pairs are
+  -- nearer; if none is reached, how many pairs are.
+  unfoldable pub foundOf : Found
+  foundOf = cond (ltb (pairDistance r d bad) (r .size * d .size))
+      (Bad (pairDistance r d bad) (walk r 0 (pairTrace r d bad)) (walk d 0 (pairTrace r d bad)) (pairCleared r d (pairDistance r d bad)))
+      (Clear (pairCleared r d (r .size * d .size)))
+
+  -- The trace list at exit: the least trace in front and the rest untouched; as it was if no bad pair is reached.
+  unfoldable pub traceAfter : List ℕ → List ℕ
+  traceAfter trace = cond (ltb (pairDistance r d bad) (r .size * d .size)) (pairTrace r d bad ++ drop (length (pairTrace r d bad)) trace) trace
+
+-- The work list at exit: the first 3 n words are 0 and the rest untouched.
+unfoldable pub workAfter : ℕ → List ℕ → List ℕ
+workAfter n work = replicate (3 * n) 0 ++ drop (3 * n) work
+
+-- What a search over two tables answers and leaves in its lists.
+pub record Searched (a b : List ℕ) (p q e : ℕ) (bad : List Bool) (work trace work′ trace′ : List ℕ) (found : Found) : Type 0 where
+  pub answer : found ≡ foundOf (tableGraph a p e) (tableGraph b q e) (badIn bad q)
+  pub traced : trace′ ≡ traceAfter (tableGraph a p e) (tableGraph b q e) (badIn bad q) trace
+  pub zeroed : work′ ≡ workAfter (p * q) work
+
+-- The search has ended at entry h: it is the first bad one, or there is none.
+pub record Ended (g : Graph) (bad : ℕ → Bool) (h : ℕ) (s : St) : Type 0 where
+  pub running : Running g h 0 s
+  pub within : h ≤ s .tail
+  pub good : (x : ℕ) → x < h → bad (nodeAt (s .work) x) ≡ false
+  pub hit : h < s .tail → bad (nodeAt (s .work) h) ≡ true
+
+-- The first entry before h at the distance d or more; h if there is none.
+unfoldable pub levelOf : ℕ → List ℕ → ℕ → ℕ → ℕ
+levelOf n w d h = first (λ x. leb d (distAt n w (nodeAt w x))) h
+
+-- The answer as the work list has it, where the search ended at entry h of t.
+unfoldable pub settled : ℕ → ℕ → List ℕ → ℕ → ℕ → Found
+settled q n w h t = cond (ltb h t)
+    (Bad (distAt n w (nodeAt w h)) (nodeAt w h / q) (nodeAt w h % q) (levelOf n w (distAt n w (nodeAt w h)) h))
+    (Clear t)
+
+-- The trace list as the work list has it.
+unfoldable pub readOut : ℕ → List ℕ → ℕ → ℕ → List ℕ → List ℕ
+readOut n w h t trace = cond (ltb h t)
+    (readBack (nodeAt w) (linkAt n w) (distAt n w (nodeAt w h)) h ++ drop (distAt n w (nodeAt w h)) trace)
+    trace
+
+module _ (a b : List ℕ) (p q e : ℕ) (bad : List Bool) (h : ℕ) (s : St) (hp : 0 < p) (hq : 0 < q)
+    (end : Ended (tablePairs a b p q e) (badCode bad q) h s) where
+  -- the two graphs, their pairs, the test of pairs, the number of pairs, the work list
+  abbrev R : Graph
+  R = tableGraph a p e
+
+  abbrev D : Graph
+  D = tableGraph b q e
+
+  abbrev G : Graph
+  G = tablePairs a b p q e
+
+  abbrev T : ℕ → ℕ → Bool
+  T = badIn bad q
+
+  abbrev n : ℕ
+  n = p * q
+
+  abbrev w : List ℕ
+  w = s .work
+
+  -- the pairs serve the theory of walks
+  good-graph : WellFormed G
+  good-graph = pairs-wellFormed a b p q e hp hq
+
+  -- where the search ended before the queue's end
+  module _ (l : h < s .tail) where
+    -- its distance is the distance
+    deep : pairDistance R D T ≡ distAt n w (nodeAt w h)
+    unfolding pairDistance onCodes badCode tableGraph tablePairs product
+    deep = distance-is good-graph (nodeAt w) (linkAt n w) (distAt n w) h (s .tail) (end .running .queue) (badCode bad q) (end .good) l (end .hit l)
+
+    -- its links spell the least trace
+    events : pairTrace R D T ≡ readBack (nodeAt w) (linkAt n w) (distAt n w (nodeAt w h)) h
+    unfolding pairTrace onCodes badCode tableGraph tablePairs product
+    events = trace-is good-graph (nodeAt w) (linkAt n w) (distAt n w) h (s .tail) (end .running .queue) (badCode bad q) (end .good) l (end .hit l)
+
+    -- the entries before its level are the nearer pairs
+    before : pairCleared R D (pairDistance R D T) ≡ levelOf n w (distAt n w (nodeAt w h)) h
+    unfolding pairCleared pairDistance onCodes badCode tableGraph tablePairs product levelOf
+    before = cleared-before good-graph (nodeAt w) (linkAt n w) (distAt n w) h (s .tail) (end .running .queue) (badCode bad q) (end .good) l (end .hit l)
+
+    -- it is a pair
+    inside : nodeAt w h < n
+    unfolding tableGraph tablePairs product
+    inside = end .running .queue .entry h l .0
+
+    -- it is reached
+    near : pairDistance R D T < n
+    unfolding tableGraph tablePairs product
+    near = omega (arith, deep, end .running .queue .near h l, tail-le G h 0 s (end .running))
+
+    -- the least trace leads to its two nodes
+    ends : (walk R 0 (pairTrace R D T) ≡ nodeAt w h / q) × (walk D 0 (pairTrace R D T) ≡ nodeAt w h % q)
+    unfolding tableGraph tablePairs product code
+    ends = product-at (table-wellFormed a p e hp) (table-wellFormed b q e hq) (pairTrace R D T) (nodeAt w h / q) (nodeAt w h % q)
+        (div-lt-iff-lt-mul hq .1 inside) (mod-lt (nodeAt w h) hq) .0
+        (ap (walk G 0) events ∙ path-walk good-graph (nodeAt w) (linkAt n w) (distAt n w) h (s .tail) (end .running .queue) h l ∙ sym (div-add-mod' (nodeAt w h) q))
+
+  -- where it ended there
+  module _ (l : s .tail ≤ h) where
+    -- no bad pair is reached
+    far : pairDistance R D T ≡ n
+    unfolding pairDistance onCodes badCode tableGraph tablePairs product
+    far = distance-none good-graph (nodeAt w) (linkAt n w) (distAt n w) h (s .tail) (end .running .queue) (badCode bad q) (end .good) l
+
+    -- the entries are the pairs reached
+    all : pairCleared R D n ≡ s .tail
+    unfolding pairCleared tableGraph tablePairs product
+    all = cleared-all good-graph (nodeAt w) (linkAt n w) (distAt n w) h (s .tail) (end .running .queue) l
+
+  -- the answer read off the queue is the theory's
+  pub settled-is : settled q n w h (s .tail) ≡ foundOf R D T
+  unfolding settled foundOf tableGraph
+  settled-is = go (lt-or-ge h (s .tail))
+    where
+      go : (h < s .tail) ⊎ (s .tail ≤ h) → settled q n w h (s .tail) ≡ foundOf R D T
+      go (inl l) = rw (lt-ltb h (s .tail) l, lt-ltb (pairDistance R D T) n (near l), ends l .0, ends l .1, before l, deep l)
+      go (inr l) = let k : n ≤ pairDistance R D T = omega (arith, far l) in rw (le-ltb h (s .tail) l, le-ltb (pairDistance R D T) n k, all l)
+
+  -- and so is the trace
+  pub readOut-is : (trace : List ℕ) → readOut n w h (s .tail) trace ≡ traceAfter R D T trace
+  unfolding readOut traceAfter tableGraph
+  readOut-is trace = go (lt-or-ge h (s .tail))
+    where
+      go : (h < s .tail) ⊎ (s .tail ≤ h) → readOut n w h (s .tail) trace ≡ traceAfter R D T trace
+      go (inl l) =
+          let c : length (pairTrace R D T) ≡ distAt n w (nodeAt w h) = pairTrace-length R D T ∙ deep l in
+          rw (lt-ltb h (s .tail) l, lt-ltb (pairDistance R D T) n (near l), c, events l)
+      go (inr l) = let k : n ≤ pairDistance R D T = omega (arith, far l) in rw (le-ltb h (s .tail) l, le-ltb (pairDistance R D T) n k)
