@@ -4,7 +4,7 @@
 use mathlib.Core.Path.{_≡_, refl}
 use mathlib.Core.Bool.{Bool, true, false, cond}
 use mathlib.Core.List.{List, [], _∷_, _++_, map}
-use Prim.Native.Nat.{ℕ}
+use Prim.Native.Nat.{ℕ, _-_}
 use lib.ListN.{replicate}
 use Rattle.base.specs.Range.{all, any, first}
 use Rattle.base.specs.Count.{count}
@@ -32,7 +32,7 @@ use Rattle.tests_spec.specs.declared.Stepped.{Stepped}
 use Rattle.tests_spec.specs.Runs.{allEvents, outside, probesAt, chosen, offerOf, newRun, openFault, openOf, recordOk, eventFault, reportFault, movedBy, endedRun, answerOf, stepOf}
 use Rattle.tests_spec.specs.Verdicts.{failsFrom, verdictFault, verdictOf}
 use Rattle.tests_spec.specs.Numbers.{Said, said, judged}
-use Rattle.comparison_spec.specs.Comparison.{pairs, nearest, nearestTrace, clearedOf, lastRow, refusalNamed, named, judged as judgedPair, compareFault, outcomeOf, traceAfter}
+use Rattle.comparison_spec.specs.Comparison.{pairs, nearest, nearestTrace, clearedOf, lastRow, refusalNamed, named, judged as judgedPair, compareFault, outcomeOf, traceAfter, workAfter}
 use Rattle.comparison_spec.specs.Numbers.{Compared, compared}
 use Rattle.cases.specs.Sheets.{caseSheets, exampleReference, exampleDevice, onlyZero, onlyOne, mayLoop, mustLoop, stopped, sheet}
 
@@ -46,7 +46,7 @@ pub data Case : Type 0 where
   verdict : List ℕ → List ℕ → ℕ → Bool → Case
   -- a run of test k with choice number h, trace-only or not, through these reports
   running : List ℕ → ℕ → ℕ → Bool → List Report → Case
-  -- the comparison of a reference with a device, with a trace list of six places that hold 9
+  -- the comparison of a reference with a device, with a work list of 28 words that hold 7 and a trace list of 8 places that hold 9
   comparing : List ℕ → List ℕ → Bool → Case
 
 -- the refusal, E and N
@@ -68,14 +68,14 @@ answersOf s z (x ∷ xs) = numbers (said (z .answer)) ++ answersOf s (stepOf s (
 
 -- the refusal, the kind, d, cleared, the event, the probe and the acceptance of a comparison's answer
 unfoldable pub comparedNumbers : Compared → List ℕ
-comparedNumbers a = a .denied ∷ a .kind ∷ a .d ∷ a .cleared ∷ a .event ∷ a .probe ∷ a .acceptance ∷ []
+comparedNumbers a = a .refusal ∷ a .kind ∷ a .d ∷ a .cleared ∷ a .event ∷ a .probe ∷ a .acceptance ∷ []
 
 -- the lists lent to a comparison
 unfoldable pub work : List ℕ
-work = replicate 18 7
+work = replicate 28 7
 
 unfoldable pub trace : List ℕ
-trace = replicate 6 9
+trace = replicate 8 9
 
 -- what a row answers
 unfoldable pub numbersOf : Case → List ℕ
@@ -83,7 +83,7 @@ numbersOf (reading b) = readNumbers (readSheet b)
 numbersOf (listing l) = probes l 3
 numbersOf (verdict P Q k to) = numbers (judged (verdictOf (sheet P) (sheet Q) k to))
 numbersOf (running P k h to reports) = answersOf (sheet P) (openOf (sheet P) k h to) reports
-numbersOf (comparing P Q to) = comparedNumbers (compared (outcomeOf to (sheet P) (sheet Q) work trace)) ++ traceAfter to (sheet P) (sheet Q) work trace
+numbersOf (comparing P Q to) = comparedNumbers (compared (outcomeOf to (sheet P) (sheet Q) work trace)) ++ (traceAfter to (sheet P) (sheet Q) work trace ++ workAfter (sheet P) (sheet Q) work trace)
 
 -- the rows
 unfoldable pub table : List Case
@@ -131,7 +131,12 @@ table =
     ∷ comparing mustLoop stopped false
     ∷ comparing mustLoop stopped true
     ∷ comparing exampleReference stopped false
-    ∷ []
+    -- any case sheet against itself refines (`outcome-self` says so of every accepted sheet)
+    ∷ map (λ b. comparing b b false) caseSheets
+
+-- a comparison's numbers, the trace list, and the work list with its first words 0
+unfoldable pub lists : List ℕ → List ℕ → ℕ → List ℕ
+lists numbers traced zeros = numbers ++ (traced ++ (replicate zeros 0 ++ replicate (28 - zeros) 7))
 
 -- what they answer
 unfoldable pub answers : List (List ℕ)
@@ -177,22 +182,24 @@ answers =
     ∷ (0 ∷ 1 ∷ 3 ∷ 0 ∷ 1 ∷ 3 ∷ 0 ∷ 2 ∷ 1 ∷ 2 ∷ 0 ∷ 1 ∷ 1 ∷ 0 ∷ 1 ∷ [])
     ∷ (0 ∷ 1 ∷ 1 ∷ 0 ∷ 1 ∷ 0 ∷ 17 ∷ 0 ∷ 0 ∷ 0 ∷ 4 ∷ 0 ∷ 1 ∷ 7 ∷ 0 ∷ 1 ∷ 0 ∷ 1 ∷ [])
     ∷ (14 ∷ 0 ∷ 0 ∷ 0 ∷ 0 ∷ 0 ∷ 0 ∷ 0 ∷ 0 ∷ [])
-    ∷ (0 ∷ 2 ∷ 5 ∷ 5 ∷ 0 ∷ 2 ∷ 1 ∷ 0 ∷ 0 ∷ 0 ∷ 0 ∷ 0 ∷ 9 ∷ [])
-    ∷ (0 ∷ 0 ∷ 0 ∷ 6 ∷ 0 ∷ 0 ∷ 0 ∷ 9 ∷ 9 ∷ 9 ∷ 9 ∷ 9 ∷ 9 ∷ [])
-    ∷ (0 ∷ 1 ∷ 0 ∷ 0 ∷ 1 ∷ 0 ∷ 0 ∷ 9 ∷ 9 ∷ 9 ∷ 9 ∷ 9 ∷ 9 ∷ [])
-    ∷ (0 ∷ 1 ∷ 0 ∷ 0 ∷ 1 ∷ 0 ∷ 0 ∷ 9 ∷ 9 ∷ 9 ∷ 9 ∷ 9 ∷ 9 ∷ [])
-    ∷ (0 ∷ 0 ∷ 0 ∷ 1 ∷ 0 ∷ 0 ∷ 0 ∷ 9 ∷ 9 ∷ 9 ∷ 9 ∷ 9 ∷ 9 ∷ [])
-    ∷ (0 ∷ 2 ∷ 0 ∷ 0 ∷ 0 ∷ 1 ∷ 0 ∷ 9 ∷ 9 ∷ 9 ∷ 9 ∷ 9 ∷ 9 ∷ [])
-    ∷ (0 ∷ 0 ∷ 0 ∷ 1 ∷ 0 ∷ 0 ∷ 0 ∷ 9 ∷ 9 ∷ 9 ∷ 9 ∷ 9 ∷ 9 ∷ [])
-    ∷ (11 ∷ 3 ∷ 0 ∷ 0 ∷ 0 ∷ 0 ∷ 0 ∷ 9 ∷ 9 ∷ 9 ∷ 9 ∷ 9 ∷ 9 ∷ [])
+    ∷ lists (0 ∷ 3 ∷ 5 ∷ 5 ∷ 0 ∷ 2 ∷ 1 ∷ []) (0 ∷ 0 ∷ 0 ∷ 0 ∷ 0 ∷ 9 ∷ 9 ∷ 9 ∷ []) 18
+    ∷ lists (0 ∷ 1 ∷ 0 ∷ 6 ∷ 0 ∷ 0 ∷ 0 ∷ []) (9 ∷ 9 ∷ 9 ∷ 9 ∷ 9 ∷ 9 ∷ 9 ∷ 9 ∷ []) 18
+    ∷ lists (0 ∷ 2 ∷ 0 ∷ 0 ∷ 1 ∷ 0 ∷ 0 ∷ []) (9 ∷ 9 ∷ 9 ∷ 9 ∷ 9 ∷ 9 ∷ 9 ∷ 9 ∷ []) 3
+    ∷ lists (0 ∷ 2 ∷ 0 ∷ 0 ∷ 1 ∷ 0 ∷ 0 ∷ []) (9 ∷ 9 ∷ 9 ∷ 9 ∷ 9 ∷ 9 ∷ 9 ∷ 9 ∷ []) 3
+    ∷ lists (0 ∷ 1 ∷ 0 ∷ 1 ∷ 0 ∷ 0 ∷ 0 ∷ []) (9 ∷ 9 ∷ 9 ∷ 9 ∷ 9 ∷ 9 ∷ 9 ∷ 9 ∷ []) 3
+    ∷ lists (0 ∷ 3 ∷ 0 ∷ 0 ∷ 0 ∷ 1 ∷ 0 ∷ []) (9 ∷ 9 ∷ 9 ∷ 9 ∷ 9 ∷ 9 ∷ 9 ∷ 9 ∷ []) 3
+    ∷ lists (0 ∷ 1 ∷ 0 ∷ 1 ∷ 0 ∷ 0 ∷ 0 ∷ []) (9 ∷ 9 ∷ 9 ∷ 9 ∷ 9 ∷ 9 ∷ 9 ∷ 9 ∷ []) 3
+    ∷ lists (11 ∷ 0 ∷ 0 ∷ 0 ∷ 0 ∷ 0 ∷ 0 ∷ []) (9 ∷ 9 ∷ 9 ∷ 9 ∷ 9 ∷ 9 ∷ 9 ∷ 9 ∷ []) 0
+    ∷ lists (0 ∷ 1 ∷ 0 ∷ 2 ∷ 0 ∷ 0 ∷ 0 ∷ []) (9 ∷ 9 ∷ 9 ∷ 9 ∷ 9 ∷ 9 ∷ 9 ∷ 9 ∷ []) 12
+    ∷ lists (0 ∷ 1 ∷ 0 ∷ 3 ∷ 0 ∷ 0 ∷ 0 ∷ []) (9 ∷ 9 ∷ 9 ∷ 9 ∷ 9 ∷ 9 ∷ 9 ∷ 9 ∷ []) 27
+    ∷ lists (0 ∷ 1 ∷ 0 ∷ 1 ∷ 0 ∷ 0 ∷ 0 ∷ []) (9 ∷ 9 ∷ 9 ∷ 9 ∷ 9 ∷ 9 ∷ 9 ∷ 9 ∷ []) 3
+    ∷ lists (0 ∷ 1 ∷ 0 ∷ 1 ∷ 0 ∷ 0 ∷ 0 ∷ []) (9 ∷ 9 ∷ 9 ∷ 9 ∷ 9 ∷ 9 ∷ 9 ∷ 9 ∷ []) 3
+    ∷ lists (0 ∷ 1 ∷ 0 ∷ 1 ∷ 0 ∷ 0 ∷ 0 ∷ []) (9 ∷ 9 ∷ 9 ∷ 9 ∷ 9 ∷ 9 ∷ 9 ∷ 9 ∷ []) 3
+    ∷ lists (0 ∷ 1 ∷ 0 ∷ 1 ∷ 0 ∷ 0 ∷ 0 ∷ []) (9 ∷ 9 ∷ 9 ∷ 9 ∷ 9 ∷ 9 ∷ 9 ∷ 9 ∷ []) 3
+    ∷ lists (0 ∷ 1 ∷ 0 ∷ 1 ∷ 0 ∷ 0 ∷ 0 ∷ []) (9 ∷ 9 ∷ 9 ∷ 9 ∷ 9 ∷ 9 ∷ 9 ∷ 9 ∷ []) 3
     ∷ []
 
 -- every row answers what 01 says
 pub cases-hold : map numbersOf table ≡ answers
-unfolding numbersOf table answers readNumbers numbers recordNumbers answersOf comparedNumbers work trace sheet exampleReference exampleDevice onlyZero onlyOne mayLoop mustLoop stopped readSheet answer bytesFault headFault lengthField layoutFault nextAt startOf succOf setsOf rowAt rowOf sheetOf graphFault rangesOk countOk countsOk successorsOk rowSuccessorsOk successorOk setsOk rowSetsOk setOk ascends apart blank unusedOk blanksOk reachedOk sheetFault successor acceptance acceptances initials mayStop step bit has inside meets setOf walk nearer leads meetsIn distance later choice leastFrom leastTrace cleared code pairNext product onCodes pairDistance pairTrace pairCleared all any first count upTo hits isProbe gather select probes missing orNext firstMissing firstMissed strays hasStray firstStray covers hasRefusal violates violating allEvents outside probesAt chosen offerOf newRun openFault openOf recordOk eventFault reportFault movedBy endedRun answerOf stepOf failsFrom verdictFault verdictOf said judged pairs nearest nearestTrace clearedOf lastRow refusalNamed named judgedPair compareFault outcomeOf traceAfter compared
+unfolding numbersOf table answers lists caseSheets workAfter readNumbers numbers recordNumbers answersOf comparedNumbers work trace sheet exampleReference exampleDevice onlyZero onlyOne mayLoop mustLoop stopped readSheet answer bytesFault headFault lengthField layoutFault nextAt startOf succOf setsOf rowAt rowOf sheetOf graphFault rangesOk countOk countsOk successorsOk rowSuccessorsOk successorOk setsOk rowSetsOk setOk ascends apart blank unusedOk blanksOk reachedOk sheetFault successor acceptance acceptances initials mayStop step bit has inside meets setOf walk nearer leads meetsIn distance later choice leastFrom leastTrace cleared code pairNext product onCodes pairDistance pairTrace pairCleared all any first count upTo hits isProbe gather select probes missing orNext firstMissing firstMissed strays hasStray firstStray covers hasRefusal violates violating allEvents outside probesAt chosen offerOf newRun openFault openOf recordOk eventFault reportFault movedBy endedRun answerOf stepOf failsFrom verdictFault verdictOf said judged pairs nearest nearestTrace clearedOf lastRow refusalNamed named judgedPair compareFault outcomeOf traceAfter compared
 cases-hold = refl
-
--- any case sheet against itself refines: the kind of its comparison with itself is 0 (`judged-self` says so of every accepted sheet)
-pub selves-refine : map (λ b. compared (outcomeOf false (sheet b) (sheet b) (replicate 27 7) (replicate 8 9)) .kind) caseSheets ≡ replicate 7 0
-unfolding caseSheets sheet exampleReference exampleDevice onlyZero onlyOne mayLoop mustLoop stopped readSheet answer bytesFault headFault lengthField layoutFault nextAt startOf succOf setsOf rowAt rowOf sheetOf graphFault rangesOk countOk countsOk successorsOk rowSuccessorsOk successorOk setsOk rowSetsOk setOk ascends apart blank unusedOk blanksOk reachedOk sheetFault successor acceptance acceptances initials mayStop step bit has inside meets setOf walk nearer leads meetsIn distance later choice leastFrom leastTrace cleared code pairNext product onCodes pairDistance pairTrace pairCleared all any first count upTo hits isProbe gather select probes missing orNext firstMissing firstMissed strays hasStray firstStray covers hasRefusal violates violating allEvents outside probesAt chosen offerOf newRun openFault openOf recordOk eventFault reportFault movedBy endedRun answerOf stepOf failsFrom verdictFault verdictOf said judged pairs nearest nearestTrace clearedOf lastRow refusalNamed named judgedPair compareFault outcomeOf traceAfter compared
-selves-refine = refl

@@ -1,7 +1,8 @@
 -- The claim: demand 3 of the mission, with demand 2 beside it, over every two accepted sheets P (the reference, of p nodes) and Q
 -- (the device, of q nodes) with equal event counts. `traceOnly` is true for the trace-only reading: strays alone, trace-only
--- tests, traces alone. Every notion here is one that a contract equates (`verdictOf` of the verdict, `outcomeOf` and
--- `traceAfter` of the comparison) or one in the mission's words (Trace, Does, Refuses, Violation, Refines of Refinement).
+-- tests, traces alone. What the bench answers is named as its contracts equate it (`verdictOf` of the verdict, `outcomeOf` and
+-- `traceAfter` of the comparison); what that means is in the mission's words (Trace, Does, Refuses, Violation, Refines of
+-- Refinement; FailsTest, a run that ends failed, of Verdicts; Describes, what 01 says of an answer, of Meaning).
 use mathlib.Core.Path.{_≡_}
 use mathlib.Core.Logic.{_⊎_, _≢_, _↔_}
 use mathlib.Core.Bool.{Bool, true}
@@ -15,13 +16,13 @@ use Rattle.sheet_spec.specs.Kept.{row, acceptance}
 use Rattle.sheet_spec.specs.Rules.{sheetFault}
 use Rattle.sheet_spec.specs.Reading.{readSheet}
 use Rattle.sheet_spec.specs.EncodingLaws.{accepted}
-use Rattle.refinement.specs.Refinement.{After, Does, Refuses, Strays, ViolationIn, RefinesIn}
+use Rattle.refinement.specs.Refinement.{After, Does, Refuses, ViolationIn, RefinesIn}
 use Rattle.tests_spec.specs.declared.Verdict.the-variants.{Passes, Fails}
 use Rattle.tests_spec.specs.Verdicts.{FailsTest, verdictOf}
 use Rattle.comparison_spec.specs.declared.Outcome.{Outcome}
 use Rattle.comparison_spec.specs.declared.Outcome.the-variants.{Refines, Stray, Refusal, Denied}
 use Rattle.comparison_spec.specs.Comparison.{outcomeOf, traceAfter}
-use Rattle.comparison_spec.specs.Meaning.{ReachedBefore, ReachedEver, Number}
+use Rattle.comparison_spec.specs.Meaning.{Describes, ReachedBefore, ReachedEver, Number}
 
 -- a sheet is accepted as kept, or as bytes that are read as it
 abbrev pub Accepted : Sheet → Type 0
@@ -43,7 +44,7 @@ pub data Reports : Outcome → ℕ → ℕ → Type 0 where
   stray-reports : (d c i : ℕ) → Reports (Stray d c i) d c
   refusal-reports : (d c X A : ℕ) → Reports (Refusal d c X A) d c
 
--- what holds of the answer o and the trace list `after` at exit where the device does not refine the reference
+-- demand 3: what holds of the answer o and the trace list `after` at exit where the device does not refine the reference
 pub record Violated (traceOnly : Bool) (P Q : Sheet) (o : Outcome) (after : List ℕ) : Type 0 where
   pub d : ℕ
   pub cleared : ℕ
@@ -60,16 +61,20 @@ pub record Violated (traceOnly : Bool) (P Q : Sheet) (o : Outcome) (after : List
   pub least : (t : List ℕ) → ViolationIn traceOnly P Q t → length t ≡ d → Lex (take d after) t
   -- what is named witnesses it
   pub witness : Witness P Q (take d after) o
-  -- with traces alone it is a stray
-  pub strays : traceOnly ≡ true → Strays P Q (take d after)
-  -- cleared is the number of pairs reached by common traces shorter than d
+  -- with traces alone it is a stray, never the refusal case
+  pub strays : traceOnly ≡ true → (i : ℕ) × (o ≡ Stray d cleared i)
+  -- demand 2: cleared is the number of pairs reached by common traces shorter than d
   pub counted : Number P Q (ReachedBefore P Q d) cleared
+  -- demand 2: the whole answer, with what is named, is the one that 01 describes
+  pub describes : Describes traceOnly P Q o (take d after)
 
 pub record Claim (traceOnly : Bool) (P Q : Sheet) : Type 0 where
   -- demand 3: if there is a violation, one has fewer than p q events
   pub near : (t : List ℕ) → ViolationIn traceOnly P Q t → (s : List ℕ) × (length s < P .n * Q .n) × ViolationIn traceOnly P Q s
-  -- demand 3: tests 0 to p q - 1 have a verdict, never a refusal, and all are "passes" exactly if the device refines the reference
-  pub judges : (k : ℕ) → k < P .n * Q .n → (verdictOf P Q k traceOnly ≡ Passes) ⊎ (verdictOf P Q k traceOnly ≡ Fails)
+  -- demand 3: every test has a verdict, never a refusal, and tests 0 to p q - 1 are all "passes" exactly if the device refines the
+  -- reference (p q is at most 1,024)
+  pub judges : (k : ℕ) → k ≤ 1023 → (verdictOf P Q k traceOnly ≡ Passes) ⊎ (verdictOf P Q k traceOnly ≡ Fails)
+  pub few : P .n * Q .n ≤ 1024
   pub complete : ((k : ℕ) → k < P .n * Q .n → verdictOf P Q k traceOnly ≡ Passes) ↔ RefinesIn traceOnly P Q
   -- demand 3: given long enough lists, of any content, the comparison is never refused, and says "refines" exactly then
   pub answers : (work trace : List ℕ) → LongEnough P Q work trace → (m : ℕ) → outcomeOf traceOnly P Q work trace ≢ Denied m
@@ -83,3 +88,7 @@ pub record Claim (traceOnly : Bool) (P Q : Sheet) : Type 0 where
   pub counted : (work trace : List ℕ) → LongEnough P Q work trace → (c : ℕ) → outcomeOf traceOnly P Q work trace ≡ Refines c → Number P Q (ReachedEver P Q) c
   -- the trace-only reading: the single test p q - 1 decides
   pub single : traceOnly ≡ true → (verdictOf P Q (P .n * Q .n - 1) traceOnly ≡ Passes) ↔ RefinesIn traceOnly P Q
+
+-- demand 3, whole: for every two accepted sheets with equal event counts, in both readings
+abbrev pub Demand3 : Type 0
+Demand3 = (traceOnly : Bool) (P Q : Sheet) → Accepted P → Accepted Q → P .e ≡ Q .e → Claim traceOnly P Q

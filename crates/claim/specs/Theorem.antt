@@ -33,7 +33,7 @@ use Rattle.comparison_spec.specs.Meaning.{ReachedBefore, ReachedEver, Number, N
 use Rattle.comparison_spec.specs.ComparisonLaws.{trace-length, nearest-below, nearest-only, refines-nearest}
 use Rattle.comparison_spec.specs.OutcomeLaws.{traceOf, judged-describes}
 use Rattle.comparison_spec.specs.CallLaws.{compare-fits, given-outcome, given-trace}
-use Rattle.claim.specs.Claim.{Accepted, LongEnough, Witness, by-stray, by-refusal, Reports, stray-reports, refusal-reports, Violated, Claim}
+use Rattle.claim.specs.Claim.{Accepted, LongEnough, Witness, by-stray, by-refusal, Reports, stray-reports, refusal-reports, Violated, Demand3}
 
 -- accepted as bytes or as kept, a sheet is not refused by a later call
 pub accepted-unrefused : (s : Sheet) → Accepted s → sheetFault s ≡ 0
@@ -52,12 +52,9 @@ module _ (P Q : Sheet) (accP : sheetFault P ≡ 0) (accQ : sheetFault Q ≡ 0) (
   few = mul-le-mul (op .ranges .n-high) (oq .ranges .n-high)
 
   -- a verdict that is given is one of the two words
-  judges : (k : ℕ) → k < P .n * Q .n → (verdictOf P Q k to ≡ Passes) ⊎ (verdictOf P Q k to ≡ Fails)
-  judges k l = go (dec (failsFrom to P Q k 0 0))
+  judges : (k : ℕ) → k ≤ 1023 → (verdictOf P Q k to ≡ Passes) ⊎ (verdictOf P Q k to ≡ Fails)
+  judges k small = go (dec (failsFrom to P Q k 0 0))
     where
-      small : k ≤ 1023
-      small = omega (arith, few)
-
       go : (failsFrom to P Q k 0 0 ≡ true) ⊎ (failsFrom to P Q k 0 0 ≡ false) → (verdictOf P Q k to ≡ Passes) ⊎ (verdictOf P Q k to ≡ Fails)
       go (inl f) = inr (verdict-means P Q accP accQ same to k small .1 (fails-means P Q accP accQ same to k small .0 f))
       go (inr f) = inl (verdict-passes P Q accP accQ same to k small .1 (λ x. clash (fails-means P Q accP accQ same to k small .1 x) f))
@@ -121,8 +118,9 @@ module _ (P Q : Sheet) (accP : sheetFault P ≡ 0) (accQ : sheetFault Q ≡ 0) (
 
   -- what holds of a nearest violation with its witness
   module _ (n : ¬ RefinesIn to P Q) (after : List ℕ) (q : take (nearest to P Q) after ≡ nearestTrace to P Q) where
-    nearest-violated : (o : Outcome) (d c : ℕ) (u : List ℕ) → Reports o d c → Nearest to P Q d u → Number P Q (ReachedBefore P Q d) c → Witness P Q u o → Violated to P Q o after
-    nearest-violated o d c u p w k x =
+    nearest-violated : (o : Outcome) (d c : ℕ) (u : List ℕ) → Reports o d c → Nearest to P Q d u → Number P Q (ReachedBefore P Q d) c → Witness P Q u o
+        → (to ≡ true → (i : ℕ) × (o ≡ Stray d c i)) → Describes to P Q o u → Violated to P Q o after
+    nearest-violated o d c u p w k x s z =
         let y = nearest-only op oq same to d u w in
         let f = first n in
         let e : take d after ≡ u = rw (y .0) (q ∙ sym (y .1)) in
@@ -139,14 +137,17 @@ module _ (P Q : Sheet) (accP : sheetFault P ≡ 0) (accQ : sheetFault Q ≡ 0) (
           shortest = w .shortest;
           least = λ t s l. rw e (w .least t s l);
           witness = rw e x;
-          strays = λ z. rw e (strays-only u v z);
+          strays = s;
           counted = k;
+          describes = rw e z;
         }
 
     described-violated : (o : Outcome) (t : List ℕ) → Describes to P Q o t → Violated to P Q o after
     described-violated o t (refines c r k) = absurd (n r)
-    described-violated o t (stray d c i u w k m) = nearest-violated (Stray d c i) d c u (stray-reports d c i) w k (by-stray d c i (m .does) (m .does-not))
-    described-violated o t (refusal d c X A u w k s f) = nearest-violated (Refusal d c X A) d c u (refusal-reports d c X A) w k (refused-witness d c X A u f)
+    described-violated o t (stray d c i u w k m) =
+        nearest-violated (Stray d c i) d c u (stray-reports d c i) w k (by-stray d c i (m .does) (m .does-not)) (λ e. (i, refl)) (stray d c i u w k m)
+    described-violated o t (refusal d c X A u w k s f) =
+        nearest-violated (Refusal d c X A) d c u (refusal-reports d c X A) w k (refused-witness d c X A u f) (λ e. absurd (s (strays-only u (w .violates) e))) (refusal d c X A u w k s f)
 
   -- the front of the trace list at exit is the trace
   trace-front : (work trace : List ℕ) → LongEnough P Q work trace → ¬ RefinesIn to P Q → take (nearest to P Q) (traceAfter to P Q work trace) ≡ nearestTrace to P Q
@@ -183,13 +184,14 @@ module _ (P Q : Sheet) (accP : sheetFault P ≡ 0) (accQ : sheetFault Q ≡ 0) (
       go false e = absurd (true≢false (sym e))
 
 -- demand 3, whole, and demand 2 beside it
-pub claim : (traceOnly : Bool) (P Q : Sheet) → Accepted P → Accepted Q → P .e ≡ Q .e → Claim traceOnly P Q
+pub claim : Demand3
 claim to P Q a b same =
     let p = accepted-unrefused P a in
     let q = accepted-unrefused Q b in
     record {
       near = violation-near (check-sound P p) (check-sound Q q) same to;
       judges = judges P Q p q same to;
+      few = few P Q p q same to;
       complete = verdicts-complete P Q p q same to;
       answers = λ work trace l m. described-given P Q p q same to (outcomeOf to P Q work trace) (traceOf to P Q) m (described P Q p q same to work trace l);
       refined = says-refines P Q p q same to;

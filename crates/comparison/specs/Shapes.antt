@@ -1,5 +1,4 @@
--- What the comparison's code makes on its way, and what it promises.
-use mathlib.Core.Path.{_≡_}
+-- The shapes of loops and the tables on the way; nothing to believe. Laws join them to the comparison's definitions.
 use mathlib.Core.Bool.{Bool, false, not, _&&_, _||_}
 use mathlib.Core.List.{List, _++_}
 use Prim.Native.Nat.{ℕ, _-_, _*_, _/_, _%_, _≤_, _<_}
@@ -14,17 +13,9 @@ use Rattle.sheet_spec.specs.Rules.{sheetFault}
 use Rattle.refinement.specs.PairTests.{strays, hasRefusal, violating}
 use Rattle.comparison_spec.specs.declared.Outcome.{Outcome}
 use Rattle.comparison_spec.specs.declared.Outcome.the-variants.{Refines}
-use Rattle.comparison_spec.specs.Comparison.{named, outcomeOf, traceAfter, workAfter}
-use Rattle.comparison_spec.specs.Numbers.{compared}
+use Rattle.comparison_spec.specs.Comparison.{named}
 use Rattle.search_spec.specs.declared.Found.{Found}
 use Rattle.search_spec.specs.declared.Found.the-variants.{Clear, Bad}
-
--- What `compare` promises: its answer, 01's numbers of the answer, and the two lent lists at exit.
-pub record Compares (traceOnly : Bool) (P Q : Sheet) (work trace work′ trace′ : List ℕ) (r : Outcome) : Type 0 where
-  pub answer : r ≡ outcomeOf traceOnly P Q work trace
-  pub numbers : compared r ≡ compared (outcomeOf traceOnly P Q work trace)
-  pub traced : trace′ ≡ traceAfter traceOnly P Q work trace
-  pub zeroed : work′ ≡ workAfter P Q work trace
 
 -- the refusal, by the lengths of the two lists
 unfoldable pub faultOn : Sheet → Sheet → ℕ → ℕ → ℕ

@@ -32,7 +32,8 @@ use Rattle.search_spec.specs.declared.Found.{Found}
 use Rattle.search_spec.specs.Tables.{tableNext, tableGraph, badIn}
 use Rattle.search_spec.specs.Found.{foundOf, Searched, traceAfter as searchTrace, workAfter as searchWork}
 use Rattle.search_spec.specs.Read.{SearchOk}
-use Rattle.comparison.specs.Shapes.{Compares, faultOn, flatAt, badAt, badTable, told, Fits}
+use Rattle.comparison.specs.Shapes.{faultOn, flatAt, badAt, badTable, told, Fits}
+use Rattle.comparison_spec.specs.Contract.{Compares}
 use Rattle.comparison.specs.Agree.{Agree, distance-same, trace-same}
 
 -- ---- the tables

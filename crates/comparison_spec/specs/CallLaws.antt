@@ -1,12 +1,13 @@
 -- The call of a comparison: when each refusal is given, and what it then answers and leaves.
-use mathlib.Core.Path.{_≡_, refl}
+use mathlib.Core.Path.{_≡_, refl, _∙_, subst}
 use mathlib.Core.Logic.{_⊎_, inl, inr, _≢_, _↔_}
 use mathlib.Core.Bool.{Bool, true, false, _&&_, cond}
 use mathlib.Core.List.{List, _++_}
-use Prim.Native.Nat.{ℕ, _-_, _*_, _≤_, _<_}
+use Prim.Native.Nat.{ℕ, _+_, _-_, _*_, _≤_, _<_}
 use native.Mathlib.Omega.{arith}
 use lib.Dec.{eqb, leb}
-use lib.ListN.{length, drop, replicate}
+use lib.ListN.{length, getD, drop, replicate, length-replicate, getD-replicate, List·getD-append}
+use lib.Seq.{getD-append-add, getD-drop}
 use borrow.Author.Tests.{eq-eqb, ne-eqb, lt-ltb, le-ltb}
 use Rattle.base.specs.Finds.{finds-eq, finds-le}
 use Rattle.base.specs.Refusal.{unless, orElse, unless-hit, unless-pass, unless-none, unless-other, orElse-some, orElse-then}
@@ -14,7 +15,14 @@ use Rattle.sheet_spec.specs.declared.Sheet.{Sheet}
 use Rattle.sheet_spec.specs.Rules.{sheetFault}
 use Rattle.sheet_spec.specs.CheckLaws.{check-below, further, finally}
 use Rattle.comparison_spec.specs.declared.Outcome.the-variants.{Denied}
+use Rattle.comparison_spec.specs.Numbers.{compared}
 use Rattle.comparison_spec.specs.Comparison.{pairs, nearest, nearestTrace, judged, compareFault, outcomeOf, traceAfter, workAfter}
+
+-- behind a front of zeros the list is as it was
+past-zeros : (n : ℕ) (w : List ℕ) (x : ℕ) → getD (replicate n 0 ++ drop n w) (n + x) 0 ≡ getD w (n + x) 0
+past-zeros n w x =
+    subst (λ (k : ℕ). getD (replicate n 0 ++ drop n w) (k + x) 0 ≡ getD w (n + x) 0) (length-replicate {A = ℕ} n 0)
+    (getD-append-add (replicate n 0) (drop n w) x 0 ∙ getD-drop n w x 0)
 
 module _ (P Q : Sheet) (work trace : List ℕ) where
   -- neither sheet is refused
@@ -115,3 +123,16 @@ module _ (P Q : Sheet) (work trace : List ℕ) where
     pub given-work : compareFault P Q work trace ≡ 0 → workAfter P Q work trace ≡ replicate (3 * pairs P Q) 0 ++ drop (3 * pairs P Q) work
     unfolding workAfter
     given-work z = rw (eq-eqb (compareFault P Q work trace) 0 z)
+
+    -- a refused call has no other part: its numbers are the refusal's and 0
+    pub denied-numbers : (m : ℕ) → compared (Denied m) ≡ record { refusal = m; kind = 0; d = 0; cleared = 0; event = 0; probe = 0; acceptance = 0 }
+    unfolding compared
+    denied-numbers m = refl
+
+    -- place by place: 3 p q words of the work list are 0, and later words are left
+    pub work-zero : compareFault P Q work trace ≡ 0 → (x : ℕ) → x < 3 * pairs P Q → getD (workAfter P Q work trace) x 1 ≡ 0
+    work-zero z x l = rw (given-work z) (List·getD-append (replicate (3 * pairs P Q) 0) (drop (3 * pairs P Q) work) 1 x (omega (arith, length-replicate {A = ℕ} (3 * pairs P Q) 0))
+        ∙ getD-replicate {A = ℕ} (3 * pairs P Q) x 0 1 l)
+
+    pub work-left : compareFault P Q work trace ≡ 0 → (x : ℕ) → getD (workAfter P Q work trace) (3 * pairs P Q + x) 0 ≡ getD work (3 * pairs P Q + x) 0
+    work-left z x = rw (given-work z) (past-zeros (3 * pairs P Q) work x)

@@ -1,5 +1,6 @@
 -- What a comparison answers, and what the two lent lists then hold (01, "A comparison"). P is the reference, Q the device;
--- `traceOnly` counts strays alone. What these definitions mean is said in ComparisonLaws.
+-- `traceOnly` counts strays alone. What these definitions mean is said in Meaning; ComparisonLaws,
+-- OutcomeLaws and CallLaws tie the two.
 use mathlib.Core.Bool.{Bool, _&&_, cond}
 use mathlib.Core.List.{List, _++_}
 use Prim.Native.Nat.{ℕ, _-_, _*_}
@@ -31,7 +32,7 @@ nearest traceOnly P Q = pairDistance (graph P) (graph Q) (violating traceOnly P 
 unfoldable pub nearestTrace : Bool → Sheet → Sheet → List ℕ
 nearestTrace traceOnly P Q = pairTrace (graph P) (graph Q) (violating traceOnly P Q)
 
--- the number of different pairs reached by common traces shorter than d; of all reached pairs if there is no violation
+-- "cleared", the product states nearer than d: the number of different pairs reached by common traces shorter than d; of all reached pairs if there is no violation
 unfoldable pub clearedOf : Bool → Sheet → Sheet → ℕ
 clearedOf traceOnly P Q = pairCleared (graph P) (graph Q) (nearest traceOnly P Q)
 
@@ -39,7 +40,8 @@ clearedOf traceOnly P Q = pairCleared (graph P) (graph Q) (nearest traceOnly P Q
 unfoldable pub lastRow : Bool → Sheet → Sheet → Sheet → Row
 lastRow traceOnly P Q s = row s (walk (graph s) 0 (nearestTrace traceOnly P Q))
 
--- for a refusal the first probe in the list that some device acceptance misses is named, with the lowest such acceptance
+-- for a refusal the first probe in the list that some device acceptance misses is named, with the lowest such acceptance (at a
+-- violating pair without a stray there is one)
 unfoldable pub refusalNamed : ℕ → ℕ → Missed → Outcome
 refusalNamed d cleared Nothing = Refusal d cleared 0 0
 refusalNamed d cleared (Found probe acceptance) = Refusal d cleared probe acceptance

@@ -1,4 +1,4 @@
--- What 01 says of a comparison's answer, with "for every" and "there is" and no test in it. ComparisonLaws says that the answer
+-- What 01 says of a comparison's answer, with "for every" and "there is" and no test in it. OutcomeLaws says that the answer
 -- of the definition is so described, and that nothing else is.
 use mathlib.Core.Path.{_≡_}
 use mathlib.Core.Bool.{Bool}

@@ -1,11 +1,14 @@
 -- 01's numbers and values for each case of a comparison's answer. Parts that a case has not are 0.
+use mathlib.Core.Path.{_≡_, refl, sym, ap, _∙_}
+use mathlib.Core.Bool.{cond}
 use Prim.Native.Nat.{ℕ}
+use lib.Dec.{eqb}
 use Rattle.comparison_spec.specs.declared.Outcome.{Outcome}
 use Rattle.comparison_spec.specs.declared.Outcome.the-variants.{Refines, Stray, Refusal, Denied}
 
--- the refusal's number, 0 for none; which case it is (0 refines, 1 a stray, 2 a refusal, 3 denied); d; cleared; what is named
+-- the refusal's number, 0 for none; which case it is (0 a refusal of the call, 1 refines, 2 a stray, 3 a refusal); d; cleared; what is named
 pub record Compared : Type 0 where
-  pub denied : ℕ
+  pub refusal : ℕ
   pub kind : ℕ
   pub d : ℕ
   pub cleared : ℕ
@@ -14,7 +17,23 @@ pub record Compared : Type 0 where
   pub acceptance : ℕ
 
 unfoldable pub compared : Outcome → Compared
-compared (Refines c) = record { denied = 0; kind = 0; d = 0; cleared = c; event = 0; probe = 0; acceptance = 0 }
-compared (Stray d c i) = record { denied = 0; kind = 1; d = d; cleared = c; event = i; probe = 0; acceptance = 0 }
-compared (Refusal d c X A) = record { denied = 0; kind = 2; d = d; cleared = c; event = 0; probe = X; acceptance = A }
-compared (Denied k) = record { denied = k; kind = 3; d = 0; cleared = 0; event = 0; probe = 0; acceptance = 0 }
+compared (Refines c) = record { refusal = 0; kind = 1; d = 0; cleared = c; event = 0; probe = 0; acceptance = 0 }
+compared (Stray d c i) = record { refusal = 0; kind = 2; d = d; cleared = c; event = i; probe = 0; acceptance = 0 }
+compared (Refusal d c X A) = record { refusal = 0; kind = 3; d = d; cleared = c; event = 0; probe = X; acceptance = A }
+compared (Denied k) = record { refusal = k; kind = 0; d = 0; cleared = 0; event = 0; probe = 0; acceptance = 0 }
+
+-- the answer that has these numbers
+unfoldable pub comparedFrom : Compared → Outcome
+comparedFrom n = cond (eqb (n .kind) 0) (Denied (n .refusal)) (cond (eqb (n .kind) 1) (Refines (n .cleared))
+    (cond (eqb (n .kind) 2) (Stray (n .d) (n .cleared) (n .event)) (Refusal (n .d) (n .cleared) (n .probe) (n .acceptance))))
+
+pub compared-back : (o : Outcome) → comparedFrom (compared o) ≡ o
+unfolding comparedFrom compared
+compared-back (Refines c) = refl
+compared-back (Stray d c i) = refl
+compared-back (Refusal d c X A) = refl
+compared-back (Denied k) = refl
+
+-- answers with the same numbers are the same
+pub compared-once : (a b : Outcome) → compared a ≡ compared b → a ≡ b
+compared-once a b e = sym (compared-back a) ∙ ap comparedFrom e ∙ compared-back b

@@ -3,9 +3,9 @@
 // link (0 while it has not been reached, 1 at the start, else 12 times the entry that led to it, the event, and 2) and n for each
 // pair's distance, which only `dist_at` and `set_dist` know of.
 ghost use mathlib.Core.Path.{_≡_};
-ghost use mathlib.Core.Bool.{Bool, true, false};
+ghost use mathlib.Core.Bool.{false};
 ghost use mathlib.Core.List.{_++_};
-ghost use Prim.Native.Nat.{ℕ, _+_, _*_, _≤_, _<_};
+ghost use Prim.Native.Nat.{_+_, _*_, _≤_, _<_};
 ghost use lib.ListN.{length, getD, set, replicate, drop};
 ghost use Rattle.search_spec.specs.Tables.{tablePairs, badCode};
 ghost use Rattle.search_spec.specs.Queue.{readBack};

@@ -40,6 +40,12 @@ pub table-at : (next : List ℕ) (size e n i : ℕ) → n < size → i < e → t
 unfolding tableNext
 table-at next size e n i h k = rw (lt-ltb n size h, lt-ltb i e k)
 
+-- a table that holds a graph's successors draws that graph
+pub table-draws : (g : Graph) (next : List ℕ) → ((n i : ℕ) → tableNext next (g .size) (g .events) n i ≡ g .next n i)
+    → tableGraph next (g .size) (g .events) ≡ g
+unfolding tableGraph
+table-draws g next h = λ j. record { events = g .events; size = g .size; next = λ n i. h n i j }
+
 -- every table with a node draws a graph that serves the theory of walks
 pub table-wellFormed : (next : List ℕ) (size e : ℕ) → 0 < size → WellFormed (tableGraph next size e)
 unfolding tableGraph tableNext

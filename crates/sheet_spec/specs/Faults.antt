@@ -26,7 +26,7 @@ CountFault s = (v : ℕ) × (v < s .n) × BadCount (row s v .c)
 abbrev pub SuccessorFault : Sheet → Type 0
 SuccessorFault s = (v : ℕ) × (v < s .n) × ((i : ℕ) × (i < s .e) × ((successor (row s v) i ≢ 255) × (s .n ≤ successor (row s v) i)))
 
--- event i has a successor in a row
+-- event i, below e, has a successor in a row
 abbrev pub Initial : ℕ → Row → ℕ → Type 0
 Initial e r i = (i < e) × (successor r i ≢ 255)
 

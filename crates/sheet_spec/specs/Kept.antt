@@ -48,7 +48,7 @@ step s v i = cond (ltb v (s .n) && ltb i (s .e)) (successor (row s v) i) (s .n)
 abbrev pub graph : Sheet → Graph
 graph s = record { events = s .e; size = s .n; next = step s }
 
--- a list of events leads from node u to node v
+-- a list of events leads from node u to v (which is a node if it is below N)
 unfoldable pub Walk : Sheet → ℕ → List ℕ → ℕ → Type 0
 Walk s u [] v = u ≡ v
 Walk s u (i ∷ t) v = (u < s .n) × (i < s .e) × Walk s (successor (row s u) i) t v

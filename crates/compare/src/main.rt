@@ -1,0 +1,9 @@
+// The program `compare` (01): two sheets from standard input, and the text of their comparison on standard output.
+fn main() {
+    let mut space = io::buffer();
+    let n = io::read_full(libc::STDIN_FILENO, &mut space);
+    let text = lines::compare_text(&space[..n]);
+    let bytes = text.bytes;
+    let len = text.len;
+    io::write_all(libc::STDOUT_FILENO, &bytes[..len]);
+}

@@ -1,0 +1,114 @@
+-- What the words of faults hold: the device nodes at which a test fails beside a node of the reference.
+use mathlib.Core.Path.{_≡_, refl, sym, _∙_}
+use mathlib.Core.Logic.{_⊎_, inl, inr}
+use mathlib.Core.Bool.{Bool, true, false, not, _&&_, _||_, cond}
+use mathlib.Core.List.{List}
+use Prim.Native.Nat.{ℕ, _≤_, _<_}
+use native.Mathlib.Omega.{arith}
+use lib.Bits.{bitOr}
+use lib.ListN.{getD}
+use Rattle.base.specs.Truth.{lt-or-ge, and-l, and-r, and-i, same}
+use Rattle.base.specs.Range.{any, any→, any←}
+use Rattle.base.specs.Table.{upTo, getD-upTo}
+use Rattle.events.specs.Bit.{bit, bit-high, setOf, setOf-lt}
+use Rattle.events.specs.Sets.{has, has→, has←, meets, meets→, meets←}
+use Rattle.sheet_spec.specs.declared.Row.{Row}
+use Rattle.sheet_spec.specs.Kept.{mayStop}
+use Rattle.refinement.specs.PairTests.{hasStray, hasRefusal, violates}
+use Rattle.layers.specs.Shapes.{rowIn, initialsIn, strayWord, stopWord, refusalWord, earlyWord, lateWord, strayWords, earlyWords, lateWords, hits}
+use Rattle.layers.proofs.Words.{has-setOf, or-setOf, setOf-ext, any-ext}
+
+-- a set meets a gathered one exactly if some node is in it and passes the test
+meets-setOf : (x q : ℕ) (f : ℕ → Bool) → meets x (setOf f q) ≡ any (λ m. has x m && f m) q
+meets-setOf x q f = same (meets x (setOf f q)) (any (λ m. has x m && f m) q) forth back
+  where
+    go : (m : ℕ) → bit x m ≡ 1 → bit (setOf f q) m ≡ 1 → (m < q) ⊎ (q ≤ m) → any (λ m. has x m && f m) q ≡ true
+    go m a b (inl l) = any← (λ m. has x m && f m) q m l (and-i (has← x m a) (sym (has-setOf f q m l) ∙ has← (setOf f q) m b))
+    go m a b (inr l) = absurd (omega (arith, bit-high q m (setOf f q) (setOf-lt f q) l))
+
+    forth : meets x (setOf f q) ≡ true → any (λ m. has x m && f m) q ≡ true
+    forth t = let w = meets→ x (setOf f q) t in go (w .0) (w .1) (w .2) (lt-or-ge (w .0) q)
+
+    back : any (λ m. has x m && f m) q ≡ true → meets x (setOf f q) ≡ true
+    back t =
+        let w = any→ (λ m. has x m && f m) q t in
+        meets← x (setOf f q) (w .0) (has→ x (w .0) (and-l (has x (w .0)) (f (w .0)) (w .2)))
+        (has→ (setOf f q) (w .0) (has-setOf f q (w .0) (w .1) ∙ and-r (has x (w .0)) (f (w .0)) (w .2)))
+
+-- some pair of a layer is among the words exactly if some pair of it passes the test
+pub hits-is : (p q : ℕ) → p ≤ 32 → (l ws : List ℕ) (f : ℕ → ℕ → Bool) → ((n : ℕ) → n < 32 → getD ws n 0 ≡ setOf (f n) q)
+    → hits l ws p ≡ any (λ n. any (λ m. has (getD l n 0) m && f n m) q) p
+unfolding hits
+hits-is p q small l ws f h =
+    any-ext (λ n. meets (getD l n 0) (getD ws n 0)) (λ n. any (λ m. has (getD l n 0) m && f n m) q) p
+    (λ n k. rw (h n (omega arith)) (meets-setOf (getD l n 0) q (f n)))
+
+-- "or" and "and" where one side is known
+never : (x : Bool) → x ≡ (x || false)
+never true = refl
+never false = refl
+
+none : (x y : Bool) → x ≡ (x || (true && (y && false)))
+none true y = refl
+none false true = refl
+none false false = refl
+
+some : (x y : Bool) → (x || y) ≡ (x || (true && (y && true)))
+some true y = refl
+some false true = refl
+some false false = refl
+
+module _ (to : Bool) (mine theirs : List Row) (q e : ℕ) where
+  -- the test fails at the pair (n, m): with events to go, and without
+  abbrev pub early : ℕ → ℕ → Bool
+  early n m = hasStray e (rowIn mine n) (rowIn theirs m) || (not to && (mayStop (rowIn theirs m) && not (mayStop (rowIn mine n))))
+
+  abbrev pub late : ℕ → ℕ → Bool
+  late n m = violates to e (rowIn mine n) (rowIn theirs m)
+
+  -- the words, as the tables have them
+  abbrev pub strayTable : List ℕ
+  strayTable = upTo (strayWords (upTo (initialsIn e mine) 32) (upTo (initialsIn e theirs) 32) q) 32
+
+  abbrev pub earlyTable : List ℕ
+  earlyTable = upTo (earlyWords strayTable mine (stopWord theirs q) to) 32
+
+  abbrev pub lateTable : List ℕ
+  lateTable = upTo (lateWords strayTable mine theirs q to) 32
+
+  module _ (small : q ≤ 32) where
+    -- a word of strays
+    stray-is : (n : ℕ) → n < 32 → getD strayTable n 0 ≡ setOf (λ m. hasStray e (rowIn mine n) (rowIn theirs m)) q
+    unfolding strayWords strayWord initialsIn hasStray
+    stray-is n l =
+        getD-upTo (strayWords (upTo (initialsIn e mine) 32) (upTo (initialsIn e theirs) 32) q) 32 n 0 l
+        ∙ rw (getD-upTo (initialsIn e mine) 32 n 0 l) (setOf-ext _ _ q (λ m k. rw (getD-upTo (initialsIn e theirs) 32 m 0 (omega arith))))
+
+    pub early-is : (n : ℕ) → n < 32 → getD earlyTable n 0 ≡ setOf (early n) q
+    unfolding earlyWords earlyWord stopWord
+    early-is n l = getD-upTo (earlyWords strayTable mine (stopWord theirs q) to) 32 n 0 l ∙ rw (stray-is n l) (go to (mayStop (rowIn mine n)))
+      where
+        s : ℕ → Bool
+        s m = hasStray e (rowIn mine n) (rowIn theirs m)
+
+        t : ℕ → Bool
+        t m = mayStop (rowIn theirs m)
+
+        go : (a b : Bool) → cond (a || b) (setOf s q) (bitOr (setOf s q) (setOf t q)) ≡ setOf (λ m. s m || (not a && (t m && not b))) q
+        go true b = setOf-ext s (λ m. s m || false) q (λ m k. never (s m))
+        go false true = setOf-ext s (λ m. s m || (true && (t m && false))) q (λ m k. none (s m) (t m))
+        go false false = or-setOf s t q ∙ setOf-ext (λ m. s m || t m) (λ m. s m || (true && (t m && true))) q (λ m k. some (s m) (t m))
+
+    pub late-is : (n : ℕ) → n < 32 → getD lateTable n 0 ≡ setOf (late n) q
+    unfolding lateWords lateWord refusalWord violates
+    late-is n l = getD-upTo (lateWords strayTable mine theirs q to) 32 n 0 l ∙ rw (stray-is n l) (go to)
+      where
+        s : ℕ → Bool
+        s m = hasStray e (rowIn mine n) (rowIn theirs m)
+
+        r : ℕ → Bool
+        r m = hasRefusal (rowIn mine n) (rowIn theirs m)
+
+        go : (a : Bool) → cond a (setOf s q) (bitOr (setOf s q) (setOf r q)) ≡ setOf (λ m. s m || (not a && r m)) q
+        go true = setOf-ext s (λ m. s m || false) q (λ m k. never (s m))
+        go false = or-setOf s r q

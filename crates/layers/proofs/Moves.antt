@@ -1,0 +1,115 @@
+-- The next layer: which pairs are in it.
+use mathlib.Core.Path.{_≡_, refl, sym, ap, _∙_}
+use mathlib.Core.Bool.{Bool, true, false, _&&_, _||_, cond}
+use mathlib.Core.List.{List}
+use Prim.Native.Nat.{ℕ, zero, suc, _+_, _*_, _^_, _≤_, _<_}
+use native.Mathlib.Omega.{arith}
+use native.Mathlib.Numerals.{add-one}
+use native.Mathlib.Decide.{ℕ-discrete}
+use lib.Arith.{digits-div, digits-mod}
+use lib.Dec.{eqb, ltb}
+use lib.Bits.{bitOr}
+use lib.ListN.{length, getD, set, replicate, length-set, length-replicate}
+use lib.Seq.{getD-set-same, getD-set-other}
+use borrow.Author.Tests.{ltb-true, eq-eqb, ne-eqb}
+use Rattle.base.specs.Range.{any}
+use Rattle.base.specs.Table.{upTo, getD-upTo}
+use Rattle.events.specs.Sets.{has}
+use Rattle.sheet_spec.specs.declared.Row.{Row}
+use Rattle.sheet_spec.specs.Kept.{successor}
+use Rattle.layers.specs.Shapes.{rowIn, nodeIf, flatAt, leadsTo, joined, image, placed, spread, next}
+use Rattle.layers.proofs.Words.{has-or, has-one, has-zero}
+
+-- the table of a sheet's successors holds them
+pub leads-is : (rows : List Row) (v i : ℕ) → v < 32 → i < 12 → leadsTo (upTo (flatAt rows) 384) v i ≡ successor (rowIn rows v) i
+unfolding flatAt
+leads-is rows v i l k = getD-upTo (flatAt rows) 384 (v * 12 + i) 0 (omega arith) ∙ rw (digits-div v k, digits-mod v k)
+
+pub zeros : (k v : ℕ) → _≡_ {A = ℕ} (getD (replicate k 0) v 0) 0
+zeros zero v = refl
+zeros (suc k) zero = refl
+zeros (suc k) (suc v) = zeros k v
+
+or-none : (a b : Bool) → a ≡ (a || (false && b))
+or-none true b = refl
+or-none false b = refl
+
+-- a set of nodes moved by event i
+pub image-has : (t : List ℕ) (i q from m y : ℕ)
+    → has (image t i q from m) y ≡ any (λ u. (has from u && ltb (leadsTo t u i) q) && eqb (leadsTo t u i) y) m
+unfolding image any joined nodeIf
+image-has t i q from zero y = has-zero y
+image-has t i q from (suc m) y = go (has from m && ltb (leadsTo t m i) q) ∙ ap (λ (b : Bool). b || ((has from m && ltb (leadsTo t m i) q) && eqb (leadsTo t m i) y)) (image-has t i q from m y)
+  where
+    go : (b : Bool) → has (cond b (bitOr (image t i q from m) (2 ^ leadsTo t m i)) (image t i q from m)) y ≡ (has (image t i q from m) y || (b && eqb (leadsTo t m i) y))
+    go true = has-or (image t i q from m) (2 ^ leadsTo t m i) y ∙ ap (λ (b : Bool). has (image t i q from m) y || b) (has-one (leadsTo t m i) y)
+    go false = or-none (has (image t i q from m) y) (eqb (leadsTo t m i) y)
+
+module _ (mine theirs : List ℕ) (p q : ℕ) (small : p ≤ 32) where
+  placed-length : (out : List ℕ) (x i from : ℕ) → length (placed out theirs x i p q from) ≡ length out
+  unfolding placed
+  placed-length out x i from = go (ltb x p)
+    where
+      go : (b : Bool) → length (cond b (set out x (bitOr (getD out x 0) (image theirs i q from q))) out) ≡ length out
+      go true = length-set out x (bitOr (getD out x 0) (image theirs i q from q))
+      go false = refl
+
+  placed-has : (out : List ℕ) (x i from v y : ℕ) → length out ≡ 32
+      → has (getD (placed out theirs x i p q from) v 0) y ≡ (has (getD out v 0) y || ((ltb x p && eqb x v) && has (image theirs i q from q) y))
+  unfolding placed
+  placed-has out x i from v y l = go (ltb x p) refl (ℕ-discrete x v)
+    where
+      w : ℕ
+      w = image theirs i q from q
+
+      go : (b : Bool) → ltb x p ≡ b → Dec (x ≡ v)
+          → has (getD (cond b (set out x (bitOr (getD out x 0) w)) out) v 0) y ≡ (has (getD out v 0) y || ((b && eqb x v) && has w y))
+      go true h (yes e) = rw (← e, getD-set-same out x (bitOr (getD out x 0) w) 0 (omega (arith, ltb-true x p h)), eq-eqb x x refl) (has-or (getD out x 0) w y)
+      go true h (no n) = rw (getD-set-other out x v (bitOr (getD out x 0) w) 0 (λ e. n (sym e)), ne-eqb x v n) (or-none (has (getD out v 0) y) (has w y))
+      go false h d = or-none (has (getD out v 0) y) (has w y)
+
+  -- event i leads from node n of the reference and from a node of the set to the pair (v, y)
+  abbrev pub moves : ℕ → ℕ → ℕ → ℕ → ℕ → Bool
+  moves n from v y i = (ltb (leadsTo mine n i) p && eqb (leadsTo mine n i) v) && has (image theirs i q from q) y
+
+  spread-length : (out : List ℕ) (n from i : ℕ) → length (spread out mine theirs n p q from i) ≡ length out
+  unfolding spread
+  spread-length out n from zero = refl
+  spread-length out n from (suc i) = placed-length (spread out mine theirs n p q from i) (leadsTo mine n i) i from ∙ spread-length out n from i
+
+  or-assoc : (a b c : Bool) → ((a || b) || c) ≡ (a || (b || c))
+  or-assoc true b c = refl
+  or-assoc false b c = refl
+
+  or-false : (a : Bool) → a ≡ (a || false)
+  or-false true = refl
+  or-false false = refl
+
+  spread-has : (out : List ℕ) (n from i v y : ℕ) → length out ≡ 32
+      → has (getD (spread out mine theirs n p q from i) v 0) y ≡ (has (getD out v 0) y || any (moves n from v y) i)
+  unfolding spread any
+  spread-has out n from zero v y l = or-false (has (getD out v 0) y)
+  spread-has out n from (suc i) v y l =
+      placed-has (spread out mine theirs n p q from i) (leadsTo mine n i) i from v y (spread-length out n from i ∙ l)
+      ∙ ap (λ (b : Bool). b || moves n from v y i) (spread-has out n from i v y l)
+      ∙ or-assoc (has (getD out v 0) y) (any (moves n from v y) i) (moves n from v y i)
+
+  next-length : (e : ℕ) (layer : List ℕ) (n : ℕ) → length (next mine theirs p q e layer n) ≡ 32
+  unfolding next
+  next-length e layer zero = length-replicate {A = ℕ} 32 0
+  next-length e layer (suc n) = spread-length (next mine theirs p q e layer n) n (getD layer n 0) e ∙ next-length e layer n
+
+  -- one node more of the reference
+  pub next-more : (e : ℕ) (layer out out′ : List ℕ) (n : ℕ) → out ≡ next mine theirs p q e layer n → out′ ≡ spread out mine theirs n p q (getD layer n 0) e
+      → out′ ≡ next mine theirs p q e layer (n + 1)
+  unfolding next
+  next-more e layer out out′ n a b = rw (add-one n, ← a) b
+
+  -- the pair (v, y) is in the next layer exactly if some event leads to it from a pair of the layer
+  pub next-has : (e : ℕ) (layer : List ℕ) (n v y : ℕ)
+      → has (getD (next mine theirs p q e layer n) v 0) y ≡ any (λ u. any (moves u (getD layer u 0) v y) e) n
+  unfolding next any
+  next-has e layer zero v y = rw (zeros 32 v) (has-zero y)
+  next-has e layer (suc n) v y =
+      spread-has (next mine theirs p q e layer n) n (getD layer n 0) e v y (next-length e layer n)
+      ∙ ap (λ (b : Bool). b || any (moves n (getD layer n 0) v y) e) (next-has e layer n v y)

@@ -1,0 +1,296 @@
+-- How long the text can be: at most 3,184 bytes, so that it always fits.
+use mathlib.Core.Path.{_≡_, refl, sym, ap, _∙_}
+use mathlib.Core.Logic.{_⊎_, inl, inr}
+use mathlib.Core.Bool.{Bool, true, false, _&&_, cond}
+use mathlib.Core.List.{List, [], _∷_, _++_}
+use Prim.Native.Nat.{ℕ, zero, suc, _+_, _-_, _*_, _^_, _≤_, _<_}
+use native.Mathlib.Nat.{le-trans, mul-le-mul}
+use native.Mathlib.Omega.{arith}
+use lib.Dec.{eqb, ltb, leb}
+use lib.ListN.{length, getD, take, drop, length-append}
+use lib.Pow.{pow-mono}
+use lib.Seq.{take-at}
+use borrow.Author.Tests.{eqb-true, ltb-true, eq-eqb}
+use Rattle.base.specs.Refusal.{unless, orElse}
+use Rattle.base.specs.Count.{count}
+use Rattle.base.specs.Range.{first≤}
+use Rattle.base.specs.Table.{length-upTo, getD-upTo}
+use Rattle.walks.specs.Graph.{Graph, walk}
+use Rattle.walks.specs.Near.{later, choice, leastFrom, leastTrace}
+use Rattle.walks.specs.Cleared.{cleared}
+use Rattle.walks.specs.Product.{product}
+use Rattle.walks.specs.Pairs.{pairDistance, pairTrace, pairCleared, pairDistance-le, pairTrace-length, pairTrace-leads, onCodes}
+use Rattle.sheet_spec.specs.declared.Row.{Row}
+use Rattle.sheet_spec.specs.declared.Sheet.{Sheet}
+use Rattle.sheet_spec.specs.declared.ReadSheet.{ReadSheet}
+use Rattle.sheet_spec.specs.Kept.{graph, acceptance, acceptances, initials}
+use Rattle.sheet_spec.specs.Rules.{sheetFault, rangesOk, countOk, successorsOk, setsOk, reachedOk}
+use Rattle.sheet_spec.specs.Reading.{eventsOf, nodesOf, nodesAt, version, lengthField, headFault, countAt, nextAt, layoutFault, graphFault, bytesFault, sheetOf, answer, readSheet}
+use Rattle.sheet_spec.specs.Accepted.{read-accepted}
+use Rattle.sheet_spec.specs.Sound.{Sound, check-sound}
+use Rattle.probes_spec.specs.declared.Missed.{Missed}
+use Rattle.probes_spec.specs.declared.Missed.the-variants.{Nothing, Found}
+use Rattle.probes_spec.specs.Probes.{probes}
+use Rattle.probes_spec.specs.ProbeLaws.{probe-small}
+use Rattle.probes_spec.specs.FirstMissed.{firstMissed}
+use Rattle.probes_spec.specs.FirstMissedLaws.{missed-found}
+use Rattle.events.specs.Sets.{has}
+use Rattle.refinement.specs.PairTests.{strays, hasStray, firstStray, violating}
+use Rattle.comparison_spec.specs.declared.Outcome.{Outcome}
+use Rattle.comparison_spec.specs.declared.Outcome.the-variants.{Refines, Stray, Refusal, Denied}
+use Rattle.comparison_spec.specs.Comparison.{pairs, nearest, nearestTrace, clearedOf, lastRow, refusalNamed, named, judged, compareFault, outcomeOf, traceAfter}
+use Rattle.lines_spec.specs.Lines.{ascii, decimal, numberLine, sheetLine, violatesLine, eventList, traceLine, refusedLine, outcomeLines}
+use Rattle.lines_spec.specs.LineLaws.{decimal-few}
+use Rattle.lines_spec.specs.Program.{cutInput, firstSheet, secondSheet, workList, traceList, comparedLines, deviceLines, sheetsLines, inputLines, compareText}
+
+-- each line, by the digits of its numbers
+number-length : (words : List ℕ) (k n : ℕ) → n < 10 ^ suc k → length (numberLine words n) ≤ length words + suc k + 1
+unfolding numberLine
+number-length words k n h = omega (arith, length-append words (decimal n ++ ascii "\n"), length-append (decimal n) (ascii "\n"), decimal-few k n h)
+
+sheet-length : (who : List ℕ) (n e : ℕ) → n < 100 → e < 100 → length (sheetLine who n e) ≤ length who + 19
+unfolding sheetLine
+sheet-length who n e h k =
+    omega (
+      arith,
+      length-append who (decimal n ++ (ascii " nodes " ++ (decimal e ++ ascii " events\n"))),
+      length-append (decimal n) (ascii " nodes " ++ (decimal e ++ ascii " events\n")),
+      length-append (ascii " nodes ") (decimal e ++ ascii " events\n"),
+      length-append (decimal e) (ascii " events\n"),
+      decimal-few 1 n h,
+      decimal-few 1 e k,
+    )
+
+violates-length : (d c : ℕ) → d < 10000 → c < 10000 → length (violatesLine d c) ≤ 33
+unfolding violatesLine
+violates-length d c h k =
+    omega (
+      arith,
+      length-append (ascii "violates after ") (decimal d ++ (ascii " cleared " ++ (decimal c ++ ascii "\n"))),
+      length-append (decimal d) (ascii " cleared " ++ (decimal c ++ ascii "\n")),
+      length-append (ascii " cleared ") (decimal c ++ ascii "\n"),
+      length-append (decimal c) (ascii "\n"),
+      decimal-few 3 d h,
+      decimal-few 3 c k,
+    )
+
+refused-length : (p a : ℕ) → p < 10000 → a < 10000 → length (refusedLine p a) ≤ 21
+unfolding refusedLine
+refused-length p a h k =
+    omega (
+      arith,
+      length-append (ascii "refused ") (decimal p ++ (ascii " by " ++ (decimal a ++ ascii "\n"))),
+      length-append (decimal p) (ascii " by " ++ (decimal a ++ ascii "\n")),
+      length-append (ascii " by ") (decimal a ++ ascii "\n"),
+      length-append (decimal a) (ascii "\n"),
+      decimal-few 3 p h,
+      decimal-few 3 a k,
+    )
+
+trace-length : (t : List ℕ) → length (traceLine t) ≡ length (eventList t) + 6
+unfolding traceLine
+trace-length t = omega (arith, length-append (ascii "trace") (eventList t ++ ascii "\n"), length-append (eventList t) (ascii "\n"))
+
+-- the events of a least trace have at most two digits
+choice-small : (g : Graph) (bad : ℕ → Bool) → g .events ≤ 12 → (j n : ℕ) → choice g bad j n < 100
+unfolding choice
+choice-small g bad h j n = omega (arith, first≤ (later g bad j n) (g .events))
+
+least-length : (g : Graph) (bad : ℕ → Bool) → g .events ≤ 12 → (j n : ℕ) → length (eventList (leastFrom g bad j n)) ≤ 3 * j
+unfolding leastFrom eventList
+least-length g bad h zero n = omega arith
+least-length g bad h (suc j) n =
+    one (choice g bad j n) (leastFrom g bad j (g .next n (choice g bad j n))) (choice-small g bad h j n) (least-length g bad h j (g .next n (choice g bad j n)))
+  where
+    one : (e : ℕ) (t : List ℕ) → e < 100 → length (eventList t) ≤ 3 * j → length ((ascii " " ++ decimal e) ++ eventList t) ≤ 3 * suc j
+    one e t l ih = rw (length-append (ascii " " ++ decimal e) (eventList t)) (omega (arith, decimal-few 1 e l))
+
+-- a count is not more than what is counted over
+count-le : (f : ℕ → Bool) (n : ℕ) → count f n ≤ n
+unfolding count
+count-le f zero = omega arith
+count-le f (suc n) = go (f n) (count-le f n)
+  where
+    go : (b : Bool) → count f n ≤ n → count f n + cond b 1 0 ≤ suc n
+    go true h = omega arith
+    go false h = omega arith
+
+-- refusal numbers
+unless-le : (t : Bool) (k r m : ℕ) → k ≤ m → r ≤ m → unless t k r ≤ m
+unless-le true k r m p q = q
+unless-le false k r m p q = p
+
+orElse-le : (k r m : ℕ) → k ≤ m → r ≤ m → orElse k r ≤ m
+orElse-le zero r m p q = q
+orElse-le (suc k) r m p q = p
+
+layout-le : (b : List ℕ) (e k at : ℕ) → layoutFault b e k at ≤ 8
+unfolding layoutFault
+layout-le b e zero at = unless-le (eqb at (length b)) 4 0 8 (omega arith) (omega arith)
+layout-le b e (suc k) at =
+    unless-le (ltb (at + e) (length b)) 4 _ 8 (omega arith)
+    (unless-le (countOk (countAt b e at)) 5 _ 8 (omega arith)
+    (unless-le (leb (nextAt b e at) (length b)) 4 _ 8 (omega arith) (layout-le b e k (nextAt b e at))))
+
+fault-le : (b : List ℕ) → bytesFault b ≤ 8
+unfolding bytesFault headFault graphFault
+fault-le b =
+    orElse-le _ _ 8
+    (unless-le (leb 7 (length b) && eqb (lengthField b + 4) (length b)) 1 _ 8 (omega arith)
+    (unless-le (eqb (version b) 1) 2 _ 8 (omega arith) (unless-le (rangesOk (eventsOf b) (nodesOf b)) 3 0 8 (omega arith) (omega arith))))
+    (orElse-le _ _ 8 (layout-le b (eventsOf b) (nodesOf b) nodesAt)
+    (unless-le (successorsOk (sheetOf b)) 6 _ 8 (omega arith)
+    (unless-le (setsOk (sheetOf b)) 7 _ 8 (omega arith) (unless-le (reachedOk (sheetOf b)) 8 0 8 (omega arith) (omega arith)))))
+
+module _ (P Q : Sheet) (hP : sheetFault P ≡ 0) (hQ : sheetFault Q ≡ 0) where
+  -- there are at most 1,024 pairs
+  pairs-le : pairs P Q ≤ 1024
+  unfolding pairs
+  pairs-le = mul-le-mul (check-sound P hP .ranges .n-high) (check-sound Q hQ .ranges .n-high)
+
+  nearest-le : nearest false P Q ≤ 1024
+  unfolding nearest pairs
+  nearest-le = le-trans (pairDistance-le (graph P) (graph Q) (violating false P Q)) pairs-le
+
+  cleared-le : clearedOf false P Q ≤ 1024
+  unfolding clearedOf pairCleared cleared product pairs
+  cleared-le = le-trans (count-le _ (P .n * Q .n)) pairs-le
+
+  compare-le : (work trace : List ℕ) → compareFault P Q work trace ≤ 13
+  unfolding compareFault
+  compare-le work trace =
+      rw (hP, hQ)
+      (unless-le (eqb (P .e) (Q .e)) 11 _ 13 (omega arith)
+      (unless-le (leb (3 * pairs P Q) (length work)) 12 _ 13 (omega arith) (unless-le (leb (pairs P Q - 1) (length trace)) 13 0 13 (omega arith) (omega arith))))
+
+  -- the trace line, whatever stands behind the trace
+  events-length : length (eventList (nearestTrace false P Q)) ≤ 3 * nearest false P Q
+  unfolding nearest nearestTrace pairTrace pairDistance leastTrace product
+  events-length = least-length (product (graph P) (graph Q)) (onCodes (graph Q) (violating false P Q)) (check-sound P hP .ranges .e-high) _ 0
+
+  told-length : (rest : List ℕ) → nearest false P Q < pairs P Q → length (traceLine (take (nearest false P Q) (nearestTrace false P Q ++ rest))) ≤ 3075
+  told-length rest h =
+      rw (take-at (nearestTrace false P Q) rest (nearest false P Q) nearest-length, trace-length (nearestTrace false P Q)) (omega (arith, h, pairs-le, events-length))
+    where
+      nearest-length : length (nearestTrace false P Q) ≡ nearest false P Q
+      nearest-length = unfold nearest in (unfold nearestTrace in (pairTrace-length (graph P) (graph Q) (violating false P Q)))
+
+  -- the smallest stray event has at most two digits
+  stray-small : (e : ℕ) (r q : Row) → firstStray e r q < 100
+  unfolding firstStray
+  stray-small e r q = omega (arith, first≤ (has (strays (initials e r) (initials e q))) 12)
+
+  -- a set of at most 12 events has at most four
+  set-small : (e : ℕ) → e ≤ 12 → 2 ^ e < 10000
+  set-small e l = let m : 2 ^ e ≤ 2 ^ 12 = pow-mono l in omega arith
+
+  -- the device's acceptances at the end of the trace are such sets
+  narrow-last : nearest false P Q < pairs P Q → (j : ℕ) → j < lastRow false P Q Q .c → acceptance (lastRow false P Q Q) j < 2 ^ Q .e
+  unfolding lastRow nearest nearestTrace pairs
+  narrow-last h j l =
+      let w = pairTrace-leads (check-sound P hP .graphed) (check-sound Q hQ .graphed) (violating false P Q) h in
+      check-sound Q hQ .narrow (walk (graph Q) 0 (pairTrace (graph P) (graph Q) (violating false P Q))) j (w .in-d) l
+
+  -- so what a refusal names is small
+  found-small : (r q : Row) → ((j : ℕ) → j < q .c → acceptance q j < 2 ^ Q .e) → (p a : ℕ) → firstMissed (acceptances r) (P .e) (acceptances q) ≡ Found p a
+      → (p < 10000) × (a < 10000)
+  unfolding acceptances
+  found-small r q narrow p a e =
+      let w = missed-found (acceptances r) (P .e) (acceptances q) p a .0 e in
+      let i : w .spot < q .c = omega (arith, w .spot-in, length-upTo (acceptance q) (q .c)) in
+      let x : getD (probes (acceptances r) (P .e)) (w .place) 0 < 2 ^ P .e = probe-small (acceptances r) (P .e) (w .place) (w .place-in) in
+      let y : acceptance q (w .spot) ≡ a = sym (getD-upTo (acceptance q) (q .c) (w .spot) 0 i) ∙ w .acceptance in
+      (omega (arith, x, w .probe, set-small (P .e) (check-sound P hP .ranges .e-high)), omega (arith, y, narrow (w .spot) i, set-small (Q .e) (check-sound Q hQ .ranges .e-high)))
+
+  -- the three lines of a violation
+  three-length : (d c : ℕ) (told end : List ℕ) → d ≤ 1024 → c ≤ 1024 → length told ≤ 3075 → length end ≤ 21 → length (violatesLine d c ++ (told ++ end)) ≤ 3129
+  three-length d c told end h k s l =
+      omega (arith, length-append (violatesLine d c) (told ++ end), length-append told end, violates-length d c (omega arith) (omega arith), s, l)
+
+  named-length : (d c : ℕ) (r q : Row) → d ≤ 1024 → c ≤ 1024 → ((j : ℕ) → j < q .c → acceptance q j < 2 ^ Q .e) → (t : List ℕ) → length (traceLine (take d t)) ≤ 3075
+      → length (outcomeLines (named d c (P .e) r q) t) ≤ 3129
+  unfolding named outcomeLines refusalNamed
+  named-length d c r q h k narrow t s = go (hasStray (P .e) r q) (firstMissed (acceptances r) (P .e) (acceptances q)) refl
+    where
+      go : (b : Bool) (m : Missed) → firstMissed (acceptances r) (P .e) (acceptances q) ≡ m
+          → length (outcomeLines (cond b (Stray d c (firstStray (P .e) r q)) (refusalNamed d c m)) t) ≤ 3129
+      go true m e =
+          three-length d c (traceLine (take d t)) (numberLine (ascii "stray ") (firstStray (P .e) r q)) h k s
+          (omega (arith, number-length (ascii "stray ") 1 (firstStray (P .e) r q) (stray-small (P .e) r q)))
+      go false Nothing e = three-length d c (traceLine (take d t)) (refusedLine 0 0) h k s (refused-length 0 0 (omega arith) (omega arith))
+      go false (Found p a) e =
+          let w = found-small r q narrow p a e in
+          three-length d c (traceLine (take d t)) (refusedLine p a) h k s (refused-length p a (w .0) (w .1))
+
+  compared-length : length (comparedLines P Q) ≤ 3129
+  unfolding comparedLines outcomeOf traceAfter judged outcomeLines
+  compared-length = go (eqb k 0) (ltb (nearest false P Q) (pairs P Q)) refl
+    where
+      k : ℕ
+      k = compareFault P Q workList traceList
+
+      go : (x y : Bool) → ltb (nearest false P Q) (pairs P Q) ≡ y
+          → length (outcomeLines
+          (cond x (cond y (named (nearest false P Q) (clearedOf false P Q) (P .e) (lastRow false P Q P) (lastRow false P Q Q)) (Refines (clearedOf false P Q))) (Denied k))
+          (cond (x && y) (nearestTrace false P Q ++ drop (nearest false P Q) traceList) traceList)) ≤ 3129
+      go true true e =
+          let h = ltb-true (nearest false P Q) (pairs P Q) e in
+          named-length (nearest false P Q) (clearedOf false P Q) (lastRow false P Q P) (lastRow false P Q Q) nearest-le cleared-le (narrow-last h)
+          (nearestTrace false P Q ++ drop (nearest false P Q) traceList) (told-length (drop (nearest false P Q) traceList) h)
+      go true false e = omega (arith, number-length (ascii "refines cleared ") 3 (clearedOf false P Q) (omega (arith, cleared-le)))
+      go false y e = omega (arith, number-length (ascii "comparison refused ") 1 k (omega (arith, compare-le workList traceList)))
+
+-- what an accepted reading holds
+read-sheet : (b : List ℕ) → bytesFault b ≡ 0 → readSheet b .sheet ≡ sheetOf b
+unfolding readSheet answer
+read-sheet b h = rw (eq-eqb (bytesFault b) 0 h)
+
+module _ (b : List ℕ) (h : bytesFault b ≡ 0) where
+  accepted : sheetFault (readSheet b .sheet) ≡ 0
+  accepted = rw (read-sheet b h) (read-accepted b h)
+
+  line-length : (who : List ℕ) → length (sheetLine who (readSheet b .sheet .n) (readSheet b .sheet .e)) ≤ length who + 19
+  line-length who =
+      let s = check-sound (readSheet b .sheet) accepted .ranges in
+      sheet-length who (readSheet b .sheet .n) (readSheet b .sheet .e) (omega (arith, s .n-high)) (omega (arith, s .e-high))
+
+device-length : (P : Sheet) → sheetFault P ≡ 0 → (b : List ℕ) → length (deviceLines P (readSheet b)) ≤ 3155
+unfolding deviceLines readSheet answer
+device-length P hP b = go (eqb (bytesFault b) 0) refl
+  where
+    go : (x : Bool) → eqb (bytesFault b) 0 ≡ x
+        → length (cond x (sheetLine (ascii "device ") (readSheet b .sheet .n) (readSheet b .sheet .e) ++ comparedLines P (readSheet b .sheet)) (numberLine (ascii "device refused ") (bytesFault b))) ≤ 3155
+    go true e =
+        let h = eqb-true (bytesFault b) 0 e in
+        omega (
+          arith,
+          length-append (sheetLine (ascii "device ") (readSheet b .sheet .n) (readSheet b .sheet .e)) (comparedLines P (readSheet b .sheet)),
+          line-length b h (ascii "device "),
+          compared-length P (readSheet b .sheet) hP (accepted b h),
+        )
+    go false e = omega (arith, number-length (ascii "device refused ") 0 (bytesFault b) (omega (arith, fault-le b)))
+
+sheets-length : (a b : List ℕ) → length (sheetsLines (readSheet a) (readSheet b)) ≤ 3184
+unfolding sheetsLines readSheet answer
+sheets-length a b = go (eqb (bytesFault a) 0) refl
+  where
+    go : (x : Bool) → eqb (bytesFault a) 0 ≡ x
+        → length (cond x (sheetLine (ascii "reference ") (readSheet a .sheet .n) (readSheet a .sheet .e) ++ deviceLines (readSheet a .sheet) (readSheet b)) (numberLine (ascii "reference refused ") (bytesFault a))) ≤ 3184
+    go true e =
+        let h = eqb-true (bytesFault a) 0 e in
+        omega (
+          arith,
+          length-append (sheetLine (ascii "reference ") (readSheet a .sheet .n) (readSheet a .sheet .e)) (deviceLines (readSheet a .sheet) (readSheet b)),
+          line-length a h (ascii "reference "),
+          device-length (readSheet a .sheet) (accepted a h) b,
+        )
+    go false e = omega (arith, number-length (ascii "reference refused ") 0 (bytesFault a) (omega (arith, fault-le a)))
+
+-- every text has at most 3,184 bytes
+pub text-length : (input : List ℕ) → length (compareText input) ≤ 3184
+unfolding compareText inputLines
+text-length input = sheets-length (firstSheet (cutInput input)) (secondSheet (cutInput input))
+
+-- so it fits where 4,096 bytes are kept
+pub text-fits : (input : List ℕ) → length (compareText input) ≤ 4096
+text-fits input = omega (arith, text-length input)

@@ -1,0 +1,4 @@
+pub mod Records
+pub mod Offers
+pub mod Answers
+pub mod Verdicts
