@@ -1,25 +1,39 @@
 #!/bin/sh
-# The probe lists are used by their promise alone: no crate but probes_spec, probes and cases unfolds a definition of them, and
-# none of these definitions is an `abbrev`, which would unfold everywhere without a line that shows it.
+# The probe lists are used by their promise alone: no crate but probes_spec, probes and cases unfolds a definition of probes_spec, and
+# none of its definitions is an `abbrev`, which would unfold everywhere without a line that shows it. Statements in words are
+# excepted; they are named here.
 set -eu
 cd "$(dirname "$0")/.."
-names='hits isProbe gather select probes missing orNext firstMissing firstMissed nodeProbes listFault listedOf listNumbers listAfter'
+statements='Hits Narrow NoneMissed Alone'
 
-for name in $names; do
-    grep -q "^unfoldable pub $name :" crates/probes_spec/specs/*.antt || {
-        echo "probes: $name is not an unfoldable definition of probes_spec"
-        exit 1
-    }
-    if grep -n "^abbrev pub $name :" crates/probes_spec/specs/*.antt; then
-        echo "probes: $name is an abbrev"
-        exit 1
-    fi
-    for crate in crates/*/; do
-        case "$crate" in crates/probes_spec/ | crates/probes/ | crates/cases/) continue ;; esac
-        if grep -rnE "unfold(ing)?( [^ ]+)* $name( |\$)" --include='*.antt' "$crate" | grep -v '^[^:]*:[0-9]*: *--'; then
-            echo "probes: $crate unfolds $name"
+abbreviated=$(sed -n 's/^ *abbrev pub \([^ ]*\) :.*/\1/p' crates/probes_spec/specs/*.antt)
+for name in $abbreviated; do
+    case " $statements " in
+        *" $name "*) ;;
+        *)
+            echo "probes: $name is an abbrev"
             exit 1
-        fi
+            ;;
+    esac
+done
+
+names=$(sed -n 's/^ *unfoldable pub \([^ ]*\) :.*/\1/p' crates/probes_spec/specs/*.antt)
+[ -n "$names" ] || {
+    echo "probes: no definition found in probes_spec"
+    exit 1
+}
+for crate in crates/*/; do
+    case "$crate" in crates/probes_spec/ | crates/probes/ | crates/cases/) continue ;; esac
+    # a definition of another crate may have the same name; only what is brought in from probes_spec counts
+    for file in $(find "$crate" -name '*.antt' -exec grep -l 'use Rattle\.probes_spec\.specs\.' {} +); do
+        brought=$(sed -n 's/^use Rattle\.probes_spec\.specs\.[^{]*{\(.*\)}$/\1/p' "$file" | tr ',' '\n' | tr -d ' ')
+        for name in $names; do
+            echo "$brought" | grep -qx "$name" || continue
+            if grep -nE "unfold(ing)?( [^ ]+)* $name( |\$)" "$file" | grep -v ':[[:space:]]*--'; then
+                echo "probes: $file unfolds $name"
+                exit 1
+            fi
+        done
     done
 done
 echo "probes: ok"
