@@ -1,3 +1,4 @@
 pub mod Sheets
 pub mod Table
 pub mod Runs
+pub mod Text

@@ -1,12 +1,12 @@
 -- Parts of the input: the front of a list, where the first sheet ends, and the two sheets.
-use mathlib.Core.Path.{_≡_, refl, sym, ap, _∙_}
-use mathlib.Core.Logic.{_⊎_, inl, inr}
+use mathlib.Core.Path.{_≡_, sym, ap, _∙_}
+use mathlib.Core.Logic.{inl, inr}
 use mathlib.Core.List.{List}
 use Prim.Native.Nat.{ℕ, _+_, _-_, _≤_, _<_}
 use native.Mathlib.Omega.{arith}
 use lib.ListN.{length, take, drop, length-drop}
 use lib.Seq.{take-all}
-use Rattle.sheet_spec.specs.Reading.{lengthField, readSheet}
+use Rattle.sheet_spec.specs.Reading.{lengthField}
 use Rattle.lines_spec.specs.Program.{firstEnd, firstSheet, secondSheet}
 use Rattle.lines_spec.specs.ProgramLaws.{end-all, end-two}
 

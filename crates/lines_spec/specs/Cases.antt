@@ -1,4 +1,5 @@
--- Texts of inputs: 01's example, whole, and one input for each other kind of line.
+-- Texts of inputs, one for each kind of line. (01's example, and every text that names a refused probe, compute through the probe
+-- lists and stand in the crate `cases`.)
 use mathlib.Core.Path.{_≡_, refl}
 use mathlib.Core.List.{List, [], _∷_, _++_, map}
 use Prim.Native.Nat.{ℕ}
@@ -17,22 +18,11 @@ use Rattle.walks.specs.Pairs.{onCodes, pairDistance, pairTrace, pairCleared}
 use Rattle.sheet_spec.specs.Kept.{successor, acceptance, acceptances, initials, step}
 use Rattle.sheet_spec.specs.Rules.{rangesOk, countOk, countsOk, successorOk, rowSuccessorsOk, successorsOk, ascends, apart, setOk, rowSetsOk, setsOk, blank, unusedOk, blanksOk, reachedOk, sheetFault}
 use Rattle.sheet_spec.specs.Reading.{lengthField, headFault, nextAt, layoutFault, startOf, succOf, setsOf, rowAt, rowOf, sheetOf, graphFault, bytesFault, answer, readSheet}
-use Rattle.probes_spec.specs.Probes.{hits, isProbe, gather, select, probes}
-use Rattle.probes_spec.specs.FirstMissed.{missing, orNext, firstMissing, firstMissed}
 use Rattle.refinement.specs.PairTests.{strays, hasStray, firstStray, covers, hasRefusal, violates, violating}
 use Rattle.comparison_spec.specs.Comparison.{pairs, nearest, nearestTrace, clearedOf, lastRow, refusalNamed, named, judged, compareFault, outcomeOf, traceAfter}
+use Rattle.comparison_spec.specs.declared.Outcome.the-variants.{Refusal}
 use Rattle.lines_spec.specs.Lines.{ascii, decimalIn, decimal, numberLine, sheetLine, violatesLine, eventList, traceLine, refusedLine, outcomeLines}
 use Rattle.lines_spec.specs.Program.{cutInput, firstEnd, firstSheet, secondSheet, workList, traceList, comparedLines, deviceLines, sheetsLines, inputLines, compareText}
-
--- 01's input
-unfoldable pub exampleInput : List ℕ
-exampleInput =
-    0 ∷ 0 ∷ 0 ∷ 15 ∷ 1 ∷ 2 ∷ 2 ∷ 1 ∷ 1 ∷ 2 ∷ 0 ∷ 1 ∷ 0 ∷ 2 ∷ 0 ∷ 0 ∷ 1 ∷ 0 ∷ 3 ∷
-    0 ∷ 0 ∷ 0 ∷ 18 ∷ 1 ∷ 2 ∷ 3 ∷ 1 ∷ 1 ∷ 1 ∷ 0 ∷ 3 ∷ 2 ∷ 2 ∷ 1 ∷ 0 ∷ 3 ∷ 0 ∷ 255 ∷ 1 ∷ 0 ∷ 1 ∷ []
-
--- 01's output
-unfoldable pub exampleText : List ℕ
-exampleText = ascii "reference 2 nodes 2 events\ndevice 3 nodes 2 events\nviolates after 5 cleared 5\ntrace 0 0 0 0 0\nrefused 2 by 1\n"
 
 -- one node with two events, of which it loops on only event 0, or only on event 1
 unfoldable pub onlyZero : List ℕ
@@ -41,12 +31,9 @@ onlyZero = 0 ∷ 0 ∷ 0 ∷ 8 ∷ 1 ∷ 2 ∷ 1 ∷ 0 ∷ 255 ∷ 1 ∷ 0 ∷ 1
 unfoldable pub onlyOne : List ℕ
 onlyOne = 0 ∷ 0 ∷ 0 ∷ 8 ∷ 1 ∷ 2 ∷ 1 ∷ 255 ∷ 0 ∷ 1 ∷ 0 ∷ 2 ∷ []
 
--- one node with one event: looping on it with acceptance 0, looping with acceptance 1, and stopped
+-- one node with one event: looping on it with acceptance 0, and stopped
 unfoldable pub mayLoop : List ℕ
 mayLoop = 0 ∷ 0 ∷ 0 ∷ 7 ∷ 1 ∷ 1 ∷ 1 ∷ 0 ∷ 1 ∷ 0 ∷ 0 ∷ []
-
-unfoldable pub mustLoop : List ℕ
-mustLoop = 0 ∷ 0 ∷ 0 ∷ 7 ∷ 1 ∷ 1 ∷ 1 ∷ 0 ∷ 1 ∷ 0 ∷ 1 ∷ []
 
 unfoldable pub stopped : List ℕ
 stopped = 0 ∷ 0 ∷ 0 ∷ 7 ∷ 1 ∷ 1 ∷ 1 ∷ 255 ∷ 1 ∷ 0 ∷ 0 ∷ []
@@ -54,10 +41,8 @@ stopped = 0 ∷ 0 ∷ 0 ∷ 7 ∷ 1 ∷ 1 ∷ 1 ∷ 255 ∷ 1 ∷ 0 ∷ 0 ∷ []
 -- inputs
 unfoldable pub inputs : List (List ℕ)
 inputs =
-    exampleInput
-    ∷ (onlyZero ++ onlyOne)
+    (onlyZero ++ onlyOne)
     ∷ (mayLoop ++ stopped)
-    ∷ (mustLoop ++ stopped)
     ∷ (mayLoop ++ onlyOne)
     ∷ mayLoop
     ∷ (mayLoop ++ (stopped ++ (0 ∷ [])))
@@ -69,15 +54,13 @@ inputs =
     ∷ (0 ∷ 0 ∷ 15 ∷ 253 ∷ replicate 4093 0)
     ∷ []
 
--- what each of them prints: 01's example; a stray after the empty trace; refines; a refusal after the empty trace; unequal E; no byte of a
+-- what each of them prints: a stray after the empty trace; refines; unequal E; no byte of a
 -- second sheet; a byte after the second sheet; no byte; under 4 bytes; a first sheet of 4 bytes, which is too short; a length field
 -- that exceeds the input; a first sheet that ends with the last of 4,096 bytes (its version is 0), and one that ends behind them
 unfoldable pub texts : List (List ℕ)
 texts =
-    exampleText
-    ∷ ascii "reference 1 nodes 2 events\ndevice 1 nodes 2 events\nviolates after 0 cleared 0\ntrace\nstray 1\n"
+    ascii "reference 1 nodes 2 events\ndevice 1 nodes 2 events\nviolates after 0 cleared 0\ntrace\nstray 1\n"
     ∷ ascii "reference 1 nodes 1 events\ndevice 1 nodes 1 events\nrefines cleared 1\n"
-    ∷ ascii "reference 1 nodes 1 events\ndevice 1 nodes 1 events\nviolates after 0 cleared 0\ntrace\nrefused 1 by 0\n"
     ∷ ascii "reference 1 nodes 1 events\ndevice 1 nodes 2 events\ncomparison refused 11\n"
     ∷ ascii "reference 1 nodes 1 events\ndevice refused 1\n"
     ∷ ascii "reference 1 nodes 1 events\ndevice refused 1\n"
@@ -91,7 +74,7 @@ texts =
 
 -- one equation has them all
 pub texts-hold : map compareText inputs ≡ texts
-unfolding inputs texts exampleInput exampleText onlyZero onlyOne mayLoop mustLoop stopped compareText cutInput inputLines firstSheet secondSheet firstEnd lengthField sheetsLines deviceLines comparedLines workList traceList outcomeLines numberLine sheetLine violatesLine eventList traceLine refusedLine decimal decimalIn readSheet answer bytesFault headFault layoutFault nextAt startOf succOf setsOf rowAt rowOf sheetOf graphFault rangesOk countOk countsOk successorOk rowSuccessorsOk successorsOk ascends apart setOk rowSetsOk setsOk blank unusedOk blanksOk reachedOk sheetFault successor acceptance acceptances initials step bit setOf has inside meets nearer leads walk all any first upTo count outcomeOf traceAfter compareFault judged named refusalNamed lastRow clearedOf nearestTrace nearest pairs pairDistance pairTrace pairCleared onCodes product pairNext code cleared meetsIn distance later choice leastFrom leastTrace strays hasStray firstStray covers hasRefusal violates violating hits isProbe gather select probes missing orNext firstMissing firstMissed
+unfolding inputs texts onlyZero onlyOne mayLoop stopped compareText cutInput inputLines firstSheet secondSheet firstEnd lengthField sheetsLines deviceLines comparedLines workList traceList outcomeLines numberLine sheetLine violatesLine eventList traceLine refusedLine decimal decimalIn readSheet answer bytesFault headFault layoutFault nextAt startOf succOf setsOf rowAt rowOf sheetOf graphFault rangesOk countOk countsOk successorOk rowSuccessorsOk successorsOk ascends apart setOk rowSetsOk setsOk blank unusedOk blanksOk reachedOk sheetFault successor acceptance acceptances initials step bit setOf has inside meets nearer leads walk all any first upTo count outcomeOf traceAfter compareFault judged named refusalNamed lastRow clearedOf nearestTrace nearest pairs pairDistance pairTrace pairCleared onCodes product pairNext code cleared meetsIn distance later choice leastFrom leastTrace strays hasStray firstStray covers hasRefusal violates violating
 texts-hold = refl
 
 -- the numbers of one to four digits
@@ -99,3 +82,8 @@ pub numbers-hold : map decimal (0 ∷ 9 ∷ 10 ∷ 99 ∷ 100 ∷ 1023 ∷ 1024 
     ≡ (ascii "0" ∷ ascii "9" ∷ ascii "10" ∷ ascii "99" ∷ ascii "100" ∷ ascii "1023" ∷ ascii "1024" ∷ ascii "4095" ∷ [])
 unfolding decimal decimalIn
 numbers-hold = refl
+
+-- the lines of an outcome that names a refused probe
+pub refusal-holds : outcomeLines (Refusal 5 5 2 1) (0 ∷ 1 ∷ 0 ∷ 11 ∷ 0 ∷ 7 ∷ []) ≡ ascii "violates after 5 cleared 5\ntrace 0 1 0 11 0\nrefused 2 by 1\n"
+unfolding outcomeLines numberLine violatesLine eventList traceLine refusedLine decimal decimalIn
+refusal-holds = refl

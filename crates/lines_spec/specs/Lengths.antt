@@ -1,8 +1,7 @@
 -- How long the text can be: at most 3,184 bytes, so that it always fits.
-use mathlib.Core.Path.{_≡_, refl, sym, ap, _∙_}
-use mathlib.Core.Logic.{_⊎_, inl, inr}
+use mathlib.Core.Path.{_≡_, refl, sym, _∙_}
 use mathlib.Core.Bool.{Bool, true, false, _&&_, cond}
-use mathlib.Core.List.{List, [], _∷_, _++_}
+use mathlib.Core.List.{List, _++_}
 use Prim.Native.Nat.{ℕ, zero, suc, _+_, _-_, _*_, _^_, _≤_, _<_}
 use native.Mathlib.Nat.{le-trans, mul-le-mul}
 use native.Mathlib.Omega.{arith}
@@ -22,12 +21,11 @@ use Rattle.walks.specs.Product.{product}
 use Rattle.walks.specs.Pairs.{pairDistance, pairTrace, pairCleared, pairDistance-le, pairTrace-length, pairTrace-leads, onCodes}
 use Rattle.sheet_spec.specs.declared.Row.{Row}
 use Rattle.sheet_spec.specs.declared.Sheet.{Sheet}
-use Rattle.sheet_spec.specs.declared.ReadSheet.{ReadSheet}
 use Rattle.sheet_spec.specs.Kept.{graph, acceptance, acceptances, initials}
 use Rattle.sheet_spec.specs.Rules.{sheetFault, rangesOk, countOk, successorsOk, setsOk, reachedOk}
 use Rattle.sheet_spec.specs.Reading.{eventsOf, nodesOf, nodesAt, version, lengthField, headFault, countAt, nextAt, layoutFault, graphFault, bytesFault, sheetOf, answer, readSheet}
 use Rattle.sheet_spec.specs.Accepted.{read-accepted}
-use Rattle.sheet_spec.specs.Sound.{Sound, check-sound}
+use Rattle.sheet_spec.specs.Sound.{check-sound}
 use Rattle.probes_spec.specs.declared.Missed.{Missed}
 use Rattle.probes_spec.specs.declared.Missed.the-variants.{Nothing, Found}
 use Rattle.probes_spec.specs.Probes.{probes}
@@ -36,8 +34,7 @@ use Rattle.probes_spec.specs.FirstMissed.{firstMissed}
 use Rattle.probes_spec.specs.FirstMissedLaws.{missed-found}
 use Rattle.events.specs.Sets.{has}
 use Rattle.refinement.specs.PairTests.{strays, hasStray, firstStray, violating}
-use Rattle.comparison_spec.specs.declared.Outcome.{Outcome}
-use Rattle.comparison_spec.specs.declared.Outcome.the-variants.{Refines, Stray, Refusal, Denied}
+use Rattle.comparison_spec.specs.declared.Outcome.the-variants.{Refines, Stray, Denied}
 use Rattle.comparison_spec.specs.Comparison.{pairs, nearest, nearestTrace, clearedOf, lastRow, refusalNamed, named, judged, compareFault, outcomeOf, traceAfter}
 use Rattle.lines_spec.specs.Lines.{ascii, decimal, numberLine, sheetLine, violatesLine, eventList, traceLine, refusedLine, outcomeLines}
 use Rattle.lines_spec.specs.LineLaws.{decimal-few}
