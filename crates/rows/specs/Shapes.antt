@@ -1,5 +1,6 @@
 -- The shapes of loops; nothing to believe. Inner functions cite them, laws join them to the rules.
 use mathlib.Core.Bool.{Bool, not, _&&_, _||_, cond}
+use mathlib.Core.List.{List, []}
 use Prim.Native.Nat.{ℕ, zero, suc, _^_}
 use lib.Dec.{eqb, ltb}
 use lib.Bits.{bitOr}
@@ -7,6 +8,10 @@ use Rattle.base.specs.Range.{all}
 use Rattle.events.specs.Sets.{insert}
 use Rattle.sheet_spec.specs.declared.Row.{Row}
 use Rattle.sheet_spec.specs.Kept.{successor, acceptance}
+
+-- a row of which only the sets are told
+unfoldable pub setsAlone : List ℕ → Row
+setsAlone l = record { succ = []; sets = l; c = 0 }
 
 -- a set with event i, if i is below e and has a successor
 unfoldable pub initialAdded : ℕ → Row → ℕ → ℕ → ℕ

@@ -1,9 +1,13 @@
-// The row of one node: its successors, sets and initials, and the rules that one row can break. Every function takes every
-// row, event and place.
+// The row of one node: its successors, sets and initials, and the rules that one row can break. Every public function takes
+// every row, event and place.
 ghost use mathlib.Core.Path.{_≡_};
+ghost use mathlib.Core.Bool.{cond};
+ghost use Prim.Native.Nat.{_<_};
+ghost use lib.Dec.{ltb};
+ghost use lib.ListN.{getD};
 ghost use Rattle.sheet_spec.specs.Kept.{successor, acceptance, initials, mayStop};
 ghost use Rattle.sheet_spec.specs.Rules.{countOk, successorOk, rowSuccessorsOk, ascends, apart, setOk, rowSetsOk, blank, unusedOk};
-ghost use Rattle.rows.specs.Shapes.{initialAdded, blankSuccs, blankSets, nodeAdded, targets};
+ghost use Rattle.rows.specs.Shapes.{setsAlone, initialAdded, blankSuccs, blankSets, nodeAdded, targets};
 use sheet_spec::Row;
 
 // The successor on an event, 255 for none; no event from 12 on has one.
@@ -11,6 +15,13 @@ pub fn successor_of(row: Row, event: usize) -> u8
     ensures { λ r. ⌜ r ≡ successor row event ⌝ }
 {
     if event < 12 { row.succ[event] } else { 255 }
+}
+
+// The same of the successors alone, which are lent: a call for each event copies no row.
+fn succ_at(succ: &[u8; 12], event: usize) -> u8
+    ensures { λ r. ⌜ r ≡ cond (ltb event 12) (getD (now (succ .entry)) event 0) 255 ⌝ }
+{
+    if event < 12 { succ[event] } else { 255 }
 }
 
 // The set at a place, 0 from place 16 on.
@@ -26,17 +37,17 @@ pub fn initials_of(row: Row, e: usize) -> u16
 {
     let mut set: u16 = 0;
     for i in 0..12 {
-        set = with_initial(set, row, e, i);
+        set = with_initial(set, row.succ[i], e, i);
     }
     set
 }
 
-// The set with event i, if i is below `e` and has a successor.
-fn with_initial(set: u16, row: Row, e: usize, i: usize) -> u16
-    ensures { λ r. ⌜ r ≡ initialAdded e row set i ⌝ }
+// The set with event i, if i is below `e` and its successor `x` is one.
+fn with_initial(set: u16, x: u8, e: usize, i: usize) -> u16
+    ensures { λ r. ⌜ ((row : Row) → x ≡ successor row i → r ≡ initialAdded e row set i) ⌝ }
 {
     if i < e {
-        if successor_of(row, i) != 255 {
+        if x != 255 {
             return events::with_event(set, i);
         }
     }
@@ -83,7 +94,7 @@ pub fn row_successors_ok(row: Row, e: usize, n: usize) -> bool
     ensures { λ r. ⌜ r ≡ rowSuccessorsOk e n row ⌝ }
 {
     for i in 0..e {
-        if !successor_ok(n, successor_of(row, i)) {
+        if !successor_ok(n, succ_at(&row.succ, i)) {
             return false;
         }
     }
@@ -91,22 +102,24 @@ pub fn row_successors_ok(row: Row, e: usize, n: usize) -> bool
 }
 
 // 7: whether the set at place j is greater than the one before it.
-fn is_ascending(row: Row, j: usize) -> bool
-    ensures { λ r. ⌜ r ≡ ascends row j ⌝ }
+fn is_ascending(sets: &[u16; 16], j: usize) -> bool
+    requires { ⌜ j < 16 ⌝ }
+    ensures { λ r. ⌜ r ≡ ascends (setsAlone (now (sets .entry))) j ⌝ }
 {
     if j == 0 {
         return true;
     }
-    acceptance_at(row, j - 1) < acceptance_at(row, j)
+    sets[j - 1] < sets[j]
 }
 
 // 7: whether no set before place j is included in the one there.
-fn is_apart(row: Row, j: usize) -> bool
-    ensures { λ r. ⌜ r ≡ apart row j ⌝ }
+fn is_apart(sets: &[u16; 16], j: usize) -> bool
+    requires { ⌜ j < 16 ⌝ }
+    ensures { λ r. ⌜ r ≡ apart (setsAlone (now (sets .entry))) j ⌝ }
 {
-    let y = acceptance_at(row, j);
+    let y = sets[j];
     for k in 0..j {
-        if events::is_inside(acceptance_at(row, k), y) {
+        if events::is_inside(sets[k], y) {
             return false;
         }
     }
@@ -114,26 +127,30 @@ fn is_apart(row: Row, j: usize) -> bool
 }
 
 // 7: whether the set at place j ascends, lies inside the initials, and includes none before it.
-fn set_ok(initial: u16, row: Row, j: usize) -> bool
-    ensures { λ r. ⌜ r ≡ setOk initial row j ⌝ }
+fn set_ok(initial: u16, sets: &[u16; 16], j: usize) -> bool
+    requires { ⌜ j < 16 ⌝ }
+    ensures { λ r. ⌜ r ≡ setOk initial (setsAlone (now (sets .entry))) j ⌝ }
 {
-    if !is_ascending(row, j) {
+    if !is_ascending(sets, j) {
         return false;
     }
-    if !events::is_inside(acceptance_at(row, j), initial) {
+    if !events::is_inside(sets[j], initial) {
         return false;
     }
-    is_apart(row, j)
+    is_apart(sets, j)
 }
 
-// 7: whether all sets of the row are as they should be.
+// 7: whether all sets of the row are as they should be; its sets are lent, so that a call for each copies no row.
 pub fn row_sets_ok(row: Row, e: usize) -> bool
     ensures { λ r. ⌜ r ≡ rowSetsOk e row ⌝ }
 {
     let initial = initials_of(row, e);
     let c = base::wide(row.c);
+    if c > 16 {
+        return false;
+    }
     for j in 0..c {
-        if !set_ok(initial, row, j) {
+        if !set_ok(initial, &row.sets, j) {
             return false;
         }
     }
@@ -205,7 +222,7 @@ pub fn targets_of(row: Row, e: usize) -> u32
 {
     let mut set: u32 = 0;
     for i in 0..e {
-        set = with_node(set, base::wide(successor_of(row, i)));
+        set = with_node(set, base::wide(succ_at(&row.succ, i)));
     }
     set
 }

@@ -495,3 +495,20 @@ accepted-bound (l ∷ ls) r d = go (taken (l .0) r (l .1)) (accepted-bound ls)
     go (strays i _ z n p) ih = rw p (omega (arith, last))
     go (refuses _ z f m p) ih = rw p (omega (arith, last))
     go (passes z p) ih = rw p (omega (arith, last))
+
+-- with as many as that the run has ended: it ends within k + 1 accepted reports
+pub accepted-ends : (ls : List (Sheet × Report)) (r : Run) → r .depth ≤ r .k → accepted r ls ≡ r .k + 1 - r .depth → runAfter r ls .ended ≡ true
+unfolding accepted counts movedBy endedRun runAfter
+accepted-ends [] r d e = absurd (omega arith)
+accepted-ends (l ∷ ls) r d e = go (taken (l .0) r (l .1)) (accepted-ends ls)
+  where
+    last : runAfter (endedRun r) ls .ended ≡ true
+    last = rw (ended-stays ls (endedRun r) refl)
+
+    go : Taken (l .0) r (l .1) → ((r : Run) → r .depth ≤ r .k → accepted r ls ≡ r .k + 1 - r .depth → runAfter r ls .ended ≡ true)
+        → runAfter (stepOf (l .0) r (l .1) .run) ls .ended ≡ true
+    go (denies n p) ih = rw p (ih r d (omega (arith, rw p at e)))
+    go (moves i _ z a h p) ih = rw p (ih (movedBy (l .0) r i) (omega arith) (omega (arith, rw p at e)))
+    go (strays i _ z n p) ih = rw p last
+    go (refuses _ z f m p) ih = rw p last
+    go (passes z p) ih = rw p last

@@ -1,7 +1,9 @@
 -- `rows::is_ascending`: the first set has none before it; of another the two sets are compared.
 use native.Mathlib.Omega.{arith}
 use borrow.Author.Tests.{eq-eqb, ne-eqb}
+use Rattle.sheet_spec.specs.Kept.{acceptance}
 use Rattle.sheet_spec.specs.Rules.{ascends}
+use Rattle.rows.specs.Shapes.{setsAlone}
 use Rattle.rows.proofs.is_ascending.Statement.{statement}
 use Rattle.rows.proofs.is_ascending.Tie as tie
 
@@ -9,20 +11,33 @@ returns : tie.Need-returns
 unfolding ascends
 returns c = rw (eq-eqb _ _ (c .if1 .taken))
 
-sub-acceptance-at : tie.Need-sub-acceptance-at
-sub-acceptance-at c = omega arith
+sub-result : tie.Need-sub-result
+sub-result c = omega arith
 
-acceptance-at-requires : tie.Need-acceptance-at-requires
-acceptance-at-requires c κs = tt
+mul-result : tie.Need-mul-result
+mul-result c = omega arith
 
-acceptance-at-requires-2 : tie.Need-acceptance-at-requires-2
-acceptance-at-requires-2 c κs = tt
+element-copy-out-result : tie.Need-element-copy-out-result
+element-copy-out-result c = omega arith
+
+mul-result-2 : tie.Need-mul-result-2
+mul-result-2 c = omega arith
+
+element-copy-out-result-2 : tie.Need-element-copy-out-result-2
+element-copy-out-result-2 c = omega arith
 
 returns-2 : tie.Need-returns-2
-unfolding ascends
-returns-2 c = rw (ne-eqb _ _ (c .before .before .if1 .left), c .before .acceptance-at .ensures, c .acceptance-at2 .ensures)
+unfolding ascends acceptance setsAlone
+returns-2 c = rw (ne-eqb _ _ (c .before .before .if1 .left))
 
 pub is-ascending-spec : {M : Type 1} → statement M
 is-ascending-spec =
     tie.close
-    (tie.spec returns sub-acceptance-at acceptance-at-requires acceptance-at-requires-2 returns-2)
+    (tie.spec
+    returns
+    sub-result
+    mul-result
+    element-copy-out-result
+    mul-result-2
+    element-copy-out-result-2
+    returns-2)

@@ -8,6 +8,7 @@ use Rattle.base.specs.Range.{all, all-more, all-stop, all-done}
 use Rattle.sheet_spec.specs.Kept.{successor}
 use Rattle.sheet_spec.specs.Rules.{successorOk, rowSuccessorsOk}
 use Rattle.sheet_spec.specs.declared.Row.{Row}
+use Rattle.rows.proofs.Shape.{succ-is}
 use Rattle.rows.proofs.row_successors_ok.Statement.{statement}
 use Rattle.rows.proofs.row_successors_ok.Tie as tie
 
@@ -16,17 +17,17 @@ abbrev fine : Row → ℕ → ℕ → Bool
 fine row n i = successorOk n (successor row i)
 
 abbrev Inv-loop : tie.InvT-loop
-Inv-loop row e n i₀ i = (i ≤ e) × (all (fine row n) i ≡ true)
+Inv-loop e n row i₀ i = (i ≤ e) × (all (fine row n) i ≡ true)
 
 abbrev μ-loop : tie.MeasureT-loop
-μ-loop row e n i₀ i = e - i
+μ-loop e n row i₀ i = e - i
 
 loop-holds : tie.Need-loop-holds Inv-loop μ-loop
 unfolding all
 loop-holds c = (omega arith, refl)
 
-successor-of-requires : tie.Need-successor-of-requires Inv-loop μ-loop
-successor-of-requires c κs = tt
+succ-at-requires : tie.Need-succ-at-requires Inv-loop μ-loop
+succ-at-requires c κs = tt
 
 successor-ok-requires : tie.Need-successor-ok-requires Inv-loop μ-loop
 successor-ok-requires c κs = tt
@@ -34,10 +35,11 @@ successor-ok-requires c κs = tt
 returns : tie.Need-returns Inv-loop μ-loop
 unfolding rowSuccessorsOk
 returns c =
-    let l = c .before .before .before .before .loop in
-    let a = c .before .before .before .before .before .args in
-    let x = c .before .before .successor-of in
-    sym (all-stop (fine (a .row) (a .n)) (a .e) (l .i) (omega arith) (ap (successorOk (a .n)) (sym (x .ensures)) ∙ sym (c .before .successor-ok .ensures) ∙ not-true _ (c .if1 .taken)))
+    let l = c .before .before .before .before .before .before .loop in
+    let s = c .before .before .before .before .before .before .before in
+    let a = s .args in
+    let x = c .before .before .succ-at .ensures ∙ succ-is (a .t1) _ (s .good .0) (l .i) in
+    sym (all-stop (fine (a .t1) (a .n)) (a .e) (l .i) (omega arith) (ap (successorOk (a .n)) (sym x) ∙ sym (c .before .successor-ok .ensures) ∙ not-true _ (c .if1 .taken)))
 
 add-i : tie.Need-add-i Inv-loop μ-loop
 add-i c = omega arith
@@ -47,17 +49,18 @@ loop-less c = omega arith
 
 loop-again : tie.Need-loop-again Inv-loop μ-loop
 loop-again c =
-    let l = c .before .before .before .before .loop in
-    let a = c .before .before .before .before .before .args in
-    let x = c .before .before .successor-of in
-    (omega arith, all-more (fine (a .row) (a .n)) (l .i) (l .inv .1) (ap (successorOk (a .n)) (sym (x .ensures)) ∙ sym (c .before .successor-ok .ensures) ∙ not-false _ (c .if1 .left)))
+    let l = c .before .before .before .before .before .before .loop in
+    let s = c .before .before .before .before .before .before .before in
+    let a = s .args in
+    let x = c .before .before .succ-at .ensures ∙ succ-is (a .t1) _ (s .good .0) (l .i) in
+    (omega arith, all-more (fine (a .t1) (a .n)) (l .i) (l .inv .1) (ap (successorOk (a .n)) (sym x) ∙ sym (c .before .successor-ok .ensures) ∙ not-false _ (c .if1 .left)))
 
 returns-2 : tie.Need-returns-2 Inv-loop μ-loop
 unfolding rowSuccessorsOk
 returns-2 c =
     let l = c .before .loop in
     let a = c .before .before .args in
-    sym (all-done (fine (a .row) (a .n)) (a .e) (l .i) (omega arith) (omega arith) (l .inv .1))
+    sym (all-done (fine (a .t1) (a .n)) (a .e) (l .i) (omega arith) (omega arith) (l .inv .1))
 
 pub row-successors-ok-spec : {M : Type 1} → statement M
 row-successors-ok-spec =
@@ -66,7 +69,7 @@ row-successors-ok-spec =
     Inv-loop
     μ-loop
     loop-holds
-    successor-of-requires
+    succ-at-requires
     successor-ok-requires
     returns
     add-i

@@ -3,22 +3,23 @@ use mathlib.Core.Path.{_≡_, refl, ap, _∙_}
 use Prim.Native.Nat.{ℕ, _-_, _≤_}
 use native.Mathlib.Omega.{arith}
 use Rattle.rows.specs.Shapes.{nodeAdded, targets}
+use Rattle.rows.proofs.Shape.{succ-is}
 use Rattle.rows.proofs.Steps.{target-more}
 use Rattle.rows.proofs.targets_of.Statement.{statement}
 use Rattle.rows.proofs.targets_of.Tie as tie
 
 abbrev Inv-loop : tie.InvT-loop
-Inv-loop row e set₀ i₀ set i = (i ≤ e) × (set ≡ targets i row)
+Inv-loop e row set₀ i₀ set i = (i ≤ e) × (set ≡ targets i row)
 
 abbrev μ-loop : tie.MeasureT-loop
-μ-loop row e set₀ i₀ set i = e - i
+μ-loop e row set₀ i₀ set i = e - i
 
 loop-holds : tie.Need-loop-holds Inv-loop μ-loop
 unfolding targets
 loop-holds c = (omega arith, refl)
 
-successor-of-requires : tie.Need-successor-of-requires Inv-loop μ-loop
-successor-of-requires c κs = tt
+succ-at-requires : tie.Need-succ-at-requires Inv-loop μ-loop
+succ-at-requires c κs = tt
 
 wide-requires : tie.Need-wide-requires Inv-loop μ-loop
 wide-requires c κs = tt
@@ -34,17 +35,18 @@ loop-less c = omega arith
 
 loop-again : tie.Need-loop-again Inv-loop μ-loop
 loop-again c =
-    let l = c .before .before .before .before .loop in
-    let a = c .before .before .before .before .before .args in
-    let v = c .before .wide .ensures ∙ c .before .before .successor-of .ensures in
-    (omega arith, c .with-node .ensures ∙ ap (nodeAdded (l .set)) v ∙ target-more (a .row) (l .set) (l .i) (l .inv .1))
+    let l = c .before .before .before .before .before .before .loop in
+    let s = c .before .before .before .before .before .before .before in
+    let a = s .args in
+    let v = c .before .wide .ensures ∙ c .before .before .succ-at .ensures ∙ succ-is (a .t1) _ (s .good .0) (l .i) in
+    (omega arith, c .with-node .ensures ∙ ap (nodeAdded (l .set)) v ∙ target-more (a .t1) (l .set) (l .i) (l .inv .1))
 
 returns : tie.Need-returns Inv-loop μ-loop
 returns c =
     let l = c .before .loop in
     let a = c .before .before .args in
     let q : l .i ≡ a .e = omega arith in
-    l .inv .1 ∙ ap (λ (i : ℕ). targets i (a .row)) q
+    l .inv .1 ∙ ap (λ (i : ℕ). targets i (a .t1)) q
 
 pub targets-of-spec : {M : Type 1} → statement M
 targets-of-spec =
@@ -53,7 +55,7 @@ targets-of-spec =
     Inv-loop
     μ-loop
     loop-holds
-    successor-of-requires
+    succ-at-requires
     wide-requires
     with-node-requires
     add-i
