@@ -1,4 +1,4 @@
--- One turn of the loop that fills the table of violating pairs, and its end.
+-- The test of a pair by its tables; one turn of the loop that fills the table of violating pairs, and its end.
 use mathlib.Core.Path.{_≡_, _∙_}
 use mathlib.Core.Bool.{Bool, false}
 use mathlib.Core.List.{List}
@@ -7,14 +7,20 @@ use native.Mathlib.Omega.{arith}
 use native.Mathlib.Nat.{mod-lt, div-lt-iff-lt-mul, mul-le-mul-right}
 use lib.ListN.{getD}
 use Rattle.base.specs.Table.{upTo, getD-upTo}
+use Rattle.sheet_spec.specs.declared.Row.{Row}
 use Rattle.sheet_spec.specs.declared.Sheet.{Sheet}
-use Rattle.sheet_spec.specs.Kept.{row}
+use Rattle.sheet_spec.specs.Kept.{row, acceptance}
 use Rattle.sheet_spec.specs.Rules.{sheetFault}
 use Rattle.sheet_spec.specs.RuleLaws.{Ranges}
 use Rattle.sheet_spec.specs.Sound.{check-sound}
 use Rattle.sheet.proofs.Loops.{Filling}
-use Rattle.refinement.specs.PairTests.{hasStray, violates, violating}
-use Rattle.comparison.specs.Shapes.{initialsAt, violatesBy, badAt, badTable}
+use Rattle.refinement.specs.PairTests.{hasStray, covers, hasRefusal, violates, violating}
+use Rattle.comparison.specs.Shapes.{initialsAt, covering, refusing, violatesBy, badAt, badTable}
+
+-- the refusal test over the sets of two rows
+pub refusing-is : (r q : Row) (c d : ℕ) → c ≡ r .c → d ≡ q .c → refusing (r .sets) c (q .sets) d ≡ hasRefusal r q
+unfolding refusing covering hasRefusal covers acceptance
+refusing-is r q c d ec ed = rw (ec, ed)
 
 module _ (P Q : Sheet) (accepted : (sheetFault P ≡ 0) × (sheetFault Q ≡ 0)) {e p q : ℕ} (ee : e ≡ P .e) (ep : p ≡ P .n) (eq : q ≡ Q .n) where
   range-P : Ranges (P .e) (P .n)
@@ -36,6 +42,13 @@ module _ (P Q : Sheet) (accepted : (sheetFault P ≡ 0) × (sheetFault Q ≡ 0))
 
   pub second-node : (k : ℕ) → k % q < 32
   second-node k = omega (arith, mod-lt k q-some, range-Q .n-high)
+
+  -- the counts of their sets
+  pub both-counts : (k : ℕ) → k < p * q → (row P (k / q) .c ≤ 16) × (row Q (k % q) .c ≤ 16)
+  both-counts k l =
+      let v : k / q < P .n = rw ep at (div-lt-iff-lt-mul q-some .1 l) in
+      let w : k % q < Q .n = omega (arith, mod-lt k q-some) in
+      (check-sound P (accepted .0) .counts (k / q) v .1, check-sound Q (accepted .1) .counts (k % q) w .1)
 
   -- the test of a pair with the initials from the tables
   pub bad-is : (traceOnly : Bool) (xs ys : List ℕ) (k : ℕ) → k < p * q → xs ≡ upTo (initialsAt e P) 32 → ys ≡ upTo (initialsAt e Q) 32

@@ -3,9 +3,11 @@ use mathlib.Core.Bool.{Bool, false, not, _&&_, _||_}
 use mathlib.Core.List.{List, _++_}
 use Prim.Native.Nat.{ℕ, _-_, _*_, _/_, _%_, _≤_, _<_}
 use lib.Dec.{eqb, leb}
-use lib.ListN.{replicate}
+use lib.ListN.{getD, replicate}
+use Rattle.base.specs.Range.{any}
 use Rattle.base.specs.Refusal.{unless, orElse}
 use Rattle.base.specs.Table.{upTo}
+use Rattle.events.specs.Sets.{inside}
 use Rattle.sheet_spec.specs.declared.Row.{Row}
 use Rattle.sheet_spec.specs.declared.Sheet.{Sheet}
 use Rattle.sheet_spec.specs.Kept.{row, successor, initials}
@@ -33,6 +35,14 @@ flatAt s k = successor (row s (k / 12)) (k % 12)
 -- the initials of node v
 unfoldable pub initialsAt : ℕ → Sheet → ℕ → ℕ
 initialsAt e s v = initials e (row s v)
+
+-- the set A includes one of the first c sets
+unfoldable pub covering : List ℕ → ℕ → ℕ → Bool
+covering sets c A = any (λ l. inside (getD sets l 0) A) c
+
+-- one of the first d of the others includes none of the first c sets
+unfoldable pub refusing : List ℕ → ℕ → List ℕ → ℕ → Bool
+refusing sets c others d = any (λ j. not (covering sets c (getD others j 0))) d
 
 -- the pair of two rows with the initials X and Y is violating
 unfoldable pub violatesBy : Bool → ℕ → ℕ → Row → Row → Bool

@@ -8,7 +8,7 @@ ghost use Rattle.base.specs.Table.{upTo};
 ghost use Rattle.events.specs.Sets.{has};
 ghost use Rattle.sheet_spec.specs.Rules.{sheetFault};
 ghost use Rattle.comparison_spec.specs.Comparison.{compareFault, named};
-ghost use Rattle.comparison.specs.Shapes.{faultOn, flatAt, initialsAt, violatesBy, badTable, told, Fits};
+ghost use Rattle.comparison.specs.Shapes.{faultOn, flatAt, initialsAt, covering, refusing, violatesBy, badTable, told, Fits};
 ghost use Rattle.comparison_spec.specs.Contract.{Compares};
 use comparison_spec::Outcome;
 use probes_spec::Missed;
@@ -72,8 +72,36 @@ fn initials(sheet: Sheet, e: usize) -> [u16; 32]
     table
 }
 
+// Whether a set includes one of the first `c` sets. (As `refinement::is_covering`, over lent sets: a row copied for each acceptance
+// would double the time of a comparison.)
+fn is_covering(sets: &[u16; 16], c: usize, set: u16) -> bool
+    requires { ⌜ c ≤ 16 ⌝ }
+    ensures { λ r. ⌜ r ≡ covering (now (sets .entry)) c set ⌝ }
+{
+    for l in 0..c {
+        if events::is_inside(sets[l], set) {
+            return true;
+        }
+    }
+    false
+}
+
+// Whether one of the first `d` of the others includes none of the first `c` sets.
+fn is_refusing(sets: &[u16; 16], c: usize, others: &[u16; 16], d: usize) -> bool
+    requires { ⌜ (c ≤ 16) × (d ≤ 16) ⌝ }
+    ensures { λ r. ⌜ r ≡ refusing (now (sets .entry)) c (now (others .entry)) d ⌝ }
+{
+    for j in 0..d {
+        if !is_covering(sets, c, others[j]) {
+            return true;
+        }
+    }
+    false
+}
+
 // Whether a pair of rows with these initials is violating; with traces alone only strays count.
 fn is_bad(x: u16, y: u16, reference: Row, device: Row, trace_only: bool) -> bool
+    requires { ⌜ (reference .c ≤ 16) × (device .c ≤ 16) ⌝ }
     ensures { λ r. ⌜ r ≡ violatesBy «trace_only» x y reference device ⌝ }
 {
     if refinement::stray_events(x, y) != 0 {
@@ -82,7 +110,11 @@ fn is_bad(x: u16, y: u16, reference: Row, device: Row, trace_only: bool) -> bool
     if trace_only {
         return false;
     }
-    refinement::has_refusal(reference, device)
+    let c = base::wide(reference.c);
+    let d = base::wide(device.c);
+    let sets = reference.sets;
+    let others = device.sets;
+    is_refusing(&sets, c, &others, d)
 }
 
 // The violating pairs: with q nodes in the device, the pair (v, w) stands at place q v + w.

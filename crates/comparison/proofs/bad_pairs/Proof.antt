@@ -5,7 +5,7 @@ use Prim.Native.Nat.{_-_, _≤_}
 use native.Mathlib.Omega.{arith}
 use Rattle.sheet.proofs.Loops.{Filling, empty, stored}
 use Rattle.comparison.specs.Shapes.{badAt}
-use Rattle.comparison.proofs.Pairs.{q-some, pairs-most, first-node, second-node, bad-is, bad-all}
+use Rattle.comparison.proofs.Pairs.{q-some, pairs-most, first-node, second-node, both-counts, bad-is, bad-all}
 use Rattle.comparison.proofs.bad_pairs.Statement.{statement}
 use Rattle.comparison.proofs.bad_pairs.Tie as tie
 
@@ -25,7 +25,10 @@ wide-requires-3 : tie.Need-wide-requires-3 Inv-loop μ-loop
 wide-requires-3 c κs = tt
 
 mul-n : tie.Need-mul-n Inv-loop μ-loop
-mul-n c = omega (arith, pairs-most (c .before .before .before .args .t1) (c .before .before .before .args .t2) (c .before .before .before .pre) (c .before .before .wide .ensures) (c .wide3 .ensures) (c .before .wide2 .ensures))
+mul-n c =
+    let w = c in
+    let s = w .before .before .before in
+    omega (arith, pairs-most (s .args .t1) (s .args .t2) (s .pre) (w .before .before .wide .ensures) (w .wide3 .ensures) (w .before .wide2 .ensures))
 
 initials-requires : tie.Need-initials-requires Inv-loop μ-loop
 initials-requires c κs = tt
@@ -37,56 +40,101 @@ loop-holds : tie.Need-loop-holds Inv-loop μ-loop
 loop-holds c = (omega arith, empty)
 
 div-v : tie.Need-div-v Inv-loop μ-loop
-div-v c = omega (arith, q-some (c .before .before .before .before .before .before .before .args .t1) (c .before .before .before .before .before .before .before .args .t2) (c .before .before .before .before .before .before .before .pre) (c .before .before .before .before .before .before .wide .ensures) (c .before .before .before .before .wide3 .ensures) (c .before .before .before .before .before .wide2 .ensures))
+div-v c =
+    let w = c .before .before .before .before in
+    let s = w .before .before .before in
+    omega (arith, q-some (s .args .t1) (s .args .t2) (s .pre) (w .before .before .wide .ensures) (w .wide3 .ensures) (w .before .wide2 .ensures))
 
 rem-w : tie.Need-rem-w Inv-loop μ-loop
-rem-w c = omega (arith, q-some (c .before .before .before .before .before .before .before .args .t1) (c .before .before .before .before .before .before .before .args .t2) (c .before .before .before .before .before .before .before .pre) (c .before .before .before .before .before .before .wide .ensures) (c .before .before .before .before .wide3 .ensures) (c .before .before .before .before .before .wide2 .ensures))
+rem-w c =
+    let w = c .before .before .before .before in
+    let s = w .before .before .before in
+    omega (arith, q-some (s .args .t1) (s .args .t2) (s .pre) (w .before .before .wide .ensures) (w .wide3 .ensures) (w .before .wide2 .ensures))
 
 mul-a : tie.Need-mul-a Inv-loop μ-loop
-mul-a c = omega (arith, first-node (c .before .before .before .before .before .before .before .args .t1) (c .before .before .before .before .before .before .before .args .t2) (c .before .before .before .before .before .before .before .pre) (c .before .before .before .before .before .before .wide .ensures) (c .before .before .before .before .wide3 .ensures) (c .before .before .before .before .before .wide2 .ensures) (c .before .loop .k) (c .loop-test .taken))
+mul-a c =
+    let w = c .before .before .before .before in
+    let s = w .before .before .before in
+    omega (arith, first-node (s .args .t1) (s .args .t2) (s .pre) (w .before .before .wide .ensures) (w .wide3 .ensures) (w .before .wide2 .ensures) (c .before .loop .k) (c .loop-test .taken))
 
 element-copy-out-a : tie.Need-element-copy-out-a Inv-loop μ-loop
-element-copy-out-a c = omega (arith, first-node (c .before .before .before .before .before .before .before .args .t1) (c .before .before .before .before .before .before .before .args .t2) (c .before .before .before .before .before .before .before .pre) (c .before .before .before .before .before .before .wide .ensures) (c .before .before .before .before .wide3 .ensures) (c .before .before .before .before .before .wide2 .ensures) (c .before .loop .k) (c .loop-test .taken))
+element-copy-out-a c =
+    let w = c .before .before .before .before in
+    let s = w .before .before .before in
+    omega (arith, first-node (s .args .t1) (s .args .t2) (s .pre) (w .before .before .wide .ensures) (w .wide3 .ensures) (w .before .wide2 .ensures) (c .before .loop .k) (c .loop-test .taken))
 
 mul-b : tie.Need-mul-b Inv-loop μ-loop
-mul-b c = omega (arith, second-node (c .before .before .before .before .before .before .before .before .args .t1) (c .before .before .before .before .before .before .before .before .args .t2) (c .before .before .before .before .before .before .before .before .pre) (c .before .before .before .before .before .before .before .wide .ensures) (c .before .before .before .before .before .wide3 .ensures) (c .before .before .before .before .before .before .wide2 .ensures) (c .before .before .loop .k))
+mul-b c =
+    let w = c .before .before .before .before .before in
+    let s = w .before .before .before in
+    omega (arith, second-node (s .args .t1) (s .args .t2) (s .pre) (w .before .before .wide .ensures) (w .wide3 .ensures) (w .before .wide2 .ensures) (c .before .before .loop .k))
 
 element-copy-out-b : tie.Need-element-copy-out-b Inv-loop μ-loop
-element-copy-out-b c = omega (arith, second-node (c .before .before .before .before .before .before .before .before .args .t1) (c .before .before .before .before .before .before .before .before .args .t2) (c .before .before .before .before .before .before .before .before .pre) (c .before .before .before .before .before .before .before .wide .ensures) (c .before .before .before .before .before .wide3 .ensures) (c .before .before .before .before .before .before .wide2 .ensures) (c .before .before .loop .k))
+element-copy-out-b c =
+    let w = c .before .before .before .before .before in
+    let s = w .before .before .before in
+    omega (arith, second-node (s .args .t1) (s .args .t2) (s .pre) (w .before .before .wide .ensures) (w .wide3 .ensures) (w .before .wide2 .ensures) (c .before .before .loop .k))
 
 mul-is-bad : tie.Need-mul-is-bad Inv-loop μ-loop
-mul-is-bad c = omega (arith, first-node (c .before .before .before .before .before .before .before .before .before .args .t1) (c .before .before .before .before .before .before .before .before .before .args .t2) (c .before .before .before .before .before .before .before .before .before .pre) (c .before .before .before .before .before .before .before .before .wide .ensures) (c .before .before .before .before .before .before .wide3 .ensures) (c .before .before .before .before .before .before .before .wide2 .ensures) (c .before .before .before .loop .k) (c .before .before .loop-test .taken))
+mul-is-bad c =
+    let w = c .before .before .before .before .before .before in
+    let s = w .before .before .before in
+    omega (arith, first-node (s .args .t1) (s .args .t2) (s .pre) (w .before .before .wide .ensures) (w .wide3 .ensures) (w .before .wide2 .ensures) (c .before .before .before .loop .k) (c .before .before .loop-test .taken))
 
 array-read-is-bad : tie.Need-array-read-is-bad Inv-loop μ-loop
-array-read-is-bad c = omega (arith, first-node (c .before .before .before .before .before .before .before .before .before .args .t1) (c .before .before .before .before .before .before .before .before .before .args .t2) (c .before .before .before .before .before .before .before .before .before .pre) (c .before .before .before .before .before .before .before .before .wide .ensures) (c .before .before .before .before .before .before .wide3 .ensures) (c .before .before .before .before .before .before .before .wide2 .ensures) (c .before .before .before .loop .k) (c .before .before .loop-test .taken))
+array-read-is-bad c =
+    let w = c .before .before .before .before .before .before in
+    let s = w .before .before .before in
+    omega (arith, first-node (s .args .t1) (s .args .t2) (s .pre) (w .before .before .wide .ensures) (w .wide3 .ensures) (w .before .wide2 .ensures) (c .before .before .before .loop .k) (c .before .before .loop-test .taken))
 
 mul-is-bad-2 : tie.Need-mul-is-bad-2 Inv-loop μ-loop
-mul-is-bad-2 c = omega (arith, second-node (c .before .before .before .before .before .before .before .before .before .args .t1) (c .before .before .before .before .before .before .before .before .before .args .t2) (c .before .before .before .before .before .before .before .before .before .pre) (c .before .before .before .before .before .before .before .before .wide .ensures) (c .before .before .before .before .before .before .wide3 .ensures) (c .before .before .before .before .before .before .before .wide2 .ensures) (c .before .before .before .loop .k))
+mul-is-bad-2 c =
+    let w = c .before .before .before .before .before .before in
+    let s = w .before .before .before in
+    omega (arith, second-node (s .args .t1) (s .args .t2) (s .pre) (w .before .before .wide .ensures) (w .wide3 .ensures) (w .before .wide2 .ensures) (c .before .before .before .loop .k))
 
 array-read-is-bad-2 : tie.Need-array-read-is-bad-2 Inv-loop μ-loop
-array-read-is-bad-2 c = omega (arith, second-node (c .before .before .before .before .before .before .before .before .before .args .t1) (c .before .before .before .before .before .before .before .before .before .args .t2) (c .before .before .before .before .before .before .before .before .before .pre) (c .before .before .before .before .before .before .before .before .wide .ensures) (c .before .before .before .before .before .before .wide3 .ensures) (c .before .before .before .before .before .before .before .wide2 .ensures) (c .before .before .before .loop .k))
+array-read-is-bad-2 c =
+    let w = c .before .before .before .before .before .before in
+    let s = w .before .before .before in
+    omega (arith, second-node (s .args .t1) (s .args .t2) (s .pre) (w .before .before .wide .ensures) (w .wide3 .ensures) (w .before .wide2 .ensures) (c .before .before .before .loop .k))
 
 is-bad-requires : tie.Need-is-bad-requires Inv-loop μ-loop
-is-bad-requires c κs = tt
+is-bad-requires c κs =
+    let w = c .before .before .before .before .before .before in
+    let s = w .before .before .before in
+    both-counts (s .args .t1) (s .args .t2) (s .pre) (w .before .before .wide .ensures) (w .wide3 .ensures) (w .before .wide2 .ensures) (c .before .before .before .loop .k)
+    (c .before .before .loop-test .taken)
 
 array-write-table : tie.Need-array-write-table Inv-loop μ-loop
-array-write-table c = omega (arith, pairs-most (c .before .before .before .before .before .before .before .before .before .before .args .t1) (c .before .before .before .before .before .before .before .before .before .before .args .t2) (c .before .before .before .before .before .before .before .before .before .before .pre) (c .before .before .before .before .before .before .before .before .before .wide .ensures) (c .before .before .before .before .before .before .before .wide3 .ensures) (c .before .before .before .before .before .before .before .before .wide2 .ensures))
+array-write-table c =
+    let w = c .before .before .before .before .before .before .before in
+    let s = w .before .before .before in
+    omega (arith, pairs-most (s .args .t1) (s .args .t2) (s .pre) (w .before .before .wide .ensures) (w .wide3 .ensures) (w .before .wide2 .ensures))
 
 add-k : tie.Need-add-k Inv-loop μ-loop
-add-k c = omega (arith, pairs-most (c .before .before .before .before .before .before .before .before .before .before .args .t1) (c .before .before .before .before .before .before .before .before .before .before .args .t2) (c .before .before .before .before .before .before .before .before .before .before .pre) (c .before .before .before .before .before .before .before .before .before .wide .ensures) (c .before .before .before .before .before .before .before .wide3 .ensures) (c .before .before .before .before .before .before .before .before .wide2 .ensures))
+add-k c =
+    let w = c .before .before .before .before .before .before .before in
+    let s = w .before .before .before in
+    omega (arith, pairs-most (s .args .t1) (s .args .t2) (s .pre) (w .before .before .wide .ensures) (w .wide3 .ensures) (w .before .wide2 .ensures))
 
 loop-less : tie.Need-loop-less Inv-loop μ-loop
 loop-less c = omega arith
 
 loop-again : tie.Need-loop-again Inv-loop μ-loop
-loop-again c = (
-  omega arith,
-  stored (c .before .before .before .before .loop .inv .1) (omega (arith, pairs-most (c .before .before .before .before .before .before .before .before .before .before .args .t1) (c .before .before .before .before .before .before .before .before .before .before .args .t2) (c .before .before .before .before .before .before .before .before .before .before .pre) (c .before .before .before .before .before .before .before .before .before .wide .ensures) (c .before .before .before .before .before .before .before .wide3 .ensures) (c .before .before .before .before .before .before .before .before .wide2 .ensures))) (c .is-bad .ensures
-      ∙ bad-is (c .before .before .before .before .before .before .before .before .before .before .args .t1) (c .before .before .before .before .before .before .before .before .before .before .args .t2) (c .before .before .before .before .before .before .before .before .before .before .pre) (c .before .before .before .before .before .before .before .before .before .wide .ensures) (c .before .before .before .before .before .before .before .wide3 .ensures) (c .before .before .before .before .before .before .before .before .wide2 .ensures) _ _ _ (c .before .before .before .before .loop .k) (c .before .before .before .loop-test .taken) (c .before .before .before .before .before .before .initials .ensures) (c .before .before .before .before .before .initials2 .ensures)),
-)
+loop-again c =
+    let l = c .before .before .before .before .loop in
+    let w = c .before .before .before .before .before .before .before in
+    let s = w .before .before .before in
+    let h = bad-is (s .args .t1) (s .args .t2) (s .pre) (w .before .before .wide .ensures) (w .wide3 .ensures) (w .before .wide2 .ensures) _ _ _ (l .k) (c .before .before .before .loop-test .taken) (c .before .before .before .before .before .before .initials .ensures) (c .before .before .before .before .before .initials2 .ensures) in
+    (omega arith, stored (l .inv .1) (omega (arith, pairs-most (s .args .t1) (s .args .t2) (s .pre) (w .before .before .wide .ensures) (w .wide3 .ensures) (w .before .wide2 .ensures))) (c .is-bad .ensures ∙ h))
 
 returns : tie.Need-returns Inv-loop μ-loop
-returns c = bad-all (c .before .before .before .before .before .before .before .args .t1) (c .before .before .before .before .before .before .before .args .t2) (c .before .before .before .before .before .before .before .pre) (c .before .before .before .before .before .before .wide .ensures) (c .before .before .before .before .wide3 .ensures) (c .before .before .before .before .before .wide2 .ensures) _ _ (c .before .loop .k) (c .before .loop .inv .0) (c .loop-test .left) (c .before .loop .inv .1)
+returns c =
+    let l = c .before .loop in
+    let w = c .before .before .before .before in
+    let s = w .before .before .before in
+    bad-all (s .args .t1) (s .args .t2) (s .pre) (w .before .before .wide .ensures) (w .wide3 .ensures) (w .before .wide2 .ensures) _ _ (l .k) (l .inv .0) (c .loop-test .left) (l .inv .1)
 
 pub bad-pairs-spec : {M : Type 1} → statement M
 bad-pairs-spec =

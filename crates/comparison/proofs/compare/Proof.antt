@@ -9,10 +9,14 @@ fault-on-requires : tie.Need-fault-on-requires
 fault-on-requires c κs = tt
 
 returns : tie.Need-returns
-returns c = compares-denied (c .before .before .before .before .args .reference) (c .before .before .before .before .args .device) (now (c .before .before .before .before .args .work)) (now (c .before .before .before .before .args .trace)) (c .before .before .before .before .args .trace-only) _ (c .before .fault-on .ensures) (c .if1 .taken)
+returns c =
+    let a = c .before .before .before .before .args in
+    compares-denied (a .reference) (a .device) (now (a .work)) (now (a .trace)) (a .trace-only) _ (c .before .fault-on .ensures) (c .if1 .taken)
 
 judge-requires : tie.Need-judge-requires
-judge-requires c κs = passed (c .before .before .before .before .before .before .args .reference) (c .before .before .before .before .before .before .args .device) (now (c .before .before .before .before .before .before .args .work)) (now (c .before .before .before .before .before .before .args .trace)) _ (c .before .before .before .fault-on .ensures) (c .before .before .if1 .left)
+judge-requires c κs =
+    let a = c .before .before .before .before .before .before .args in
+    passed (a .reference) (a .device) (now (a .work)) (now (a .trace)) _ (c .before .before .before .fault-on .ensures) (c .before .before .if1 .left)
 
 same-length : tie.Need-same-length
 same-length c = omega arith

@@ -27,16 +27,28 @@ wide-requires-2 : tie.Need-wide-requires-2
 wide-requires-2 c κs = tt
 
 mul-n : tie.Need-mul-n
-mul-n c = omega (arith, size-of (c .before .before .before .before .before .before .before .before .before .args .reference) (c .before .before .before .before .before .before .before .before .before .args .device) _ _ (sym (c .before .before .before .before .before .before .before .before .check .ensures) ∙ c .before .before .before .before .before .before .before .if1 .left) (sym (c .before .before .before .before .before .before .check2 .ensures) ∙ c .before .before .before .before .before .if2 .left) (c .before .wide .ensures) (c .wide2 .ensures))
+mul-n c =
+    let s = c .before .before .before .before .before .before .before .before .before in
+    let p = sym (c .before .before .before .before .before .before .before .before .check .ensures) ∙ c .before .before .before .before .before .before .before .if1 .left in
+    let q = sym (c .before .before .before .before .before .before .check2 .ensures) ∙ c .before .before .before .before .before .if2 .left in
+    omega (arith, size-of (s .args .reference) (s .args .device) _ _ p q (c .before .wide .ensures) (c .wide2 .ensures))
 
 mul-if4 : tie.Need-mul-if4
-mul-if4 c = omega (arith, size-of (c .before .before .before .before .before .before .before .before .before .args .reference) (c .before .before .before .before .before .before .before .before .before .args .device) _ _ (sym (c .before .before .before .before .before .before .before .before .check .ensures) ∙ c .before .before .before .before .before .before .before .if1 .left) (sym (c .before .before .before .before .before .before .check2 .ensures) ∙ c .before .before .before .before .before .if2 .left) (c .before .wide .ensures) (c .wide2 .ensures))
+mul-if4 c =
+    let s = c .before .before .before .before .before .before .before .before .before in
+    let p = sym (c .before .before .before .before .before .before .before .before .check .ensures) ∙ c .before .before .before .before .before .before .before .if1 .left in
+    let q = sym (c .before .before .before .before .before .before .check2 .ensures) ∙ c .before .before .before .before .before .if2 .left in
+    omega (arith, size-of (s .args .reference) (s .args .device) _ _ p q (c .before .wide .ensures) (c .wide2 .ensures))
 
 returns-4 : tie.Need-returns-4
 returns-4 c = search twelve
 
 sub-if5 : tie.Need-sub-if5
-sub-if5 c = omega (arith, size-of (c .before .before .before .before .before .before .before .before .before .before .args .reference) (c .before .before .before .before .before .before .before .before .before .before .args .device) _ _ (sym (c .before .before .before .before .before .before .before .before .before .check .ensures) ∙ c .before .before .before .before .before .before .before .before .if1 .left) (sym (c .before .before .before .before .before .before .before .check2 .ensures) ∙ c .before .before .before .before .before .before .if2 .left) (c .before .before .wide .ensures) (c .before .wide2 .ensures))
+sub-if5 c =
+    let s = c .before .before .before .before .before .before .before .before .before .before in
+    let p = sym (c .before .before .before .before .before .before .before .before .before .check .ensures) ∙ c .before .before .before .before .before .before .before .before .if1 .left in
+    let q = sym (c .before .before .before .before .before .before .before .check2 .ensures) ∙ c .before .before .before .before .before .before .if2 .left in
+    omega (arith, size-of (s .args .reference) (s .args .device) _ _ p q (c .before .before .wide .ensures) (c .before .wide2 .ensures))
 
 returns-5 : tie.Need-returns-5
 returns-5 c = search thirteen

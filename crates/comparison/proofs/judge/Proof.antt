@@ -21,13 +21,26 @@ flatten-requires-2 : tie.Need-flatten-requires-2
 flatten-requires-2 c κs = tt
 
 bad-pairs-requires : tie.Need-bad-pairs-requires
-bad-pairs-requires c κs = both-accepted (c .before .before .before .before .before .before .before .args .reference) (c .before .before .before .before .before .before .before .args .device) (now (c .before .before .before .before .before .before .before .args .work)) (now (c .before .before .before .before .before .before .before .args .trace)) (c .before .before .before .before .before .before .before .pre)
+bad-pairs-requires c κs =
+    let s = c .before .before .before .before .before .before .before in
+    let a = s .args in
+    both-accepted (a .reference) (a .device) (now (a .work)) (now (a .trace)) (s .pre)
 
 search-requires : tie.Need-search-requires
-search-requires c κs = search-fits (c .before .before .before .before .before .before .before .before .before .before .before .before .before .args .reference) (c .before .before .before .before .before .before .before .before .before .before .before .before .before .args .device) (now (c .before .before .before .before .before .before .before .before .before .before .before .before .before .args .work)) (now (c .before .before .before .before .before .before .before .before .before .before .before .before .before .args .trace)) (c .before .before .before .before .before .before .before .before .before .before .before .before .before .pre) (c .before .before .before .before .before .before .before .before .before .wide2 .ensures) (c .before .before .before .before .before .before .before .before .wide3 .ensures) (c .before .before .before .before .before .before .before .before .before .before .wide .ensures)
+search-requires c κs =
+    let w = c .before .before .before .before .before .before .before .before in
+    let s = w .before .before .before .before .before in
+    let a = s .args in
+    search-fits (a .reference) (a .device) (now (a .work)) (now (a .trace)) (s .pre) (w .before .wide2 .ensures) (w .wide3 .ensures) (w .before .before .wide .ensures)
 
 tell-requires : tie.Need-tell-requires
-tell-requires c κs = let b = both-accepted (c .before .before .before .before .before .before .before .before .before .before .before .before .before .before .before .before .before .before .args .reference) (c .before .before .before .before .before .before .before .before .before .before .before .before .before .before .before .before .before .before .args .device) (now (c .before .before .before .before .before .before .before .before .before .before .before .before .before .before .before .before .before .before .args .work)) (now (c .before .before .before .before .before .before .before .before .before .before .before .before .before .before .before .before .before .before .args .trace)) (c .before .before .before .before .before .before .before .before .before .before .before .before .before .before .before .before .before .before .pre) in (b .0, b .1, answer-fits (c .before .before .before .before .before .before .before .before .before .before .before .before .before .before .before .before .before .before .args .reference) (c .before .before .before .before .before .before .before .before .before .before .before .before .before .before .before .before .before .before .args .device) (now (c .before .before .before .before .before .before .before .before .before .before .before .before .before .before .before .before .before .before .args .work)) (now (c .before .before .before .before .before .before .before .before .before .before .before .before .before .before .before .before .before .before .args .trace)) (c .before .before .before .before .before .before .before .before .before .before .before .before .before .before .before .before .before .before .pre) (c .before .before .before .before .before .before .before .before .before .before .before .before .before .before .wide2 .ensures) (c .before .before .before .before .before .before .before .before .before .before .before .before .before .wide3 .ensures) (c .before .before .before .before .before .before .before .before .before .before .before .before .before .before .before .wide .ensures) (c .before .before .before .before .before .before .before .before .before .before .before .before .before .before .before .before .before .before .args .trace-only) (c .before .before .before .before .before .before .before .before .before .before .before .before .flatten .ensures) (c .before .before .before .before .before .before .before .before .before .before .before .flatten2 .ensures) (c .before .before .before .before .before .before .before .before .before .before .bad-pairs .ensures) (c .before .before .before .before .search .ensures))
+tell-requires c κs =
+    let b = c .before .before .before .before .before .before .before .before .before .before in
+    let w = b .before .before .before in
+    let s = w .before .before .before .before .before in
+    let a = s .args in
+    let z = both-accepted (a .reference) (a .device) (now (a .work)) (now (a .trace)) (s .pre) in
+    (z .0, z .1, answer-fits (a .reference) (a .device) (now (a .work)) (now (a .trace)) (s .pre) (w .before .wide2 .ensures) (w .wide3 .ensures) (w .before .before .wide .ensures) (a .trace-only) (b .before .before .flatten .ensures) (b .before .flatten2 .ensures) (b .bad-pairs .ensures) (c .before .before .before .before .search .ensures))
 
 same-length : tie.Need-same-length
 same-length c = omega arith
@@ -36,7 +49,12 @@ same-length-2 : tie.Need-same-length-2
 same-length-2 c = omega arith
 
 returns : tie.Need-returns
-returns c = compares-found (c .before .before .before .before .before .before .before .before .before .before .before .before .before .before .before .before .before .before .before .args .reference) (c .before .before .before .before .before .before .before .before .before .before .before .before .before .before .before .before .before .before .before .args .device) (now (c .before .before .before .before .before .before .before .before .before .before .before .before .before .before .before .before .before .before .before .args .work)) (now (c .before .before .before .before .before .before .before .before .before .before .before .before .before .before .before .before .before .before .before .args .trace)) (c .before .before .before .before .before .before .before .before .before .before .before .before .before .before .before .before .before .before .before .pre) (c .before .before .before .before .before .before .before .before .before .before .before .before .before .before .before .wide2 .ensures) (c .before .before .before .before .before .before .before .before .before .before .before .before .before .before .wide3 .ensures) (c .before .before .before .before .before .before .before .before .before .before .before .before .before .before .before .before .wide .ensures) (c .before .before .before .before .before .before .before .before .before .before .before .before .before .before .before .before .before .before .before .args .trace-only) (c .before .before .before .before .before .before .before .before .before .before .before .before .before .flatten .ensures) (c .before .before .before .before .before .before .before .before .before .before .before .before .flatten2 .ensures) (c .before .before .before .before .before .before .before .before .before .before .before .bad-pairs .ensures) (c .before .before .before .before .before .search .ensures) _ (c .tell .ensures)
+returns c =
+    let b = c .before .before .before .before .before .before .before .before .before .before .before in
+    let w = b .before .before .before in
+    let s = w .before .before .before .before .before in
+    let a = s .args in
+    compares-found (a .reference) (a .device) (now (a .work)) (now (a .trace)) (s .pre) (w .before .wide2 .ensures) (w .wide3 .ensures) (w .before .before .wide .ensures) (a .trace-only) (b .before .before .flatten .ensures) (b .before .flatten2 .ensures) (b .bad-pairs .ensures) (c .before .before .before .before .before .search .ensures) _ (c .tell .ensures)
 
 pub judge-spec : {M : Type 1} → statement M
 judge-spec =
