@@ -1,16 +1,16 @@
--- Cases beyond the table: a run that ends failed, and what a device cannot report, as terms of their definitions.
-use mathlib.Core.Path.{_≡_, refl}
+-- A case beyond the table: a run that ends failed, as a term of the definition of a failed test.
+use mathlib.Core.Path.{refl}
 use mathlib.Core.Logic.{inl, inr, _≢_}
 use mathlib.Core.Bool.{false}
 use mathlib.Core.List.{[], _∷_}
-use Prim.Native.Nat.{ℕ, zero, suc, _+_, _≤_, _<_}
+use Prim.Native.Nat.{ℕ, _<_}
 use native.Mathlib.Omega.{arith}
 use Rattle.base.specs.Range.{all, any}
 use Rattle.base.specs.Table.{upTo}
 use Rattle.events.specs.Bit.{bit, setOf}
 use Rattle.events.specs.Sets.{has, inside, meets, meets-not}
 use Rattle.walks.specs.Reach.{nearer, leads}
-use Rattle.sheet_spec.specs.Kept.{row, successor, acceptance, acceptances, initials, mayStop, step}
+use Rattle.sheet_spec.specs.Kept.{successor, acceptance, acceptances, initials, mayStop, step}
 use Rattle.sheet_spec.specs.Rules.{rangesOk, countOk, countsOk, successorsOk, rowSuccessorsOk, successorOk, setsOk, rowSetsOk, setOk, ascends, apart, blank, unusedOk, blanksOk, reachedOk, sheetFault}
 use Rattle.sheet_spec.specs.Reading.{readSheet, answer, bytesFault, headFault, lengthField, layoutFault, nextAt, startOf, succOf, setsOf, rowAt, rowOf, sheetOf, graphFault}
 use Rattle.probes_spec.specs.Probes.{hits, isProbe, gather, select, probes}
@@ -19,11 +19,11 @@ use Rattle.tests_spec.specs.Runs.{allEvents, outside, probesAt, chosen, offerOf
 use Rattle.tests_spec.specs.Verdicts.{CanReport, Failed, deviceAfter, EndsFailed, FailsTest}
 use Rattle.cases.specs.Sheets.{exampleReference, exampleDevice, sheet}
 
--- a successor that is none of 255
+-- a successor below 255 is a successor
 on : (x : ℕ) → x < 255 → x ≢ 255
 on x l e = omega arith
 
--- two events are there for the asking
+-- the first event is below two
 some : {A : Type 0} → A → (0 < 2) × A
 some a = (omega arith, a)
 
@@ -75,21 +75,3 @@ example-fails = (
     ),
   ),
 )
-
--- what the device cannot report: at node 0 event 0 where only event 1 is offered; at node 2, which has event 0 alone, event 1;
--- and there it cannot block where event 0 is offered
-pub unreported :
-    (¬ CanReport (sheet exampleDevice) 0 2 (Event 0)) × (¬ CanReport (sheet exampleDevice) 2 3 (Event 1)) × (¬ CanReport (sheet exampleDevice) 2 1 Blocked)
-unfolding CanReport sheet exampleDevice readSheet answer bytesFault headFault lengthField layoutFault nextAt startOf succOf setsOf rowAt rowOf sheetOf graphFault rangesOk countOk successorsOk rowSuccessorsOk successorOk setsOk rowSetsOk setOk ascends apart reachedOk successor acceptance initials step bit inside meets setOf nearer leads all any upTo
-unreported = (
-  λ (x : CanReport (sheet exampleDevice) 0 2 (Event 0)). zero-one (x .0),
-  λ (x : CanReport (sheet exampleDevice) 2 3 (Event 1)). x .1 .1 refl,
-  λ (x : CanReport (sheet exampleDevice) 2 1 Blocked). alone (x .0) (x .1) (x .2),
-)
-  where
-    zero-one : _≡_ {A = ℕ} 0 1 → ⊥
-    zero-one e = omega arith
-
-    alone : (j : ℕ) → j < 1 → ((i : ℕ) → bit (acceptance (row (sheet exampleDevice) 2) j) i + bit 1 i ≤ 1) → ⊥
-    alone zero l f = let z : 2 ≤ 1 = f 0 in omega arith
-    alone (suc j) l f = omega arith
