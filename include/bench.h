@@ -1,9 +1,14 @@
-/* The dialogue bench: sheets read and checked. The functions are those of the proved library libedge.a, which
+/* The dialogue bench: sheets, probes, tests and comparisons. The functions are those of the proved library libedge.a, which
  * `rt staticlib edge` writes below target/staticlib; it needs nothing but the C library.
  *
  * An event is a number below E, a node a number below N. A set of events is a 16-bit number in which event i adds 2 to the
  * power i. Every content of what is lent or handed over is answered, so no call has a condition on it. A call keeps nothing
  * of what it is lent, alters nothing unless its comment says so, and may run in several threads at once.
+ *
+ * A list is lent as a pointer, which is not null even if the list is empty, and a number of places. A flag is a byte: 0 is
+ * false, every other value is true. Each call checks the sheets that it is handed again, the reference first, and answers
+ * their refusals, 3 or 5 to 8, before its own. A call that is refused alters nothing, and every other part of its answer is 0; a
+ * comparison's kind is then 3.
  */
 #ifndef BENCH_H
 #define BENCH_H
@@ -31,6 +36,20 @@ enum {
     BENCH_BAD_SETS = 7,     /* the sets of a node are not strictly ascending, one has an event without successor, or one
                                includes another; of a kept sheet also: an unused place holds something else than it should */
     BENCH_NOT_REACHED = 8   /* a node is not reached from node 0 */
+};
+
+/* The refusals of the other calls. */
+enum {
+    BENCH_BAD_NODE = 9,      /* a node that is not below N; also a record whose node is not on the sheet, whose depth exceeds
+                                its k, or whose k is above 1,023 */
+    BENCH_SHORT_PROBES = 10, /* a probe list shorter than the probes */
+    BENCH_OTHER_EVENTS = 11, /* the two sheets have different E */
+    BENCH_SHORT_WORK = 12,   /* a work list below 3 p q words, for p nodes of the reference and q of the device */
+    BENCH_SHORT_TRACE = 13,  /* a trace list below p q - 1 bytes */
+    BENCH_BAD_TEST = 14,     /* a test number k above 1,023 */
+    BENCH_BAD_EVENT = 15,    /* an event that is not below E */
+    BENCH_ENDED = 16,        /* the run has ended */
+    BENCH_NOT_OFFERED = 17   /* an event that is not offered */
 };
 
 /* What is kept of one node: its successor on each event, 255 for none; its minimal acceptances, strictly ascending; how many
@@ -61,6 +80,108 @@ struct bench_read_sheet bench_read(const uint8_t *bytes, size_t length);
 /* Checks a kept sheet with any content. Handed over: a copy of the sheet. Answered: 0, or the refusal, 3 or 5 to 8. Each
  * sheet that bench_read accepts is answered with 0; one of zeros, which it answers where it refuses, with 3. */
 uint8_t bench_check(struct bench_sheet sheet);
+
+/* What a probe list answers: the refusal, 0 for none, and how many probes there are. */
+struct bench_listed {
+    uint8_t refusal;
+    uint16_t count;
+};
+
+/* Lists the probes of a node: the sets of events that meet every acceptance of the node and have no smaller set inside that
+ * does, ascending by number. Handed over: a copy of the sheet and the node. Lent: `length` words from `out` on. Answered: 0
+ * and the number of probes, which then stand at the front of the list, and the rest of the list is as it was; or the refusal
+ * (the sheet's; 9; 10), and the whole list is as it was. A node that may stop has no probe. */
+struct bench_listed bench_list(struct bench_sheet sheet, uint8_t node, uint16_t *out, size_t length);
+
+/* The highest test number, and the lowest report that says "blocked". */
+enum { BENCH_LAST_TEST = 1023, BENCH_BLOCKED = 256 };
+
+/* A run's record: the test's number k, the choice number h, whether it is trace-only, whether it has ended (two flags), the
+ * node reached on the reference and how many events were accepted on the way. It belongs to the bench. A call that leaves a
+ * flag as it was leaves its byte; it sets one with 1. */
+struct bench_run {
+    uint16_t k;
+    uint16_t h;
+    uint8_t traces;
+    uint8_t ended;
+    uint8_t node;
+    uint16_t depth;
+};
+
+/* The kinds of an answer to an opening or a report. */
+enum {
+    BENCH_DENIED = 0,  /* refused; the refusal has the number */
+    BENCH_GOING = 1,   /* the run goes on; the value is the set that is offered next */
+    BENCH_STRAY = 2,   /* ended, failed as stray; the value is the event */
+    BENCH_REFUSED = 3, /* ended, failed as refused; the value is the set that was offered */
+    BENCH_PASSED = 4   /* ended, passed; the value is 0 */
+};
+
+/* The kinds of a verdict; a refused one is BENCH_DENIED. Its value is 0. */
+enum { BENCH_PASSES = 1, BENCH_FAILS = 2 };
+
+/* An answer: the refusal, 0 for none; the kind; the event or set that comes with it, 0 where there is none. */
+struct bench_said {
+    uint8_t refusal;
+    uint8_t kind;
+    uint16_t value;
+};
+
+/* An answer and the record after it. */
+struct bench_stepped {
+    struct bench_said answer;
+    struct bench_run run;
+};
+
+/* Opens test k with the choice number h, trace-only if the flag `traces` is set. Handed over: a copy of the reference's sheet.
+ * Answered: BENCH_GOING with the first offer, and the record of the run; or the refusal (the sheet's; 14) and a record of
+ * zeros. */
+struct bench_stepped bench_open(struct bench_sheet sheet, uint16_t k, uint16_t h, uint8_t traces);
+
+/* Answers a report on a run. Handed over: a copy of the reference's sheet, the record, and what the device did with the last
+ * offer: 0 to 255 is that event, every other number (BENCH_BLOCKED) says that it did nothing. Answered: how the run goes on or
+ * ends, and the record after it; or the refusal (the sheet's; 16; 9; 15; 17) and the record as it came. */
+struct bench_stepped bench_step(struct bench_sheet sheet, struct bench_run run, uint16_t report);
+
+/* The same on the bench's own record. Lent: the record, which is altered to the one after the report; a refusal leaves it as
+ * it was. */
+struct bench_said bench_report(struct bench_run *run, struct bench_sheet sheet, uint16_t report);
+
+/* The verdict on a device for test k, trace-only if the flag `traces` is set. Handed over: copies of both sheets. Answered:
+ * BENCH_PASSES, or BENCH_FAILS if some run of the test against the device can end failed for some h; or the refusal (the
+ * reference's; the device's; 11; 14). */
+struct bench_said bench_judge(struct bench_sheet reference, struct bench_sheet device, uint16_t k, uint8_t traces);
+
+/* The kinds of a comparison's answer. */
+enum {
+    BENCH_NOT_COMPARED = 0,     /* refused; `refusal` has the number */
+    BENCH_REFINES = 1,          /* the device refines the reference */
+    BENCH_VIOLATES_STRAY = 2,   /* after the trace the device does `event`, which the reference does not */
+    BENCH_VIOLATES_REFUSAL = 3  /* after the trace the device may refuse the whole of `probe`, which the reference may not: its
+                                   `acceptance` has no event of it */
+};
+
+/* What a comparison answers: the refusal, 0 for none; the kind; the length d of the shortest common trace to a violation; how
+ * many different pairs of nodes are reached by common traces shorter than d, or of all reached pairs if it refines; and what
+ * is named. Parts that a kind has not are 0. */
+struct bench_compared {
+    uint8_t refusal;
+    uint8_t kind;
+    uint16_t d;
+    uint16_t cleared;
+    uint8_t event;
+    uint16_t probe;
+    uint16_t acceptance;
+};
+
+/* Compares a device of q nodes with a reference of p, by traces alone if the flag `traces` is set. Handed over: copies of both
+ * sheets. Lent: `words` words from `work` on, of which 3 p q are needed, and `places` bytes from `trace` on, of which p q - 1
+ * are needed. Answered: whether the device refines the reference, or the nearest violation; then 3 p q words of the work list
+ * are 0 and its later words as they were, and the d events of the trace, the least of its length by event number, stand at
+ * the front of the trace list and its rest is as it was. Or the refusal (the reference's; the device's; 11; 12; 13), and
+ * both lists are as they were. */
+struct bench_compared bench_compare(struct bench_sheet reference, struct bench_sheet device, uint8_t traces, uint16_t *work,
+                                    size_t words, uint8_t *trace, size_t places);
 
 #ifdef __cplusplus
 }

@@ -1,5 +1,5 @@
 #!/bin/sh
-# The model against the proved library on random inputs.
+# The model against the proved library, and against the program `compare`, on random inputs.
 #
 #     tests/random.sh [SEED [COUNT [FIRST]]]
 set -eu
@@ -9,6 +9,12 @@ echo "random: rt staticlib edge"
 mkdir -p target/random
 rt staticlib edge > target/random/staticlib.out 2>&1 || {
     cat target/random/staticlib.out
+    exit 1
+}
+
+echo "random: rt check compare"
+rt check compare > target/random/compare.out 2>&1 || {
+    cat target/random/compare.out
     exit 1
 }
 

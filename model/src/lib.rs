@@ -6,6 +6,8 @@
 pub mod comparison;
 pub mod examples;
 pub mod faults;
+pub mod numbers;
+pub mod planted;
 pub mod probes;
 pub mod random;
 mod rules;

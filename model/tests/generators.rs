@@ -195,3 +195,15 @@ fn every_planted_fault_is_noticed() {
         }
     }
 }
+
+#[test]
+fn crowded_sheets_are_accepted_and_have_many_probes() {
+    let mut rng = Rng::new(40);
+    let mut many = 0;
+    for _ in 0..200 {
+        let sheet = crowded_sheet(&mut rng);
+        assert_eq!(check(&sheet), 0);
+        many += usize::from(model::probes::probes(&sheet, 0).len() >= 100);
+    }
+    assert!(many >= 50, "{many}");
+}

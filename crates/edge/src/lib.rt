@@ -1,11 +1,27 @@
 // The edge: what C and Rust call, each function under the prefix `bench_`. None has a `requires`: every content of what is
 // lent or handed over is answered. Slices arrive as a pointer and a length, structs by value in the layout of C
-// (include/bench.h). Each result is equated with the definition of the call.
+// (include/bench.h). Each result is equated with the definition of the call, in 01's numbers for each case of its answer.
 ghost use mathlib.Core.Path.{_≡_};
 ghost use Rattle.sheet_spec.specs.Rules.{sheetFault};
 ghost use Rattle.sheet_spec.specs.Reading.{readSheet};
+ghost use Rattle.probes_spec.specs.Listing.{listedNumbers, listNumbers, listAfter};
+ghost use Rattle.tests_spec.specs.Runs.{openOf, stepOf};
+ghost use Rattle.tests_spec.specs.Verdicts.{verdictOf};
+ghost use Rattle.tests_spec.specs.Numbers.{said, judged};
+ghost use Rattle.comparison_spec.specs.Comparison.{outcomeOf, traceAfter, workAfter};
+ghost use Rattle.comparison_spec.specs.Numbers.{compared};
+ghost use Rattle.edge.specs.Flat.{flag, flagAfter, reportFlat, listedFlat, saidFlat, runFlat, runAfter, steppedFlat, zeroFlat, comparedFlat};
+use comparison_spec::Outcome;
+use probes_spec::Listed;
 use sheet_spec::ReadSheet;
 use sheet_spec::Sheet;
+use tests_spec::Answer;
+use tests_spec::Report;
+use tests_spec::Run;
+use tests_spec::Stepped;
+use tests_spec::Verdict;
+
+// ---- sheets
 
 // The sheet that the bytes spell; or the number of the refusal, 1 to 8, and 0 in every other place.
 #[no_mangle]
@@ -21,4 +37,318 @@ pub extern "C" fn bench_check(s: Sheet) -> u8
     ensures { λ r. ⌜ r ≡ sheetFault s ⌝ }
 {
     sheet::check(s)
+}
+
+// ---- probes
+
+// The answer of a probe list: the refusal, 0 for none, and how many probes there are.
+#[repr(C)]
+pub struct BenchListed {
+    pub refusal: u8,
+    pub count: u16,
+}
+
+// The numbers of a probe list's answer.
+fn listed_flat(a: Listed) -> BenchListed
+    ensures { λ r. ⌜ r ≡ listedFlat (listedNumbers a) ⌝ }
+{
+    match a {
+        Listed::Count(m) => BenchListed {
+            refusal: 0,
+            count: m,
+        },
+        Listed::Denied(k) => BenchListed {
+            refusal: k,
+            count: 0,
+        },
+    }
+}
+
+// Writes the probes of a node to the front of the lent list and answers how many there are; or the number of the refusal.
+#[no_mangle]
+pub extern "C" fn bench_list(sheet: Sheet, node: u8, out: &mut [u16]) -> BenchListed
+    ensures { λ r. ⌜ (r ≡ listedFlat (listNumbers sheet node (now (out .entry)))) × (now (out .exit) ≡ listAfter sheet node (now (out .entry))) ⌝ }
+{
+    let answer = probes::list(sheet, node, out);
+    listed_flat(answer)
+}
+
+// ---- tests
+
+// An answer in numbers: the refusal, 0 for none; the kind, 0 for a refusal; the event or set of that kind.
+#[repr(C)]
+pub struct BenchSaid {
+    pub refusal: u8,
+    pub kind: u8,
+    pub value: u16,
+}
+
+// A run's record in numbers.
+#[repr(C)]
+pub struct BenchRun {
+    pub k: u16,
+    pub h: u16,
+    pub traces: u8,
+    pub ended: u8,
+    pub node: u8,
+    pub depth: u16,
+}
+
+// An answer and the record after it.
+#[repr(C)]
+pub struct BenchStepped {
+    pub answer: BenchSaid,
+    pub run: BenchRun,
+}
+
+// The numbers of an answer.
+fn said_flat(a: Answer) -> BenchSaid
+    ensures { λ r. ⌜ r ≡ saidFlat (said a) ⌝ }
+{
+    match a {
+        Answer::Going(x) => BenchSaid {
+            refusal: 0,
+            kind: 1,
+            value: x,
+        },
+        Answer::Stray(i) => BenchSaid {
+            refusal: 0,
+            kind: 2,
+            value: i as u16,
+        },
+        Answer::Refused(x) => BenchSaid {
+            refusal: 0,
+            kind: 3,
+            value: x,
+        },
+        Answer::Passed => BenchSaid {
+            refusal: 0,
+            kind: 4,
+            value: 0,
+        },
+        Answer::Denied(m) => BenchSaid {
+            refusal: m,
+            kind: 0,
+            value: 0,
+        },
+    }
+}
+
+// The numbers of a verdict.
+fn judged_flat(a: Verdict) -> BenchSaid
+    ensures { λ r. ⌜ r ≡ saidFlat (judged a) ⌝ }
+{
+    match a {
+        Verdict::Passes => BenchSaid {
+            refusal: 0,
+            kind: 1,
+            value: 0,
+        },
+        Verdict::Fails => BenchSaid {
+            refusal: 0,
+            kind: 2,
+            value: 0,
+        },
+        Verdict::Denied(m) => BenchSaid {
+            refusal: m,
+            kind: 0,
+            value: 0,
+        },
+    }
+}
+
+// A flag's number after a call.
+fn flag_after(x: u8, b: bool) -> u8
+    ensures { λ r. ⌜ r ≡ flagAfter x b ⌝ }
+{
+    if b {
+        if x == 0 {
+            return 1;
+        }
+        return x;
+    }
+    0
+}
+
+// The report that a number is.
+fn report_flat(x: u16) -> Report
+    ensures { λ r. ⌜ r ≡ reportFlat x ⌝ }
+{
+    if x < 256 {
+        return Report::Event(x as u8);
+    }
+    Report::Blocked
+}
+
+// The record that the numbers are.
+fn run_flat(r: BenchRun) -> Run
+    ensures { λ q. ⌜ q ≡ runFlat r ⌝ }
+{
+    Run {
+        k: r.k,
+        h: r.h,
+        traces: r.traces != 0,
+        ended: r.ended != 0,
+        node: r.node,
+        depth: r.depth,
+    }
+}
+
+// The numbers of a record that was these numbers before.
+fn run_after(r: BenchRun, q: Run) -> BenchRun
+    ensures { λ z. ⌜ z ≡ runAfter r q ⌝ }
+{
+    let traces = flag_after(r.traces, q.traces);
+    let ended = flag_after(r.ended, q.ended);
+    BenchRun {
+        k: q.k,
+        h: q.h,
+        traces: traces,
+        ended: ended,
+        node: q.node,
+        depth: q.depth,
+    }
+}
+
+// An answer and its record, where the record was these numbers before.
+fn stepped_flat(r: BenchRun, z: Stepped) -> BenchStepped
+    ensures { λ x. ⌜ x ≡ steppedFlat r z ⌝ }
+{
+    let a = z.answer;
+    let q = z.run;
+    let answer = said_flat(a);
+    let run = run_after(r, q);
+    BenchStepped {
+        answer: answer,
+        run: run,
+    }
+}
+
+// Opens test `k` with the choice number `h`, trace-only if `traces` is not 0: the first offer and the record; or the number of the
+// refusal and a record of zeros.
+#[no_mangle]
+pub extern "C" fn bench_open(sheet: Sheet, k: u16, h: u16, traces: u8) -> BenchStepped
+    ensures { λ r. ⌜ r ≡ steppedFlat zeroFlat (openOf sheet k h (flag traces)) ⌝ }
+{
+    let none = BenchRun {
+        k: 0,
+        h: 0,
+        traces: 0,
+        ended: 0,
+        node: 0,
+        depth: 0,
+    };
+    let stepped = tests::open_test(sheet, k, h, traces != 0);
+    stepped_flat(none, stepped)
+}
+
+// Answers a report, and gives the record after it.
+fn step_flat(sheet: Sheet, run: BenchRun, report: u16) -> BenchStepped
+    ensures { λ r. ⌜ r ≡ steppedFlat run (stepOf sheet (runFlat run) (reportFlat report)) ⌝ }
+{
+    let before = run_flat(run);
+    let said = report_flat(report);
+    let stepped = tests::step(sheet, before, said);
+    stepped_flat(run, stepped)
+}
+
+// Answers a report, and gives the record after it; a refusal gives its number and the record as it came.
+#[no_mangle]
+pub extern "C" fn bench_step(sheet: Sheet, run: BenchRun, report: u16) -> BenchStepped
+    ensures { λ r. ⌜ r ≡ steppedFlat run (stepOf sheet (runFlat run) (reportFlat report)) ⌝ }
+{
+    step_flat(sheet, run, report)
+}
+
+// Answers a report on the record that the bench holds, and stores the record after it there.
+#[no_mangle]
+pub extern "C" fn bench_report(run: &mut BenchRun, sheet: Sheet, report: u16) -> BenchSaid
+    ensures { λ r. ⌜ (r ≡ saidFlat (said (stepOf sheet (runFlat (now (run .entry))) (reportFlat report) .answer))) × (now (run .exit) ≡ runAfter (now (run .entry)) (stepOf sheet (runFlat (now (run .entry))) (reportFlat report) .run)) ⌝ }
+{
+    let stepped = step_flat(sheet, *run, report);
+    *run = stepped.run;
+    stepped.answer
+}
+
+// The verdict on a device for test `k`, or the number of the refusal.
+#[no_mangle]
+pub extern "C" fn bench_judge(reference: Sheet, device: Sheet, k: u16, traces: u8) -> BenchSaid
+    ensures { λ r. ⌜ r ≡ saidFlat (judged (verdictOf reference device k (flag traces))) ⌝ }
+{
+    let verdict = tests::judge(reference, device, k, traces != 0);
+    judged_flat(verdict)
+}
+
+// ---- comparisons
+
+// The answer of a comparison in numbers: the refusal, 0 for none; the kind; d; cleared; what is named.
+#[repr(C)]
+pub struct BenchCompared {
+    pub refusal: u8,
+    pub kind: u8,
+    pub d: u16,
+    pub cleared: u16,
+    pub event: u8,
+    pub probe: u16,
+    pub acceptance: u16,
+}
+
+// The numbers of a comparison's answer.
+fn compared_flat(o: Outcome) -> BenchCompared
+    ensures { λ r. ⌜ r ≡ comparedFlat (compared o) ⌝ }
+{
+    match o {
+        Outcome::Refines(c) => BenchCompared {
+            refusal: 0,
+            kind: 1,
+            d: 0,
+            cleared: c,
+            event: 0,
+            probe: 0,
+            acceptance: 0,
+        },
+        Outcome::Stray(d, c, i) => BenchCompared {
+            refusal: 0,
+            kind: 2,
+            d: d,
+            cleared: c,
+            event: i,
+            probe: 0,
+            acceptance: 0,
+        },
+        Outcome::Refusal(d, c, x, a) => BenchCompared {
+            refusal: 0,
+            kind: 3,
+            d: d,
+            cleared: c,
+            event: 0,
+            probe: x,
+            acceptance: a,
+        },
+        Outcome::Denied(n) => BenchCompared {
+            refusal: n,
+            kind: 0,
+            d: 0,
+            cleared: 0,
+            event: 0,
+            probe: 0,
+            acceptance: 0,
+        },
+    }
+}
+
+// Compares a device's sheet with a reference's, with traces alone if `traces` is not 0: the answer, the work list's words set to 0 and
+// the trace at the front of its list; or the number of the refusal, and both lists are as they were.
+#[no_mangle]
+pub extern "C" fn bench_compare(
+    reference: Sheet,
+    device: Sheet,
+    traces: u8,
+    work: &mut [u16],
+    trace: &mut [u8],
+) -> BenchCompared
+    ensures { λ r. ⌜ (r ≡ comparedFlat (compared (outcomeOf (flag traces) reference device (now (work .entry)) (now (trace .entry))))) × (now (trace .exit) ≡ traceAfter (flag traces) reference device (now (work .entry)) (now (trace .entry))) × (now (work .exit) ≡ workAfter reference device (now (work .entry)) (now (trace .entry))) ⌝ }
+{
+    let outcome = comparison::compare(reference, device, traces != 0, work, trace);
+    compared_flat(outcome)
 }

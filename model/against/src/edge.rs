@@ -3,6 +3,7 @@
 use std::mem::{offset_of, size_of};
 
 use model::faults::ReadAnswer;
+use model::numbers::{Compared, Listed, Record, Said, Stepped};
 use model::sheet::{Row, Sheet};
 
 /// What reading answers, in the layout of C.
@@ -20,10 +21,35 @@ const _: () = assert!(size_of::<Sheet>() == 1_474);
 const _: () = assert!(offset_of!(Sheet, e) == 1_472 && offset_of!(Sheet, n) == 1_473);
 const _: () = assert!(size_of::<ReadSheet>() == 1_476);
 const _: () = assert!(offset_of!(ReadSheet, sheet) == 2);
+const _: () = assert!(size_of::<Listed>() == 4 && offset_of!(Listed, count) == 2);
+const _: () = assert!(size_of::<Said>() == 4);
+const _: () = assert!(offset_of!(Said, kind) == 1 && offset_of!(Said, value) == 2);
+const _: () = assert!(size_of::<Record>() == 10);
+const _: () = assert!(offset_of!(Record, traces) == 4 && offset_of!(Record, ended) == 5);
+const _: () = assert!(offset_of!(Record, node) == 6 && offset_of!(Record, depth) == 8);
+const _: () = assert!(size_of::<Stepped>() == 14 && offset_of!(Stepped, run) == 4);
+const _: () = assert!(size_of::<Compared>() == 12);
+const _: () = assert!(offset_of!(Compared, d) == 2 && offset_of!(Compared, cleared) == 4);
+const _: () = assert!(offset_of!(Compared, event) == 6 && offset_of!(Compared, probe) == 8);
+const _: () = assert!(offset_of!(Compared, acceptance) == 10);
 
 extern "C" {
     fn bench_read(bytes: *const u8, length: usize) -> ReadSheet;
     fn bench_check(sheet: Sheet) -> u8;
+    fn bench_list(sheet: Sheet, node: u8, out: *mut u16, length: usize) -> Listed;
+    fn bench_open(sheet: Sheet, k: u16, h: u16, traces: u8) -> Stepped;
+    fn bench_step(sheet: Sheet, run: Record, report: u16) -> Stepped;
+    fn bench_report(run: *mut Record, sheet: Sheet, report: u16) -> Said;
+    fn bench_judge(reference: Sheet, device: Sheet, k: u16, traces: u8) -> Said;
+    fn bench_compare(
+        reference: Sheet,
+        device: Sheet,
+        traces: u8,
+        work: *mut u16,
+        words: usize,
+        trace: *mut u8,
+        places: usize,
+    ) -> Compared;
 }
 
 /// Reads a sheet: 0 and the kept sheet, or the refusal and zeros.
@@ -40,4 +66,56 @@ pub fn read(bytes: &[u8]) -> ReadAnswer {
 pub fn check(sheet: &Sheet) -> u8 {
     // Sound: the sheet is handed over by value.
     unsafe { bench_check(*sheet) }
+}
+
+/// Writes the probes of a node to a lent list.
+pub fn list(sheet: &Sheet, node: u8, out: &mut [u16]) -> Listed {
+    // Sound: the slice is lent for the call, and the library is proved to write inside it.
+    unsafe { bench_list(*sheet, node, out.as_mut_ptr(), out.len()) }
+}
+
+/// Opens a test.
+pub fn open(sheet: &Sheet, k: u16, h: u16, traces: u8) -> Stepped {
+    // Sound: everything is handed over by value.
+    unsafe { bench_open(*sheet, k, h, traces) }
+}
+
+/// Answers a report on a record by value.
+pub fn step(sheet: &Sheet, run: &Record, report: u16) -> Stepped {
+    // Sound: everything is handed over by value.
+    unsafe { bench_step(*sheet, *run, report) }
+}
+
+/// Answers a report on a record in place.
+pub fn report(run: &mut Record, sheet: &Sheet, report: u16) -> Said {
+    // Sound: the record is lent for the call.
+    unsafe { bench_report(run, *sheet, report) }
+}
+
+/// The verdict on a device.
+pub fn judge(reference: &Sheet, device: &Sheet, k: u16, traces: u8) -> Said {
+    // Sound: everything is handed over by value.
+    unsafe { bench_judge(*reference, *device, k, traces) }
+}
+
+/// Compares a device with a reference.
+pub fn compare(
+    reference: &Sheet,
+    device: &Sheet,
+    traces: u8,
+    work: &mut [u16],
+    trace: &mut [u8],
+) -> Compared {
+    // Sound: both slices are lent for the call, and the library is proved to write inside them.
+    unsafe {
+        bench_compare(
+            *reference,
+            *device,
+            traces,
+            work.as_mut_ptr(),
+            work.len(),
+            trace.as_mut_ptr(),
+            trace.len(),
+        )
+    }
 }

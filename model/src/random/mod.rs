@@ -10,8 +10,8 @@ mod runs;
 pub use damage::{damaged, damaged_twice, long_bytes, noise_bytes, AIMS_READ};
 pub use input::program_input;
 pub use kept::{kept, kept_noise, kept_twice, AIMS_KEPT};
-pub use pairs::{device_of, pair};
-pub use raw::{antichain, full_sheet, random_raw, random_sheet, sheet_of_size, Raw};
+pub use pairs::{deep_pair, device_of, pair, small_pair};
+pub use raw::{antichain, crowded_sheet, full_sheet, random_raw, random_sheet, sheet_of_size, Raw};
 pub use runs::{random_record, random_report};
 
 /// splitmix64.

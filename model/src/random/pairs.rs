@@ -125,3 +125,134 @@ fn plant_violation(rng: &mut Rng, device: &mut Raw, reference: &Raw, origins: &[
         device.nodes[node].1 = vec![rng.pick(&fewer)];
     }
 }
+
+/// A random pair with few nodes and events, unrelated or drawn from each other.
+pub fn small_pair(rng: &mut Rng) -> (Sheet, Sheet) {
+    let e = rng.range(1, 4);
+    let n = rng.range(1, 5);
+    let raw = random_raw(rng, e, n);
+    let device = match rng.below(4) {
+        0 => {
+            let n = rng.range(1, 5);
+            random_raw(rng, e, n)
+        }
+        _ => {
+            let plant = rng.one_in(2);
+            device_of(rng, &raw, plant)
+        }
+    };
+    // A device has as many nodes as there is room for; only a small one is taken.
+    if device.nodes.len() > 6 {
+        return (raw.keep(), raw.keep());
+    }
+    (raw.keep(), device.keep())
+}
+
+/// A pair of two rings whose numbers of nodes have no common divisor, so that a common
+/// trace meets every pair of nodes before it meets one again. One pair of nodes at most
+/// is violating, by a stray or by a refusal; now and then there is a short cut.
+pub fn deep_pair(rng: &mut Rng) -> (Sheet, Sheet) {
+    let (p, q) = loop {
+        let (p, q) = (rng.range(8, MAX_NODES), rng.range(8, MAX_NODES));
+        if divisor(p, q) == 1 {
+            break (p, q);
+        }
+    };
+    let e = rng.range(2, MAX_EVENTS);
+    let step = rng.below(e);
+    let stray = (step + rng.range(1, e - 1)) % e;
+    let mut reference = ring(rng, e, p, step, stray);
+    let mut device = ring(rng, e, q, step, stray);
+    let (a, b) = (rng.below(p), rng.below(q));
+    // Every event but the stray is one of the reference's at each of its nodes.
+    for (node, (succ, sets)) in reference.nodes.iter_mut().enumerate() {
+        let next = ((node + 1) % p) as u8;
+        for (event, place) in succ.iter_mut().enumerate() {
+            if event != stray || node != a {
+                *place = next;
+            }
+        }
+        *sets = vec![0];
+    }
+    for (succ, _) in device.nodes.iter_mut() {
+        succ[stray] = NO_NODE;
+    }
+    for node in 0..q {
+        let own = device.initials(node);
+        device.nodes[node].1 = vec![own];
+    }
+    match rng.below(5) {
+        0 | 1 => device.nodes[b].0[stray] = ((b + 1) % q) as u8,
+        2 | 3 => {
+            let own = reference.initials(a);
+            reference.nodes[a].1 = demanding(rng, own, 1 << step);
+            let rest = device.initials(b) & !(1 << step);
+            let alone = reference.nodes[a].1 == [1 << step];
+            // A device that stops fails every later test too; one that refuses the step may not.
+            device.nodes[b].1 = vec![if alone { rest } else { 0 }];
+        }
+        _ => {}
+    }
+    if rng.one_in(6) {
+        let (ring, nodes) = match rng.one_in(2) {
+            true => (&mut reference, p),
+            false => (&mut device, q),
+        };
+        let node = rng.below(nodes);
+        ring.nodes[node].0[step] = rng.below(nodes) as u8;
+    }
+    if !reached(&reference) || !reached(&device) {
+        return deep_pair(rng);
+    }
+    (reference.keep(), device.keep())
+}
+
+/// Acceptances of which a node that does the step keeps one: the step, or each event.
+fn demanding(rng: &mut Rng, initials: u16, step: u16) -> Vec<u16> {
+    if rng.one_in(2) {
+        return vec![step];
+    }
+    let mut sets: Vec<u16> = (0..16).map(|event| 1 << event).collect();
+    sets.retain(|set| initials & set != 0);
+    sets
+}
+
+/// A ring of nodes on some events, the step among them and the stray not.
+fn ring(rng: &mut Rng, e: usize, n: usize, step: usize, stray: usize) -> Raw {
+    let mut raw = Raw {
+        e: e as u8,
+        nodes: Vec::new(),
+    };
+    for node in 0..n {
+        let next = ((node + 1) % n) as u8;
+        let mut succ = vec![NO_NODE; e];
+        for (event, place) in succ.iter_mut().enumerate() {
+            if event == step || event != stray && rng.one_in(3) {
+                *place = next;
+            }
+        }
+        raw.nodes.push((succ, vec![0]));
+    }
+    raw
+}
+
+fn divisor(a: usize, b: usize) -> usize {
+    if b == 0 {
+        a
+    } else {
+        divisor(b, a % b)
+    }
+}
+
+/// Whether every node is reached from node 0.
+fn reached(raw: &Raw) -> bool {
+    let mut seen = vec![false; raw.nodes.len()];
+    let mut open = vec![0usize];
+    while let Some(node) = open.pop() {
+        if !std::mem::replace(&mut seen[node], true) {
+            let next = raw.nodes[node].0.iter().filter(|&&next| next != NO_NODE);
+            open.extend(next.map(|&next| next as usize));
+        }
+    }
+    seen.iter().all(|&seen| seen)
+}

@@ -171,6 +171,36 @@ pub fn full_sheet(rng: &mut Rng) -> Sheet {
     raw.keep()
 }
 
+/// A random accepted sheet with up to three nodes that have many probes: all 12 events in
+/// three blocks of four, and as sets the threes inside each block, so that a probe has two
+/// events of each block; or some other threes beside them.
+pub fn crowded_sheet(rng: &mut Rng) -> Sheet {
+    let n = rng.range(1, 3);
+    let mut raw = random_raw(rng, MAX_EVENTS, n);
+    for (succ, sets) in raw.nodes.iter_mut() {
+        for place in succ.iter_mut().filter(|place| **place == NO_NODE) {
+            *place = rng.below(n) as u8;
+        }
+        let mut events: Vec<u16> = (0..MAX_EVENTS as u16).collect();
+        rng.shuffle(&mut events);
+        let without = |left: usize| move |(place, _): &(usize, &u16)| *place != left;
+        let three = |block: &[u16], left: usize| {
+            let kept = block.iter().enumerate().filter(without(left));
+            kept.fold(0u16, |set, (_, event)| set | 1 << event)
+        };
+        let blocks = events.chunks(4);
+        *sets = blocks
+            .flat_map(|block| (0..4).map(move |left| three(block, left)))
+            .collect();
+        for _ in 0..rng.below(5) {
+            sets.push(random_set(rng, &events, Some(3)));
+        }
+        sets.sort_unstable();
+        sets.dedup();
+    }
+    raw.keep()
+}
+
 /// A random number of nodes, one in three times 16 or more.
 pub fn random_nodes(rng: &mut Rng) -> usize {
     match rng.below(3) {

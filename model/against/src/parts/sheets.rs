@@ -6,8 +6,9 @@ use model::random::{
     damaged, damaged_twice, full_sheet, kept, kept_noise, kept_twice, long_bytes, noise_bytes,
     sheet_of_size, Rng, AIMS_KEPT, AIMS_READ,
 };
-use model::sheet::{encode, Row, Sheet, MAX_BYTES, MAX_EVENTS, MAX_NODES, MAX_SETS};
+use model::sheet::{encode, Sheet, MAX_BYTES, MAX_EVENTS, MAX_NODES, MAX_SETS};
 
+use super::shown_sheet;
 use crate::edge;
 use crate::findings::Findings;
 use crate::play::Part;
@@ -220,12 +221,4 @@ fn shown_bytes(bytes: &[u8]) -> String {
         .map(|byte| format!("{byte:02x}"))
         .collect();
     format!("{} bytes {all}", bytes.len())
-}
-
-fn shown_sheet(sheet: &Sheet) -> String {
-    let rows = sheet.rows.iter().enumerate();
-    let used = rows.filter(|(_, row)| **row != Row::UNUSED);
-    let row = |(v, row): (usize, &Row)| format!("{v} {:?} {:?} {}", row.succ, row.sets, row.c);
-    let rows: Vec<String> = used.map(row).collect();
-    format!("e {} n {} rows {}", sheet.e, sheet.n, rows.join("; "))
 }

@@ -1,0 +1,27 @@
+-- `bench_compare`: the numbers of the answer, and both lists.
+use mathlib.Core.Path.{ap, _∙_}
+use borrow.Author.Needs.{needs}
+use Rattle.edge.specs.Flat.{flag, comparedFlat}
+use Rattle.edge.proofs.bench_compare.Statement.{statement}
+use Rattle.edge.proofs.bench_compare.Tie as tie
+
+compare-requires : tie.Need-compare-requires
+compare-requires c κs = tt
+
+compared-flat-requires : tie.Need-compared-flat-requires
+compared-flat-requires c κs = tt
+
+same-length : tie.Need-same-length
+same-length c = search needs
+
+same-length-2 : tie.Need-same-length-2
+same-length-2 c = search needs
+
+returns : tie.Need-returns
+unfolding flag
+returns c =
+    let k = c .before .before .before .before .before .compare .ensures in
+    (c .compared-flat .ensures ∙ ap comparedFlat (k .numbers), k .traced, k .zeroed)
+
+pub bench-compare-spec : {M : Type 1} → statement M
+bench-compare-spec = tie.close (tie.spec compare-requires compared-flat-requires same-length same-length-2 returns)

@@ -1,0 +1,32 @@
+use borrow.Author.Needs.{needs}
+use Rattle.tests_spec.specs.Numbers.{judged}
+use Rattle.edge.specs.Flat.{saidFlat}
+use Rattle.edge.proofs.judged_flat.Statement.{statement}
+use Rattle.edge.proofs.judged_flat.Tie as tie
+use Rattle.edge.proofs.judged_flat.Reads as reads
+use Rattle.edge.proofs.judged_flat.Lts as lts
+
+enum-told : tie.Need-enum-told
+enum-told c = search needs
+
+enum-told-2 : tie.Need-enum-told-2
+enum-told-2 c = search needs
+
+enum-known-a : tie.Need-enum-known-a
+enum-known-a c = search needs
+
+returns : tie.Need-returns
+unfolding saidFlat judged
+returns c = rw (c .enum-told .given .1)
+
+returns-2 : tie.Need-returns-2
+unfolding saidFlat judged
+returns-2 c = rw (c .enum-told2 .given .1)
+
+returns-3 : tie.Need-returns-3
+unfolding saidFlat judged
+returns-3 c = rw (c .before .a .given .1)
+
+pub judged-flat-spec : {M : Type 1} → statement M
+judged-flat-spec =
+    tie.close (tie.spec enum-told enum-told-2 enum-known-a returns returns-2 returns-3)

@@ -1,0 +1,23 @@
+-- `listed_flat`: each case of the answer.
+use Rattle.probes_spec.specs.Listing.{listedNumbers}
+use Rattle.edge.specs.Flat.{listedFlat}
+use borrow.Author.Needs.{needs}
+use Rattle.edge.proofs.listed_flat.Statement.{statement}
+use Rattle.edge.proofs.listed_flat.Tie as tie
+
+enum-known-a : tie.Need-enum-known-a
+enum-known-a c = search needs
+
+enum-known-a-2 : tie.Need-enum-known-a-2
+enum-known-a-2 c = search needs
+
+returns : tie.Need-returns
+unfolding listedFlat listedNumbers
+returns c = rw (c .before .a .given .1)
+
+returns-2 : tie.Need-returns-2
+unfolding listedFlat listedNumbers
+returns-2 c = rw (c .before .a2 .given .1)
+
+pub listed-flat-spec : {M : Type 1} → statement M
+listed-flat-spec = tie.close (tie.spec enum-known-a enum-known-a-2 returns returns-2)

@@ -1,0 +1,142 @@
+/* Lists probes, runs tests, judges a device and compares it with its reference.
+ *
+ *     rt staticlib edge
+ *     gcc -std=c11 -Iinclude examples/run_tests.c target/staticlib/libedge.a -o run_tests
+ */
+#include <stdio.h>
+#include <string.h>
+
+#include "bench.h"
+
+/* The library and this program agree on the places of each struct. */
+_Static_assert(sizeof(struct bench_listed) == 4 && offsetof(struct bench_listed, count) == 2, "a probe list's answer");
+_Static_assert(sizeof(struct bench_said) == 4 && offsetof(struct bench_said, value) == 2, "an answer");
+_Static_assert(sizeof(struct bench_run) == 10 && offsetof(struct bench_run, traces) == 4, "a record");
+_Static_assert(offsetof(struct bench_run, node) == 6 && offsetof(struct bench_run, depth) == 8, "a record");
+_Static_assert(sizeof(struct bench_stepped) == 14 && offsetof(struct bench_stepped, run) == 4, "an answer and its record");
+_Static_assert(sizeof(struct bench_compared) == 12 && offsetof(struct bench_compared, event) == 6, "a comparison's answer");
+_Static_assert(offsetof(struct bench_compared, probe) == 8, "a comparison's answer");
+
+/* A reference of two nodes and a device of three, with two events. */
+static const uint8_t REFERENCE[19] = {
+    0x00, 0x00, 0x00, 0x0F, 0x01, 0x02, 0x02, 0x01, 0x01, 0x02, 0x00, 0x01, 0x00, 0x02, 0x00, 0x00, 0x01, 0x00, 0x03,
+};
+static const uint8_t DEVICE[22] = {
+    0x00, 0x00, 0x00, 0x12, 0x01, 0x02, 0x03, 0x01, 0x01, 0x01, 0x00,
+    0x03, 0x02, 0x02, 0x01, 0x00, 0x03, 0x00, 0xFF, 0x01, 0x00, 0x01,
+};
+
+static struct bench_sheet reference;
+static struct bench_sheet device;
+
+/* The answer to an opening or a report. */
+static void print_said(const char *what, struct bench_said said) {
+    static const char *const KINDS[5] = {"denied", "going", "stray", "refused", "passed"};
+    printf("%s: %s", what, said.kind < 5 ? KINDS[said.kind] : "no kind");
+    if (said.kind == BENCH_DENIED) {
+        printf(" %d", said.refusal);
+    } else if (said.kind != BENCH_PASSED) {
+        printf(" %d", said.value);
+    }
+    printf("\n");
+}
+
+static void print_run(const struct bench_run *run) {
+    printf("  record: k %d h %d traces %d ended %d node %d depth %d\n", run->k, run->h, run->traces, run->ended, run->node, run->depth);
+}
+
+/* The probes of a node, in a list of so many places of which every one holds 9 before. */
+static void print_probes(uint8_t node, size_t length) {
+    uint16_t out[4] = {9, 9, 9, 9};
+    struct bench_listed listed = bench_list(reference, node, out, length);
+    printf("probes of node %d in %d places: refusal %d count %d, list", node, (int)length, listed.refusal, listed.count);
+    for (int place = 0; place < 4; place++) {
+        printf(" %d", out[place]);
+    }
+    printf("\n");
+}
+
+/* Test 5 against the device, which does event 0 five times and then event 0 again or nothing. */
+static void run_test(uint16_t h) {
+    struct bench_stepped opened = bench_open(reference, 5, h, 0);
+    struct bench_run run = opened.run;
+    printf("test 5 with choice %d\n", h);
+    print_said("  open", opened.answer);
+    for (int count = 0; count < 5; count++) {
+        struct bench_stepped stepped = bench_step(reference, run, 0);
+        struct bench_said said = bench_report(&run, reference, 0);
+        print_said("  event 0", said);
+        if (memcmp(&said, &stepped.answer, sizeof said) != 0 || stepped.run.node != run.node || stepped.run.depth != run.depth) {
+            printf("by value it is another answer\n");
+        }
+    }
+    print_run(&run);
+    print_said("  event 2", bench_report(&run, reference, 2));
+    /* Choice 0 offers the probe 1, which the device does; choice 1 the probe 2, which it may refuse. */
+    print_said("  event 0", bench_report(&run, reference, 0));
+    print_said("  blocked", bench_report(&run, reference, BENCH_BLOCKED));
+    print_run(&run);
+}
+
+/* The verdicts on tests 0 to 6. */
+static void print_verdicts(uint8_t traces) {
+    printf(traces ? "trace-only verdicts:" : "verdicts:");
+    for (uint16_t k = 0; k < 7; k++) {
+        struct bench_said said = bench_judge(reference, device, k, traces);
+        printf(" %d %s", k, said.kind == BENCH_PASSES ? "passes" : said.kind == BENCH_FAILS ? "fails" : "denied");
+    }
+    printf("\n");
+}
+
+/* A comparison with lists of so many places. */
+static void print_comparison(const char *what, const struct bench_sheet *other, uint8_t traces, size_t words, size_t places) {
+    uint16_t work[20];
+    uint8_t trace[8];
+    memset(work, 7, sizeof work);
+    memset(trace, 7, sizeof trace);
+    struct bench_compared answer = bench_compare(reference, *other, traces, work, words, trace, places);
+    printf("%s: refusal %d kind %d d %d cleared %d event %d probe %d acceptance %d\n", what, answer.refusal, answer.kind, answer.d,
+           answer.cleared, answer.event, answer.probe, answer.acceptance);
+    printf("  trace list");
+    for (int place = 0; place < 8; place++) {
+        printf(" %d", trace[place]);
+    }
+    int zeros = 0;
+    while (zeros < 20 && work[zeros] == 0) {
+        zeros++;
+    }
+    printf(", %d words of the work list are 0\n", zeros);
+}
+
+int main(void) {
+    struct bench_read_sheet first = bench_read(REFERENCE, sizeof REFERENCE);
+    struct bench_read_sheet second = bench_read(DEVICE, sizeof DEVICE);
+    printf("read: %d %d\n", first.refusal, second.refusal);
+    reference = first.sheet;
+    device = second.sheet;
+
+    print_probes(0, 4);
+    print_probes(1, 4);
+    print_probes(1, 2);
+    print_probes(1, 1);
+    print_probes(2, 4);
+
+    run_test(0);
+    run_test(1);
+    print_said("test 1024", bench_open(reference, 1024, 0, 0).answer);
+    struct bench_stepped traces = bench_open(reference, 0, 0, 200);
+    print_run(&traces.run);
+    print_said("trace-only test 0, blocked", bench_report(&traces.run, reference, 65535));
+    print_run(&traces.run);
+
+    print_verdicts(0);
+    print_verdicts(1);
+    printf("verdict on test 1024: refusal %d\n", bench_judge(reference, device, 1024, 0).refusal);
+
+    print_comparison("compared", &device, 0, 18, 5);
+    print_comparison("traces alone", &device, 1, 18, 5);
+    print_comparison("with 17 words", &device, 0, 17, 5);
+    print_comparison("with 4 places", &device, 0, 18, 4);
+    print_comparison("with itself", &reference, 0, 12, 3);
+    return 0;
+}

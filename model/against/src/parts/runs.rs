@@ -1,0 +1,216 @@
+//! Openings and reports: whole runs of random sheets against random devices, of both
+//! kinds, with refused reports in between, and records and reports of any content.
+
+use model::numbers::{open_numbers, report_of, step_numbers, stepped, Record, Stepped};
+use model::planted::runs::{open_with, step_with, RunFault};
+use model::random::{deep_pair, pair, random_record, random_sheet, Rng};
+use model::sheet::{after, Sheet};
+use model::tests::{Report, MAX_TEST};
+use model::verdict::device_reports;
+
+use super::{bad_sheet, catch, flag, names, shown_sheet};
+use crate::edge;
+use crate::findings::Findings;
+use crate::play::Part;
+
+const OPEN: &str = "open, 0 opened or the refusal";
+const STEP: &str = "report, 0 answered or the refusal";
+const RUNS: &str = "runs ended, 2 stray, 3 refused, 4 passed by an event, 5 passed by blocking";
+const TRACES: &str = "trace-only runs ended, 2 stray, 4 passed by an event, 5 passed by blocking";
+const DEEP: &str = "runs with 0, 1 to 9, 10 to 99, 100 and more accepted events by their digits";
+const FLAGS: &str = "records with a flag 0, 1, 2 other";
+
+pub const PART: Part = Part {
+    name: "runs",
+    rounds: 4_000,
+    findings,
+    round,
+    demands: |_| {},
+};
+
+fn findings() -> Findings {
+    let groups = vec![
+        (OPEN, vec![0, 3, 5, 6, 7, 8, 14]),
+        (STEP, vec![0, 3, 5, 6, 7, 8, 9, 15, 16, 17]),
+        (RUNS, vec![2, 3, 4, 5]),
+        (TRACES, vec![2, 4, 5]),
+        (DEEP, vec![0, 1, 2, 3]),
+        (FLAGS, vec![0, 1, 2]),
+    ];
+    Findings::new(groups, names(RunFault::ALL))
+}
+
+/// A whole run, some records and reports of any content, and sheets of any content.
+fn round(rng: &mut Rng, _round: u64, findings: &mut Findings) {
+    let (reference, device) = if rng.one_in(6) {
+        deep_pair(rng)
+    } else {
+        pair(rng)
+    };
+    play(rng, findings, &reference, &device);
+    let sheet = random_sheet(rng);
+    for _ in 0..3 {
+        let record = any_record(rng, &sheet);
+        let code = any_code(rng, &sheet);
+        try_step(findings, &sheet, &record, code);
+    }
+    let bad = bad_sheet(rng);
+    let record = any_record(rng, &bad);
+    let code = any_code(rng, &bad);
+    try_step(findings, &bad, &record, code);
+    let (k, h) = (any_number(rng), rng.word());
+    let traces = rng.one_in(2);
+    let traces = flag(rng, traces);
+    try_open(findings, &bad, k, h, traces);
+    let k = rng.pick(&[MAX_TEST, MAX_TEST + 1, MAX_TEST + 2, 65_535, 0, 1]);
+    try_open(findings, &sheet, k, h, traces);
+}
+
+/// A test number, at times too high.
+fn any_number(rng: &mut Rng) -> u16 {
+    match rng.below(6) {
+        0 => 0,
+        1 => rng.range(1, 3) as u16,
+        2 => rng.range(4, 40) as u16,
+        3 => rng.below(1_024) as u16,
+        4 => MAX_TEST,
+        _ => rng.pick(&[MAX_TEST + 1, 2_000, 65_535]),
+    }
+}
+
+/// A record with flags of any number.
+fn any_record(rng: &mut Rng, sheet: &Sheet) -> Record {
+    let run = random_record(rng, sheet);
+    Record {
+        k: run.k,
+        h: run.h,
+        traces: flag(rng, run.trace_only),
+        ended: flag(rng, run.ended),
+        node: run.node,
+        depth: run.depth,
+    }
+}
+
+/// A report's code: an event of the sheet, one that it has not, or blocked.
+fn any_code(rng: &mut Rng, sheet: &Sheet) -> u16 {
+    match rng.below(6) {
+        0 => rng.pick(&[256, 257, 511, 512, 32_768, 65_535]),
+        1 => rng.pick(&[u16::from(sheet.e), 12, 13, 15, 16, 17, 255]),
+        2 => rng.word(),
+        _ => rng.below((sheet.e as usize).max(1)) as u16,
+    }
+}
+
+/// A whole run: opened by the library, with the reports that the device can give, chosen
+/// at random, and with refused ones in between, until it has ended and once after that.
+fn play(rng: &mut Rng, findings: &mut Findings, reference: &Sheet, device: &Sheet) {
+    let k = any_number(rng).min(MAX_TEST);
+    let h = if rng.one_in(2) {
+        rng.word()
+    } else {
+        rng.below(40) as u16
+    };
+    let trace_only = rng.one_in(3);
+    let traces = flag(rng, trace_only);
+    let opened = try_open(findings, reference, k, h, traces);
+    let (mut record, mut offer, mut at) = (opened.run, opened.answer.value, 0u8);
+    for count in 0..=u64::from(k) {
+        if rng.one_in(8) {
+            let code = any_code(rng, reference);
+            let refused = step_numbers(reference, &record, code).answer.refusal != 0;
+            if refused {
+                try_step(findings, reference, &record, code);
+            }
+        }
+        let mut reports = device_reports(&device.row(at), device.e, offer);
+        let on = |report: &Report| {
+            let Report::Event(event) = *report else {
+                return false;
+            };
+            after(reference, record.node, event).is_some()
+        };
+        // Strays and blocks come late, so that runs go deep.
+        if reports.iter().any(on) && record.depth < record.k && !rng.one_in(30) {
+            reports.retain(on);
+        }
+        if reports.is_empty() {
+            return;
+        }
+        let report = rng.pick(&reports);
+        let code = match report {
+            Report::Event(event) => u16::from(event),
+            Report::Blocked => rng.pick(&[256, 256, 256, 300, 65_535]),
+        };
+        let answered = try_step(findings, reference, &record, code);
+        record = answered.run;
+        offer = answered.answer.value;
+        let kind = u64::from(answered.answer.kind);
+        match (kind, report) {
+            (1, Report::Event(event)) => match after(device, at, event) {
+                Some(next) => at = next,
+                None => return,
+            },
+            _ => {
+                let by_block = kind == 4 && report == Report::Blocked;
+                let group = if trace_only { TRACES } else { RUNS };
+                findings.count(group, kind + u64::from(by_block));
+                findings.count(DEEP, digits(count));
+                let code = any_code(rng, reference);
+                try_step(findings, reference, &record, code);
+                return;
+            }
+        }
+    }
+}
+
+fn digits(count: u64) -> u64 {
+    match count {
+        0 => 0,
+        1..=9 => 1,
+        10..=99 => 2,
+        _ => 3,
+    }
+}
+
+/// One opening by the library, by the model, and by each fault that is not caught yet.
+fn try_open(findings: &mut Findings, sheet: &Sheet, k: u16, h: u16, traces: u8) -> Stepped {
+    let ours = edge::open(sheet, k, h, traces);
+    let model = open_numbers(sheet, k, h, traces);
+    findings.compared(ours == model, || {
+        format!(
+            "open {k} {h} {traces} on {}: model {model:?}, library {ours:?}",
+            shown_sheet(sheet)
+        )
+    });
+    findings.count(OPEN, u64::from(model.answer.refusal));
+    catch(findings, RunFault::ALL, |fault| {
+        let other = open_with(fault, sheet, k, h, traces != 0);
+        stepped(&Record::ZERO, other) != ours
+    });
+    ours
+}
+
+/// One report by the library, by value and in place, by the model, and by each fault that
+/// is not caught yet.
+fn try_step(findings: &mut Findings, sheet: &Sheet, record: &Record, code: u16) -> Stepped {
+    let ours = edge::step(sheet, record, code);
+    let model = step_numbers(sheet, record, code);
+    let mut run = *record;
+    let answer = edge::report(&mut run, sheet, code);
+    let placed = Stepped { answer, run };
+    findings.compared(ours == model && placed == model, || {
+        format!(
+            "report {code} to {record:?} on {}: model {model:?}, library by value {ours:?}, in place {placed:?}",
+            shown_sheet(sheet)
+        )
+    });
+    findings.count(STEP, u64::from(model.answer.refusal));
+    for number in [record.traces, record.ended] {
+        findings.count(FLAGS, u64::from(number.min(2)));
+    }
+    catch(findings, RunFault::ALL, |fault| {
+        let other = step_with(fault, sheet, &record.run(), report_of(code));
+        stepped(record, other) != ours
+    });
+    ours
+}

@@ -1,0 +1,151 @@
+//! Verdicts: every test below p·q on small pairs, chosen tests on large ones, both kinds,
+//! and sheets and test numbers that are refused.
+
+use model::comparison::{compare, Outcome};
+use model::numbers::{judge_numbers, judged};
+use model::planted::verdicts::{verdict_with, VerdictFault};
+use model::random::{deep_pair, pair, random_sheet, small_pair, Rng};
+use model::sheet::Sheet;
+use model::tests::MAX_TEST;
+use model::verdict::verdicts;
+
+use super::{bad_sheet, catch, flag, names, shown_sheet};
+use crate::edge;
+use crate::findings::Findings;
+use crate::play::Part;
+
+const JUDGE: &str = "judge, 0 judged or the refusal";
+const VERDICT: &str = "judged, 1 passes, 2 fails, 3 and 4 the same of trace-only tests";
+const NUMBER: &str = "judged tests 0, 1 to 9, 10 to 99, 100 to 999, 1000 and more by their digits";
+const SMALL: &str = "pairs whose tests below p q are all judged";
+const LATER: &str = "pairs with a test that passes after one that fails";
+
+pub const PART: Part = Part {
+    name: "verdicts",
+    rounds: 2_000,
+    findings,
+    round,
+    demands: |_| {},
+};
+
+fn findings() -> Findings {
+    let groups = vec![
+        (JUDGE, vec![0, 3, 5, 6, 7, 8, 11, 14]),
+        (VERDICT, vec![1, 2, 3, 4]),
+        (NUMBER, vec![0, 1, 2, 3, 4]),
+        (SMALL, vec![1]),
+        (LATER, vec![1]),
+    ];
+    Findings::new(groups, names(VerdictFault::ALL))
+}
+
+/// A small pair with every test, a large one with some, and some calls that are refused.
+fn round(rng: &mut Rng, round: u64, findings: &mut Findings) {
+    let trace_only = round % 3 == 0;
+    let (reference, device) = small_pair(rng);
+    let all = u16::from(reference.n) * u16::from(device.n);
+    let numbers: Vec<u16> = (0..all).collect();
+    findings.count(SMALL, 1);
+    for kind in [false, true] {
+        judge_all(rng, findings, (&reference, &device), &numbers, kind);
+    }
+    let (reference, device) = match round % 4 {
+        0 | 1 => deep_pair(rng),
+        _ => pair(rng),
+    };
+    let numbers = chosen(rng, &reference, &device, trace_only);
+    judge_all(rng, findings, (&reference, &device), &numbers, trace_only);
+    refused(rng, findings, &reference, &device);
+}
+
+/// Tests around the distance of the nearest violation, the wrong bounds and the right one.
+fn chosen(rng: &mut Rng, reference: &Sheet, device: &Sheet, trace_only: bool) -> Vec<u16> {
+    let (p, q) = (u16::from(reference.n), u16::from(device.n));
+    let mut numbers = vec![0, p * q - 1, p + q, p.max(q), rng.below(1_024) as u16];
+    if rng.one_in(4) {
+        numbers.push(MAX_TEST);
+    }
+    if let Ok(Outcome::Violates { d, .. }) = compare(reference, device, trace_only, 3_072, 1_023) {
+        numbers.extend([d.saturating_sub(1), d, d + 1]);
+    }
+    numbers.retain(|&k| k <= MAX_TEST);
+    numbers.sort_unstable();
+    numbers.dedup();
+    numbers
+}
+
+/// Some tests by the library, by the model in one sweep, and by each fault that is not
+/// caught yet.
+fn judge_all(
+    rng: &mut Rng,
+    findings: &mut Findings,
+    (reference, device): (&Sheet, &Sheet),
+    numbers: &[u16],
+    trace_only: bool,
+) {
+    let most = numbers.iter().max().map_or(0, |k| k + 1);
+    let model = verdicts(reference, device, most, trace_only);
+    let mut failed = false;
+    let mut later = false;
+    for &k in numbers {
+        let model = judged(model.as_ref().map(|all| all[k as usize]).map_err(|&n| n));
+        let traces = flag(rng, trace_only);
+        let ours = edge::judge(reference, device, k, traces);
+        findings.compared(ours == model, || {
+            format!(
+                "judge {k} {traces} on {} against {}: model {model:?}, library {ours:?}",
+                shown_sheet(device),
+                shown_sheet(reference)
+            )
+        });
+        findings.count(JUDGE, u64::from(model.refusal));
+        findings.count(VERDICT, u64::from(model.kind) + 2 * u64::from(trace_only));
+        findings.count(NUMBER, digits(k));
+        later |= failed && model.kind == 1;
+        failed |= model.kind == 2;
+        catch(findings, VerdictFault::ALL, |fault| {
+            judged(verdict_with(fault, reference, device, k, trace_only)) != ours
+        });
+    }
+    if later {
+        findings.count(LATER, 1);
+    }
+}
+
+/// One call that is refused, or not: sheets of any content, other events, a test too high.
+fn refused(rng: &mut Rng, findings: &mut Findings, reference: &Sheet, device: &Sheet) {
+    let (mut first, mut second) = (*reference, *device);
+    let mut k = rng.pick(&[0, 1, 2, MAX_TEST + 1, 65_535]);
+    match rng.below(6) {
+        0 => first = bad_sheet(rng),
+        1 => second = bad_sheet(rng),
+        2 => (first, second) = (bad_sheet(rng), bad_sheet(rng)),
+        3 | 4 => second = random_sheet(rng),
+        _ => k = rng.pick(&[MAX_TEST + 1, 2_000, 65_535]),
+    }
+    let trace_only = rng.one_in(2);
+    let traces = flag(rng, trace_only);
+    let ours = edge::judge(&first, &second, k, traces);
+    let model = judge_numbers(&first, &second, k, traces);
+    findings.compared(ours == model, || {
+        format!(
+            "judge {k} {traces} on {} against {}: model {model:?}, library {ours:?}",
+            shown_sheet(&second),
+            shown_sheet(&first)
+        )
+    });
+    findings.count(JUDGE, u64::from(model.refusal));
+    catch(findings, VerdictFault::ALL, |fault| {
+        judged(verdict_with(fault, &first, &second, k, trace_only)) != ours
+    });
+}
+
+fn digits(k: u16) -> u64 {
+    match k {
+        0 => 0,
+        1..=9 => 1,
+        10..=99 => 2,
+        100..=999 => 3,
+        _ => 4,
+    }
+}

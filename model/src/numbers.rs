@@ -1,0 +1,226 @@
+//! The answers and records of the calls in numbers, as they cross the edge, in the layout
+//! of C.
+
+use crate::comparison::{compare_into, Named, Outcome};
+use crate::probes::fill;
+use crate::sheet::Sheet;
+use crate::tests::{open, step, Answer, Report, Run};
+use crate::verdict::{verdict, Verdict};
+
+/// The answer of a probe list: the refusal, 0 for none, and how many probes there are.
+#[repr(C)]
+#[derive(Clone, Copy, PartialEq, Eq, Debug)]
+pub struct Listed {
+    pub refusal: u8,
+    pub count: u16,
+}
+
+/// An answer to an opening, a report or a verdict: the refusal, 0 for none; which case it
+/// is, 0 for a refusal; the event or the set of that case.
+#[repr(C)]
+#[derive(Clone, Copy, PartialEq, Eq, Debug)]
+pub struct Said {
+    pub refusal: u8,
+    pub kind: u8,
+    pub value: u16,
+}
+
+/// A run's record. A flag is false as 0 and true as any other number.
+#[repr(C)]
+#[derive(Clone, Copy, PartialEq, Eq, Debug)]
+pub struct Record {
+    pub k: u16,
+    pub h: u16,
+    pub traces: u8,
+    pub ended: u8,
+    pub node: u8,
+    pub depth: u16,
+}
+
+/// An answer and the record after it.
+#[repr(C)]
+#[derive(Clone, Copy, PartialEq, Eq, Debug)]
+pub struct Stepped {
+    pub answer: Said,
+    pub run: Record,
+}
+
+/// The answer of a comparison: the refusal, 0 for none; which case it is; d, cleared, and
+/// what is named.
+#[repr(C)]
+#[derive(Clone, Copy, PartialEq, Eq, Debug)]
+pub struct Compared {
+    pub refusal: u8,
+    pub kind: u8,
+    pub d: u16,
+    pub cleared: u16,
+    pub event: u8,
+    pub probe: u16,
+    pub acceptance: u16,
+}
+
+impl Record {
+    /// The record of a refused opening.
+    pub const ZERO: Record = Record {
+        k: 0,
+        h: 0,
+        traces: 0,
+        ended: 0,
+        node: 0,
+        depth: 0,
+    };
+
+    /// The record that the numbers are.
+    pub fn run(&self) -> Run {
+        Run {
+            k: self.k,
+            h: self.h,
+            trace_only: self.traces != 0,
+            ended: self.ended != 0,
+            node: self.node,
+            depth: self.depth,
+        }
+    }
+
+    /// The numbers of a record that was these numbers before: a flag that stays as it
+    /// was keeps its number.
+    pub fn after(&self, run: &Run) -> Record {
+        let flag = |old: u8, now: bool| match (old != 0, now) {
+            (before, after) if before == after => old,
+            (_, after) => u8::from(after),
+        };
+        Record {
+            k: run.k,
+            h: run.h,
+            traces: flag(self.traces, run.trace_only),
+            ended: flag(self.ended, run.ended),
+            node: run.node,
+            depth: run.depth,
+        }
+    }
+}
+
+/// The report of a code: 0 to 255 is that event, any other number is "blocked".
+pub fn report_of(code: u16) -> Report {
+    match u8::try_from(code) {
+        Ok(event) => Report::Event(event),
+        Err(_) => Report::Blocked,
+    }
+}
+
+/// The numbers of an answer.
+pub fn said(answer: Answer) -> Said {
+    let (refusal, kind, value) = match answer {
+        Answer::Denied(number) => (number, 0, 0),
+        Answer::Going(set) => (0, 1, set),
+        Answer::Stray(event) => (0, 2, u16::from(event)),
+        Answer::Refused(set) => (0, 3, set),
+        Answer::Passed => (0, 4, 0),
+    };
+    Said {
+        refusal,
+        kind,
+        value,
+    }
+}
+
+/// The numbers of an answer and of the record after it.
+pub fn stepped(before: &Record, (answer, run): (Answer, Run)) -> Stepped {
+    Stepped {
+        answer: said(answer),
+        run: before.after(&run),
+    }
+}
+
+/// The numbers of a probe list's answer.
+pub fn listed(answer: Result<usize, u8>) -> Listed {
+    Listed {
+        refusal: answer.err().unwrap_or(0),
+        count: answer.map_or(0, |count| count as u16),
+    }
+}
+
+/// The numbers of a verdict.
+pub fn judged(answer: Result<Verdict, u8>) -> Said {
+    let (refusal, kind) = match answer {
+        Ok(Verdict::Passes) => (0, 1),
+        Ok(Verdict::Fails) => (0, 2),
+        Err(number) => (number, 0),
+    };
+    Said {
+        refusal,
+        kind,
+        value: 0,
+    }
+}
+
+/// The numbers of a comparison's answer.
+pub fn compared(answer: &Result<Outcome, u8>) -> Compared {
+    let zero = Compared {
+        refusal: 0,
+        kind: 0,
+        d: 0,
+        cleared: 0,
+        event: 0,
+        probe: 0,
+        acceptance: 0,
+    };
+    match *answer {
+        Err(refusal) => Compared { refusal, ..zero },
+        Ok(Outcome::Refines { cleared }) => Compared {
+            kind: 1,
+            cleared,
+            ..zero
+        },
+        Ok(Outcome::Violates {
+            d, cleared, named, ..
+        }) => match named {
+            Named::Stray(event) => Compared {
+                kind: 2,
+                d,
+                cleared,
+                event,
+                ..zero
+            },
+            Named::Refused { probe, acceptance } => Compared {
+                kind: 3,
+                d,
+                cleared,
+                probe,
+                acceptance,
+                ..zero
+            },
+        },
+    }
+}
+
+/// The probe call in numbers.
+pub fn list_numbers(sheet: &Sheet, node: u8, lent: &mut [u16]) -> Listed {
+    listed(fill(sheet, node, lent))
+}
+
+/// The opening in numbers.
+pub fn open_numbers(sheet: &Sheet, k: u16, h: u16, traces: u8) -> Stepped {
+    stepped(&Record::ZERO, open(sheet, k, h, traces != 0))
+}
+
+/// The report in numbers.
+pub fn step_numbers(sheet: &Sheet, record: &Record, code: u16) -> Stepped {
+    stepped(record, step(sheet, &record.run(), report_of(code)))
+}
+
+/// The verdict in numbers.
+pub fn judge_numbers(reference: &Sheet, device: &Sheet, k: u16, traces: u8) -> Said {
+    judged(verdict(reference, device, k, traces != 0))
+}
+
+/// The comparison in numbers.
+pub fn compare_numbers(
+    reference: &Sheet,
+    device: &Sheet,
+    traces: u8,
+    work: &mut [u16],
+    trace: &mut [u8],
+) -> Compared {
+    compared(&compare_into(reference, device, traces != 0, work, trace))
+}

@@ -1,0 +1,309 @@
+//! Comparisons with a fault planted.
+
+use std::collections::{BTreeMap, BTreeSet};
+
+use super::faults;
+use crate::comparison::{refuses, strays, Named, Outcome};
+use crate::probes::probes;
+use crate::sheet::{accept, after, Sheet};
+
+faults! {
+    /// One planted fault of a comparison, or none.
+    CompareFault {
+        /// The search stops at depth p + q.
+        DepthSum,
+        /// The search stops at the larger number of nodes.
+        DepthLarger,
+        /// Acceptances are compared for equality.
+        AcceptancesEqual,
+        /// The empty acceptance of the reference is taken as "no rule here".
+        EmptyIsNoRule,
+        /// The empty acceptance of the device is skipped.
+        DeviceStopSkipped,
+        /// Every pair after the start is counted as good.
+        LaterGood,
+        /// Everything refines.
+        AlwaysRefines,
+        /// Cleared counts the pairs at distance d too.
+        ClearedAtD,
+        /// Cleared counts only the pairs at distance d - 1.
+        ClearedLastLayer,
+        /// The trace is the greatest by event number.
+        GreatestTrace,
+        /// A refusal is named before a stray.
+        RefusalFirst,
+        /// The largest stray is named.
+        LargestStray,
+        /// The last probe that is missed is named.
+        LastProbe,
+        /// The highest acceptance that misses the probe is named.
+        HighestAcceptance,
+        /// The probe and the acceptance are exchanged.
+        NamesExchanged,
+        /// The trace is one event short.
+        TraceShort,
+        /// The trace is written from its end on.
+        TraceReversed,
+        /// Nothing is written to the trace list.
+        NothingWritten,
+        /// The rest of the trace list is set to 0.
+        RestCleared,
+        /// The last word of the work list is left.
+        WorkWordLeft,
+        /// Later words of the work list are set to 0 too.
+        WorkBeyond,
+        /// 12: an exact list is refused.
+        WorkExactRefused,
+        /// 12: a list one short is accepted.
+        WorkShortAccepted,
+        /// 13: an exact list is refused.
+        TraceExactRefused,
+        /// 13: a list one short is accepted where the trace fits.
+        TraceShortAccepted,
+        /// 13 is looked for before 12.
+        ThirteenFirst,
+        /// 12 is looked for before 11.
+        TwelveFirst,
+        /// A refusal sets the work list to 0.
+        RefusalClears,
+        /// The device is checked before the reference.
+        DeviceFirst,
+        /// A trace-only comparison counts refusals.
+        TracesIgnored,
+        /// Every comparison is trace-only.
+        TracesAlways,
+    }
+}
+
+/// The comparison on two lent lists.
+pub fn compare_with(
+    fault: CompareFault,
+    reference: &Sheet,
+    device: &Sheet,
+    trace_only: bool,
+    work: &mut [u16],
+    list: &mut [u8],
+) -> Result<Outcome, u8> {
+    let admitted = admit(fault, reference, device, work.len(), list.len());
+    if fault == CompareFault::RefusalClears && admitted.is_err() {
+        work.fill(0);
+    }
+    admitted?;
+    let trace_only = match fault {
+        CompareFault::TracesIgnored => false,
+        CompareFault::TracesAlways => true,
+        _ => trace_only,
+    };
+    let outcome = Search {
+        fault,
+        reference,
+        device,
+        trace_only,
+    }
+    .outcome();
+    let words = 3 * reference.n as usize * device.n as usize;
+    let cleared = match fault {
+        CompareFault::WorkWordLeft => words - 1,
+        CompareFault::WorkBeyond => work.len(),
+        _ => words.min(work.len()),
+    };
+    work[..cleared].fill(0);
+    if let Outcome::Violates { trace, .. } = &outcome {
+        write(fault, trace, list);
+    }
+    Ok(outcome)
+}
+
+fn write(fault: CompareFault, trace: &[u8], list: &mut [u8]) {
+    let mut events = trace.to_vec();
+    match fault {
+        CompareFault::NothingWritten => events.clear(),
+        CompareFault::TraceShort => {
+            events.pop();
+        }
+        CompareFault::TraceReversed => events.reverse(),
+        _ => {}
+    }
+    for (place, event) in list.iter_mut().zip(&events) {
+        *place = *event;
+    }
+    if fault == CompareFault::RestCleared {
+        let start = events.len().min(list.len());
+        list[start..].fill(0);
+    }
+}
+
+fn admit(
+    fault: CompareFault,
+    reference: &Sheet,
+    device: &Sheet,
+    work: usize,
+    list: usize,
+) -> Result<(), u8> {
+    if fault == CompareFault::DeviceFirst {
+        accept(device)?;
+    }
+    accept(reference)?;
+    accept(device)?;
+    let pairs = reference.n as usize * device.n as usize;
+    let test = |bad: bool, number: u8| if bad { Err(number) } else { Ok(()) };
+    let events = test(reference.e != device.e, 11);
+    let words = match fault {
+        CompareFault::WorkExactRefused => work <= 3 * pairs,
+        CompareFault::WorkShortAccepted => work + 1 < 3 * pairs,
+        _ => work < 3 * pairs,
+    };
+    let words = test(words, 12);
+    let places = match fault {
+        CompareFault::TraceExactRefused => list < pairs,
+        CompareFault::TraceShortAccepted => list + 2 < pairs,
+        _ => list + 1 < pairs,
+    };
+    let places = test(places, 13);
+    match fault {
+        CompareFault::ThirteenFirst => events.and(places).and(words),
+        CompareFault::TwelveFirst => words.and(events).and(places),
+        _ => events.and(words).and(places),
+    }
+}
+
+/// A search for the nearest violation.
+struct Search<'a> {
+    fault: CompareFault,
+    reference: &'a Sheet,
+    device: &'a Sheet,
+    trace_only: bool,
+}
+
+type Layer = BTreeMap<(u8, u8), Vec<u8>>;
+
+impl Search<'_> {
+    fn outcome(&self) -> Outcome {
+        let (p, q) = (self.reference.n as usize, self.device.n as usize);
+        let deepest = match self.fault {
+            CompareFault::DepthSum => p + q,
+            CompareFault::DepthLarger => p.max(q),
+            CompareFault::LaterGood => 0,
+            _ => p * q,
+        };
+        let mut nearer: BTreeSet<(u8, u8)> = BTreeSet::new();
+        let mut layer: Layer = BTreeMap::from([((0, 0), Vec::new())]);
+        let mut depth = 0;
+        let mut before = 0;
+        while !layer.is_empty() {
+            let bad = layer.iter().filter(|(&pair, _)| self.violating(pair));
+            let found = match self.fault {
+                CompareFault::GreatestTrace => bad.max_by_key(|(_, trace)| *trace),
+                _ => bad.min_by_key(|(_, trace)| *trace),
+            };
+            let looked = depth <= deepest && self.fault != CompareFault::AlwaysRefines;
+            if let (Some((&pair, trace)), true) = (found, looked) {
+                let cleared = match self.fault {
+                    CompareFault::ClearedAtD => nearer.len() + layer.len(),
+                    CompareFault::ClearedLastLayer => before,
+                    _ => nearer.len(),
+                };
+                return Outcome::Violates {
+                    d: depth as u16,
+                    cleared: cleared as u16,
+                    trace: trace.clone(),
+                    named: self.name(pair),
+                };
+            }
+            before = layer.len();
+            nearer.extend(layer.keys());
+            layer = self.next(&layer, &nearer);
+            depth += 1;
+        }
+        Outcome::Refines {
+            cleared: nearer.len() as u16,
+        }
+    }
+
+    fn violating(&self, pair: (u8, u8)) -> bool {
+        let (row, other) = (self.reference.row(pair.0), self.device.row(pair.1));
+        let free = self.fault == CompareFault::EmptyIsNoRule && row.may_stop();
+        if strays(self.reference, self.device, pair) && !free {
+            return true;
+        }
+        if self.trace_only {
+            return false;
+        }
+        let mut sets = other.acceptances().iter();
+        match self.fault {
+            CompareFault::AcceptancesEqual => sets.any(|set| !row.acceptances().contains(set)),
+            CompareFault::DeviceStopSkipped if other.may_stop() => false,
+            _ => refuses(self.reference, self.device, pair),
+        }
+    }
+
+    fn next(&self, layer: &Layer, nearer: &BTreeSet<(u8, u8)>) -> Layer {
+        let mut next = Layer::new();
+        for (&(a, b), trace) in layer {
+            for event in 0..self.reference.e {
+                let steps = (
+                    after(self.reference, a, event),
+                    after(self.device, b, event),
+                );
+                let (Some(a_next), Some(b_next)) = steps else {
+                    continue;
+                };
+                if nearer.contains(&(a_next, b_next)) {
+                    continue;
+                }
+                let longer = [&trace[..], &[event]].concat();
+                let kept = next
+                    .entry((a_next, b_next))
+                    .or_insert_with(|| longer.clone());
+                let better = match self.fault {
+                    CompareFault::GreatestTrace => longer > *kept,
+                    _ => longer < *kept,
+                };
+                if better {
+                    *kept = longer;
+                }
+            }
+        }
+        next
+    }
+
+    fn name(&self, pair: (u8, u8)) -> Named {
+        let outside = self.device.initials(pair.1) & !self.reference.initials(pair.0);
+        let refused = self.refused(pair);
+        match (outside, refused) {
+            (0, Some(named)) => named,
+            (0, None) => Named::Refused {
+                probe: 0,
+                acceptance: 0,
+            },
+            (_, Some(named)) if self.fault == CompareFault::RefusalFirst => named,
+            _ if self.fault == CompareFault::LargestStray => {
+                Named::Stray(15 - outside.leading_zeros() as u8)
+            }
+            _ => Named::Stray(outside.trailing_zeros() as u8),
+        }
+    }
+
+    fn refused(&self, pair: (u8, u8)) -> Option<Named> {
+        let row = self.device.row(pair.1);
+        let mut list = probes(self.reference, pair.0);
+        if self.fault == CompareFault::LastProbe {
+            list.reverse();
+        }
+        list.iter().find_map(|&probe| {
+            let missing = row.acceptances().iter().filter(|&set| set & probe == 0);
+            let acceptance = match self.fault {
+                CompareFault::HighestAcceptance => missing.max(),
+                _ => missing.min(),
+            };
+            let acceptance = *acceptance?;
+            Some(match self.fault {
+                CompareFault::NamesExchanged => Named::Refused {
+                    probe: acceptance,
+                    acceptance: probe,
+                },
+                _ => Named::Refused { probe, acceptance },
+            })
+        })
+    }
+}

@@ -1,0 +1,27 @@
+//! One-fault variants of the calls on probes, runs, verdicts and comparisons, and of the
+//! text. With the fault `None` each of them answers as the plain model does.
+
+pub mod comparisons;
+pub mod probes;
+pub mod runs;
+pub mod text;
+pub mod verdicts;
+
+/// The faults of a call, in the order in which they are planted; `None` is not among them.
+macro_rules! faults {
+    ($(#[$what:meta])* $name:ident { $($(#[$doc:meta])* $fault:ident,)* }) => {
+        $(#[$what])*
+        #[derive(Clone, Copy, PartialEq, Eq, Debug)]
+        pub enum $name {
+            /// No fault.
+            None,
+            $($(#[$doc])* $fault,)*
+        }
+
+        impl $name {
+            /// Every planted fault.
+            pub const ALL: &'static [$name] = &[$($name::$fault,)*];
+        }
+    };
+}
+use faults;

@@ -1,0 +1,110 @@
+//! The text of `compare` with a fault planted.
+
+use super::faults;
+use crate::sheet::read;
+use crate::text::{output, MAX_INPUT};
+
+faults! {
+    /// One planted fault of the text, or none.
+    TextFault {
+        /// One byte less is read.
+        OneByteLess,
+        /// One byte more is read.
+        OneByteMore,
+        /// The first sheet ends where its length field says, without adding 4.
+        SplitWithoutFour,
+        /// An empty trace has a blank at its end.
+        BlankAfterTrace,
+        /// Events stand side by side.
+        NoBlanks,
+        /// Nodes and events are exchanged in the first lines.
+        HeadsExchanged,
+        /// The last line has no newline.
+        NoLastNewline,
+        /// The lines of a violation stand in another order.
+        NamedBeforeTrace,
+        /// A refused device stands alone.
+        DeviceAlone,
+        /// Unequal events stand after one line only.
+        ElevenAfterOne,
+        /// Cleared is one more.
+        ClearedOneMore,
+    }
+}
+
+/// The output for an input of bytes.
+pub fn output_with(fault: TextFault, input: &[u8]) -> String {
+    let most = match fault {
+        TextFault::OneByteLess => MAX_INPUT - 1,
+        TextFault::OneByteMore => MAX_INPUT + 1,
+        _ => MAX_INPUT,
+    };
+    let input = &input[..input.len().min(most)];
+    let plain = if input.len() > MAX_INPUT {
+        one_more(input)
+    } else {
+        output(input)
+    };
+    let lines: Vec<&str> = plain.lines().collect();
+    let join = |lines: &[String]| -> String { lines.iter().map(|l| format!("{l}\n")).collect() };
+    let owned = |lines: &[&str]| -> Vec<String> { lines.iter().map(|l| l.to_string()).collect() };
+    match fault {
+        TextFault::SplitWithoutFour => shifted(input).unwrap_or(plain),
+        TextFault::BlankAfterTrace => plain.replace("trace\n", "trace \n"),
+        TextFault::NoBlanks => {
+            let line = |l: &&str| match l.strip_prefix("trace ") {
+                Some(events) => format!("trace {}", events.replace(' ', "")),
+                None => l.to_string(),
+            };
+            join(&lines.iter().map(line).collect::<Vec<_>>())
+        }
+        TextFault::HeadsExchanged => {
+            let line = |l: &&str| {
+                let words: Vec<&str> = l.split(' ').collect();
+                match words[..] {
+                    [who, n, "nodes", e, "events"] => format!("{who} {e} nodes {n} events"),
+                    _ => l.to_string(),
+                }
+            };
+            join(&lines.iter().map(line).collect::<Vec<_>>())
+        }
+        TextFault::NoLastNewline => plain.trim_end_matches('\n').to_string(),
+        TextFault::NamedBeforeTrace if lines.len() == 5 => {
+            join(&owned(&[lines[0], lines[1], lines[2], lines[4], lines[3]]))
+        }
+        TextFault::DeviceAlone if lines.len() == 2 && lines[1].starts_with("device refused") => {
+            join(&owned(&lines[1..]))
+        }
+        TextFault::ElevenAfterOne if plain.contains("comparison refused") => {
+            join(&owned(&[lines[0], lines[2]]))
+        }
+        TextFault::ClearedOneMore => {
+            let line = |l: &&str| match l.rsplit_once("cleared ") {
+                Some((front, count)) => {
+                    let count: u32 = count.parse().unwrap_or(0);
+                    format!("{front}cleared {}", count + 1)
+                }
+                None => l.to_string(),
+            };
+            join(&lines.iter().map(line).collect::<Vec<_>>())
+        }
+        _ => plain,
+    }
+}
+
+/// The output where one byte more than allowed is read: the second sheet has that byte.
+fn one_more(input: &[u8]) -> String {
+    let field = u32::from_be_bytes([input[0], input[1], input[2], input[3]]) as usize + 4;
+    let plain = output(input);
+    let second = input.get(field..).unwrap_or(&[]);
+    match (plain.rsplit_once("device refused "), read(second)) {
+        (Some((front, _)), Err(number)) => format!("{front}device refused {number}\n"),
+        _ => plain,
+    }
+}
+
+/// The output where the split comes 4 bytes too early: the first sheet is then refused.
+fn shifted(input: &[u8]) -> Option<String> {
+    let field = u32::from_be_bytes(*input.first_chunk::<4>()?) as usize;
+    (field + 4 <= input.len()).then(|| "reference refused 1\n".to_string())
+}
