@@ -1,0 +1,55 @@
+-- `run_lists::unused`. After i turns the count is at most i.
+use Prim.Native.Nat.{_-_, _≤_}
+use native.Mathlib.Omega.{arith}
+use borrow.Author.Needs.{needs}
+use Rattle.run_lists.proofs.unused.Statement.{statement}
+use Rattle.run_lists.proofs.unused.Tie as tie
+
+abbrev Inv-loop : tie.InvT-loop
+Inv-loop trace count₀ i₀ count i = (count ≤ i) × (i ≤ 128)
+
+abbrev μ-loop : tie.MeasureT-loop
+μ-loop trace count₀ i₀ count i = 128 - i
+
+loop-holds : tie.Need-loop-holds Inv-loop μ-loop
+loop-holds c = omega arith
+
+array-read-x : tie.Need-array-read-x Inv-loop μ-loop
+array-read-x c = omega arith
+
+cast-alike : tie.Need-cast-alike Inv-loop μ-loop
+cast-alike c = search needs
+
+alike-requires : tie.Need-alike-requires Inv-loop μ-loop
+alike-requires c κs = tt
+
+add-count : tie.Need-add-count Inv-loop μ-loop
+add-count c = omega arith
+
+add-i : tie.Need-add-i Inv-loop μ-loop
+add-i c = omega arith
+
+loop-less : tie.Need-loop-less Inv-loop μ-loop
+loop-less c = omega arith
+
+loop-again : tie.Need-loop-again Inv-loop μ-loop
+loop-again c = omega arith
+
+returns : tie.Need-returns Inv-loop μ-loop
+returns c = tt
+
+pub unused-spec : {M : Type 1} → statement M
+unused-spec =
+    tie.close
+    (tie.spec
+    Inv-loop
+    μ-loop
+    loop-holds
+    array-read-x
+    cast-alike
+    alike-requires
+    add-count
+    add-i
+    loop-less
+    loop-again
+    returns)
