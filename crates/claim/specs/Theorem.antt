@@ -11,14 +11,12 @@ use lib.Seq.{take-at}
 use Rattle.base.specs.Truth.{lt-or-ge, not-i, clash, dec}
 use Rattle.events.specs.Bit.{bit, Apart}
 use Rattle.sheet_spec.specs.declared.Sheet.{Sheet}
-use Rattle.sheet_spec.specs.Kept.{row, acceptance, acceptances}
+use Rattle.sheet_spec.specs.Kept.{row, acceptance}
 use Rattle.sheet_spec.specs.Rules.{sheetFault}
 use Rattle.sheet_spec.specs.RowLaws.{acceptances-length, acceptances-at}
 use Rattle.sheet_spec.specs.Accepted.{read-accepted}
 use Rattle.sheet_spec.specs.EncodingLaws.{reads→}
 use Rattle.sheet_spec.specs.Sound.{Sound, check-sound}
-use Rattle.probes_spec.specs.Probes.{Probe}
-use Rattle.probes_spec.specs.ProbeLaws.{probe-at}
 use Rattle.refinement.specs.Refinement.{Refuses, Strays, ViolationIn, RefinesIn}
 use Rattle.refinement.specs.RefinementLaws.{after-unique, violation-near, refines-means}
 use Rattle.tests_spec.specs.declared.Verdict.the-variants.{Passes, Fails}
@@ -82,13 +80,9 @@ module _ (P Q : Sheet) (accP : sheetFault P ≡ 0) (accQ : sheetFault Q ≡ 0) (
 
   -- a probe that an acceptance misses is a set that the reference does not refuse
   refused-witness : (d c X A : ℕ) (t : List ℕ) → FirstRefused P Q t X A → Witness P Q t (Refusal d c X A)
-  refused-witness d c X A t (v, w, a, b, m) =
-      let k : m .spot < row Q w .c = omega (arith, m .spot-in, acceptances-length (row Q w)) in
-      by-refusal d c X A (w, b, (m .spot, k, sym (acceptances-at (row Q w) (m .spot) k) ∙ m .acceptance)) (λ i. omega (arith, m .misses i)) not-refused
+  refused-witness d c X A t (v, w, a, b, f) =
+      by-refusal d c X A (w, b, (f .misses .0, f .misses .1, f .misses .2)) (λ i. omega (arith, f .misses .3 i)) not-refused
     where
-      probe : Probe (acceptances (row P v)) X
-      probe = rw (m .probe) at (probe-at (acceptances (row P v)) (P .e) (m .place) (m .place-in))
-
       not-refused : ¬ Refuses P t X
       not-refused (u, b′, (j, l, p)) = hit u (after-unique op t u v b′ a) j l p
         where
@@ -96,7 +90,7 @@ module _ (P Q : Sheet) (accP : sheetFault P ≡ 0) (accQ : sheetFault Q ≡ 0) (
           hit u e j l p =
               let l′ : j < row P v .c = rw e at l in
               let p′ : Apart (acceptance (row P v) j) X = rw e at p in
-              let x = probe .hits j (omega (arith, l′, acceptances-length (row P v))) in
+              let x = f .probe .hits j (omega (arith, l′, acceptances-length (row P v))) in
               omega (arith, x .2, p′ (x .0), ap (λ (y : ℕ). bit y (x .0)) (acceptances-at (row P v) j l′), x .1)
 
   -- the first failing test

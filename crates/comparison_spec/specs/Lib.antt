@@ -2,6 +2,7 @@ pub mod Comparison
 pub mod Numbers
 pub mod Contract
 pub mod Meaning
+pub mod RefusedLaws
 pub mod ComparisonLaws
 pub mod OutcomeLaws
 pub mod CallLaws

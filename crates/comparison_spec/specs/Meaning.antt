@@ -5,12 +5,13 @@ use mathlib.Core.Bool.{Bool}
 use mathlib.Core.List.{List, []}
 use Prim.Native.Nat.{ℕ, _≤_, _<_}
 use lib.ListN.{length}
+use Rattle.events.specs.Bit.{Apart}
 use Rattle.walks.specs.Order.{Lex}
 use Rattle.walks.specs.Pairs.{PairLists}
+use Rattle.sheet_spec.specs.declared.Row.{Row}
 use Rattle.sheet_spec.specs.declared.Sheet.{Sheet}
-use Rattle.sheet_spec.specs.Kept.{row, graph, acceptances}
-use Rattle.probes_spec.specs.Probes.{probes}
-use Rattle.probes_spec.specs.FirstMissed.{MissedFirst}
+use Rattle.sheet_spec.specs.Kept.{row, graph, acceptance, acceptances}
+use Rattle.probes_spec.specs.Probes.{Probe}
 use Rattle.refinement.specs.Refinement.{After, Does, Strays, ViolationIn, RefinesIn}
 use Rattle.comparison_spec.specs.declared.Outcome.{Outcome}
 use Rattle.comparison_spec.specs.declared.Outcome.the-variants.{Refines, Stray, Refusal}
@@ -40,11 +41,21 @@ pub record SmallestStray (P Q : Sheet) (t : List ℕ) (i : ℕ) : Type 0 where
   pub does-not : ¬ Does P t i
   pub smallest : (k : ℕ) → k < i → ¬ (Does Q t k × (¬ Does P t k))
 
--- X is the first probe in the list of the reference's node after t that some acceptance of the device's node misses, A the lowest
--- such acceptance
+-- A is an acceptance of a row that has no event of X
+abbrev pub Misses : Row → ℕ → ℕ → Type 0
+Misses q X A = (j : ℕ) × (j < q .c) × (acceptance q j ≡ A) × Apart X A
+
+-- X is the first probe (the least by number, as the list ascends) of the reference's row that some acceptance of the device's row
+-- misses, A the lowest such acceptance
+pub record FirstRefusedAt (r q : Row) (X A : ℕ) : Type 0 where
+  pub probe : Probe (acceptances r) X
+  pub misses : Misses q X A
+  pub first : (Y B : ℕ) → Probe (acceptances r) Y → Misses q Y B → X ≤ Y
+  pub lowest : (B : ℕ) → Misses q X B → A ≤ B
+
+-- .. of the nodes reached by t
 abbrev pub FirstRefused : Sheet → Sheet → List ℕ → ℕ → ℕ → Type 0
-FirstRefused P Q t X A =
-    (v : ℕ) × (w : ℕ) × After P t v × After Q t w × MissedFirst (probes (acceptances (row P v)) (P .e)) (acceptances (row Q w)) X A
+FirstRefused P Q t X A = (v : ℕ) × (w : ℕ) × After P t v × After Q t w × FirstRefusedAt (row P v) (row Q w) X A
 
 -- the answer, and the trace beside it, are what 01 says of the two sheets
 pub data Describes (traceOnly : Bool) (P Q : Sheet) : Outcome → List ℕ → Type 0 where

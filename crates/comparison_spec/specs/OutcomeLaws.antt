@@ -28,7 +28,8 @@ use Rattle.refinement.specs.RefinementLaws.{after-walk, after-unique, strays-at
 use Rattle.comparison_spec.specs.declared.Outcome.{Outcome}
 use Rattle.comparison_spec.specs.declared.Outcome.the-variants.{Refines, Stray, Refusal}
 use Rattle.comparison_spec.specs.Comparison.{pairs, nearest, nearestTrace, clearedOf, lastRow, refusalNamed, named, judged}
-use Rattle.comparison_spec.specs.Meaning.{ReachedBefore, ReachedEver, Number, SmallestStray, Describes, refines, stray, refusal}
+use Rattle.comparison_spec.specs.Meaning.{ReachedBefore, ReachedEver, Number, SmallestStray, FirstRefusedAt, Describes, refines, stray, refusal}
+use Rattle.comparison_spec.specs.RefusedLaws.{refused→, refused←}
 use Rattle.comparison_spec.specs.ComparisonLaws.{cleared-before, cleared-ever, nearest-below, nearest-is, nearest-only, trace-violates, refines-nearest}
 
 -- the trace beside the answer: the nearest violation's, or none
@@ -71,6 +72,11 @@ module _ {P Q : Sheet} (op : Sound P) (oq : Sound Q) (same : P .e ≡ Q .e) wher
         let y = missed-none (acceptances (row P v)) (P .e) narrow-at (acceptances (row Q w)) .0 n (x .0) c in
         let l : y .0 < row P v .c = omega (arith, y .1, acceptances-length (row P v)) in
         x .2 (y .0) l (rw (acceptances-at (row P v) (y .0) l, acceptances-at (row Q w) (x .0) (x .1)) at (y .2))
+
+    -- what is named of the list is what the words name
+    refused-at-pair : (X A : ℕ) → MissedFirst (probes (acceptances (row P v)) (P .e)) (acceptances (row Q w)) X A ↔ FirstRefusedAt (row P v) (row Q w) X A
+    refused-at-pair X A =
+        (refused→ (row P v) (row Q w) (P .e) narrow-at (λ j k l h. oq .ascending w j k (b .1) l h) X A, refused← (row P v) (row Q w) (P .e) narrow-at (λ j k l h. oq .ascending w j k (b .1) l h) X A)
 
     smallest-at : hasStray (P .e) (row P v) (row Q w) ≡ true → SmallestStray P Q t (firstStray (P .e) (row P v) (row Q w))
     smallest-at h =
@@ -122,7 +128,7 @@ module _ {P Q : Sheet} (op : Sound P) (oq : Sound Q) (same : P .e ≡ Q .e) wher
         at-refusal Nothing e r n = absurd (named-some (nearestTrace to P Q) v w a b r e)
         at-refusal (Found X A) e r n = unfold refusalNamed in
             refusal (nearest to P Q) (clearedOf to P Q) X A (nearestTrace to P Q) (nearest-is op oq same to l) number n
-            (v, w, a, b, missed-found (acceptances (row P v)) (P .e) (acceptances (row Q w)) X A .0 e)
+            (v, w, a, b, refused-at-pair (nearestTrace to P Q) v w a b X A .0 (missed-found (acceptances (row P v)) (P .e) (acceptances (row Q w)) X A .0 e))
 
         go : (hasStray (P .e) (row P v) (row Q w) ≡ true) ⊎ (hasStray (P .e) (row P v) (row Q w) ≡ false)
             → Describes to P Q (cond (hasStray (P .e) (row P v) (row Q w)) (Stray (nearest to P Q) (clearedOf to P Q) (firstStray (P .e) (row P v) (row Q w)))
@@ -176,7 +182,8 @@ module _ {P Q : Sheet} (op : Sound P) (oq : Sound Q) (same : P .e ≡ Q .e) wher
         let y = nearest-only op oq same to d u w in
         let q = cleared-before op oq same d c .1 n in
         let g : MissedFirst (probes (acceptances (row P (x .0 .0))) (P .e)) (acceptances (row Q (x .1 .0))) X A =
-        rw (after-unique op u (f .0) (x .0 .0) (f .2) (x .0 .1), after-unique oq u (f .1) (x .1 .0) (f .3) (x .1 .1)) at (f .4) in
+        refused-at-pair u (x .0 .0) (x .1 .0) (x .0 .1) (x .1 .1) X A .1
+        (rw (after-unique op u (f .0) (x .0 .0) (f .2) (x .0 .1), after-unique oq u (f .1) (x .1 .0) (f .3) (x .1 .1)) at (f .4)) in
         let h : hasStray (P .e) (row P (x .0 .0)) (row Q (x .1 .0)) ≡ false = not-i (λ p. s (strays-at op oq same u (x .0 .0) (x .1 .0) (x .0 .1) (x .1 .1) .1 p)) in
         let e : named d c (P .e) (row P (x .0 .0)) (row Q (x .1 .0)) ≡ Refusal d c X A =
         named-refusal d c (P .e) X A (row P (x .0 .0)) (row Q (x .1 .0)) h (missed-found (acceptances (row P (x .0 .0))) (P .e) (acceptances (row Q (x .1 .0))) X A .1 g) in

@@ -3,8 +3,6 @@ use Rattle.tests_spec.specs.Numbers.{judged}
 use Rattle.edge.specs.Flat.{saidFlat}
 use Rattle.edge.proofs.judged_flat.Statement.{statement}
 use Rattle.edge.proofs.judged_flat.Tie as tie
-use Rattle.edge.proofs.judged_flat.Reads as reads
-use Rattle.edge.proofs.judged_flat.Lts as lts
 
 enum-told : tie.Need-enum-told
 enum-told c = search needs

@@ -3,8 +3,6 @@ use Rattle.tests_spec.specs.Numbers.{said}
 use Rattle.edge.specs.Flat.{saidFlat}
 use Rattle.edge.proofs.said_flat.Statement.{statement}
 use Rattle.edge.proofs.said_flat.Tie as tie
-use Rattle.edge.proofs.said_flat.Reads as reads
-use Rattle.edge.proofs.said_flat.Lts as lts
 
 enum-known-a : tie.Need-enum-known-a
 enum-known-a c = search needs
