@@ -13,6 +13,8 @@ _Static_assert(sizeof(struct bench_listed) == 4 && offsetof(struct bench_listed,
 _Static_assert(sizeof(struct bench_said) == 4 && offsetof(struct bench_said, value) == 2, "an answer");
 _Static_assert(sizeof(struct bench_run) == 10 && offsetof(struct bench_run, traces) == 4, "a record");
 _Static_assert(offsetof(struct bench_run, node) == 6 && offsetof(struct bench_run, depth) == 8, "a record");
+_Static_assert(sizeof(struct bench_bool_run) == 10 && offsetof(struct bench_bool_run, ended) == 5, "a record");
+_Static_assert(offsetof(struct bench_bool_run, node) == 6 && offsetof(struct bench_bool_run, depth) == 8, "a record");
 _Static_assert(sizeof(struct bench_stepped) == 14 && offsetof(struct bench_stepped, run) == 4, "an answer and its record");
 _Static_assert(sizeof(struct bench_compared) == 12 && offsetof(struct bench_compared, event) == 6, "a comparison's answer");
 _Static_assert(offsetof(struct bench_compared, probe) == 8, "a comparison's answer");
@@ -42,7 +44,8 @@ static void print_said(const char *what, struct bench_said said) {
 }
 
 static void print_run(const struct bench_run *run) {
-    printf("  record: k %d h %d traces %d ended %d node %d depth %d\n", run->k, run->h, run->traces, run->ended, run->node, run->depth);
+    printf("  record: k %d h %d traces %d ended %d node %d depth %d\n", run->k, run->h, run->traces, run->ended, run->node,
+           run->depth);
 }
 
 /* The probes of a node, in a list of so many places of which every one holds 9 before. */
@@ -66,7 +69,8 @@ static void run_test(uint16_t h) {
         struct bench_stepped stepped = bench_step(reference, run, 0);
         struct bench_said said = bench_report(&run, reference, 0);
         print_said("  event 0", said);
-        if (memcmp(&said, &stepped.answer, sizeof said) != 0 || stepped.run.node != run.node || stepped.run.depth != run.depth) {
+        struct bench_said other = stepped.answer;
+        if (other.kind != said.kind || other.value != said.value || stepped.run.depth != run.depth) {
             printf("by value it is another answer\n");
         }
     }
@@ -95,8 +99,8 @@ static void print_comparison(const char *what, const struct bench_sheet *other, 
     memset(work, 7, sizeof work);
     memset(trace, 7, sizeof trace);
     struct bench_compared answer = bench_compare(reference, *other, traces, work, words, trace, places);
-    printf("%s: refusal %d kind %d d %d cleared %d event %d probe %d acceptance %d\n", what, answer.refusal, answer.kind, answer.d,
-           answer.cleared, answer.event, answer.probe, answer.acceptance);
+    printf("%s: refusal %d kind %d d %d cleared %d", what, answer.refusal, answer.kind, answer.d, answer.cleared);
+    printf(" event %d probe %d acceptance %d\n", answer.event, answer.probe, answer.acceptance);
     printf("  trace list");
     for (int place = 0; place < 8; place++) {
         printf(" %d", trace[place]);
@@ -126,8 +130,13 @@ int main(void) {
     print_said("test 1024", bench_open(reference, 1024, 0, 0).answer);
     struct bench_stepped traces = bench_open(reference, 0, 0, 200);
     print_run(&traces.run);
+    struct bench_bool_run bools = {traces.run.k, traces.run.h, true, false, traces.run.node, traces.run.depth};
     print_said("trace-only test 0, blocked", bench_report(&traces.run, reference, 65535));
     print_run(&traces.run);
+    print_said("the same with flags of the type bool", bench_take_report(&bools, reference, BENCH_BLOCKED));
+    printf("  record: k %d h %d traces %d ended %d node %d depth %d\n", bools.k, bools.h, bools.traces, bools.ended, bools.node,
+           bools.depth);
+    print_said("and once more", bench_take_report(&bools, reference, 0));
 
     print_verdicts(0);
     print_verdicts(1);

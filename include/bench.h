@@ -7,12 +7,13 @@
  *
  * A list is lent as a pointer, which is not null even if the list is empty, and a number of places. A flag is a byte: 0 is
  * false, every other value is true. Each call checks the sheets that it is handed again, the reference first, and answers
- * their refusals, 3 or 5 to 8, before its own. A call that is refused alters nothing, and every other part of its answer is 0; a
- * comparison's kind is then 3.
+ * their refusals, 3 or 5 to 8, before its own. A call that is refused alters nothing, and every other part of its answer is
+ * 0; a comparison's kind is then 3.
  */
 #ifndef BENCH_H
 #define BENCH_H
 
+#include <stdbool.h>
 #include <stddef.h>
 #include <stdint.h>
 
@@ -146,6 +147,20 @@ struct bench_stepped bench_step(struct bench_sheet sheet, struct bench_run run, 
 /* The same on the bench's own record. Lent: the record, which is altered to the one after the report; a refusal leaves it as
  * it was. */
 struct bench_said bench_report(struct bench_run *run, struct bench_sheet sheet, uint16_t report);
+
+/* A run's record whose two flags are of the type bool, which holds 0 or 1 and nothing else: C and C++ see to that unless the
+ * bytes are written in another way. */
+struct bench_bool_run {
+    uint16_t k;
+    uint16_t h;
+    bool traces;
+    bool ended;
+    uint8_t node;
+    uint16_t depth;
+};
+
+/* The same report on such a record, which is altered to the one after the report; a refusal leaves it as it was. */
+struct bench_said bench_take_report(struct bench_bool_run *run, struct bench_sheet sheet, uint16_t report);
 
 /* The verdict on a device for test k, trace-only if the flag `traces` is set. Handed over: copies of both sheets. Answered:
  * BENCH_PASSES, or BENCH_FAILS if some run of the test against the device can end failed for some h; or the refusal (the

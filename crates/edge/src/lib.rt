@@ -270,6 +270,16 @@ pub extern "C" fn bench_report(run: &mut BenchRun, sheet: Sheet, report: u16) ->
     stepped.answer
 }
 
+// The same on a record whose flags are of the type `bool`, by the thin function of `tests`.
+#[no_mangle]
+pub extern "C" fn bench_take_report(run: &mut Run, sheet: Sheet, report: u16) -> BenchSaid
+    ensures { λ r. ⌜ (r ≡ saidFlat (said (stepOf sheet (now (run .entry)) (reportFlat report) .answer))) × (now (run .exit) ≡ stepOf sheet (now (run .entry)) (reportFlat report) .run) ⌝ }
+{
+    let code = report_flat(report);
+    let answer = tests::take_report(run, sheet, code);
+    said_flat(answer)
+}
+
 // The verdict on a device for test `k`, or the number of the refusal.
 #[no_mangle]
 pub extern "C" fn bench_judge(reference: Sheet, device: Sheet, k: u16, traces: u8) -> BenchSaid

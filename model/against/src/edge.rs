@@ -5,6 +5,7 @@ use std::mem::{offset_of, size_of};
 use model::faults::ReadAnswer;
 use model::numbers::{Compared, Listed, Record, Said, Stepped};
 use model::sheet::{Row, Sheet};
+use model::tests::Run;
 
 /// What reading answers, in the layout of C.
 #[repr(C)]
@@ -27,6 +28,9 @@ const _: () = assert!(offset_of!(Said, kind) == 1 && offset_of!(Said, value) == 
 const _: () = assert!(size_of::<Record>() == 10);
 const _: () = assert!(offset_of!(Record, traces) == 4 && offset_of!(Record, ended) == 5);
 const _: () = assert!(offset_of!(Record, node) == 6 && offset_of!(Record, depth) == 8);
+const _: () = assert!(size_of::<Run>() == 10);
+const _: () = assert!(offset_of!(Run, trace_only) == 4 && offset_of!(Run, ended) == 5);
+const _: () = assert!(offset_of!(Run, node) == 6 && offset_of!(Run, depth) == 8);
 const _: () = assert!(size_of::<Stepped>() == 14 && offset_of!(Stepped, run) == 4);
 const _: () = assert!(size_of::<Compared>() == 12);
 const _: () = assert!(offset_of!(Compared, d) == 2 && offset_of!(Compared, cleared) == 4);
@@ -40,6 +44,7 @@ extern "C" {
     fn bench_open(sheet: Sheet, k: u16, h: u16, traces: u8) -> Stepped;
     fn bench_step(sheet: Sheet, run: Record, report: u16) -> Stepped;
     fn bench_report(run: *mut Record, sheet: Sheet, report: u16) -> Said;
+    fn bench_take_report(run: *mut Run, sheet: Sheet, report: u16) -> Said;
     fn bench_judge(reference: Sheet, device: Sheet, k: u16, traces: u8) -> Said;
     fn bench_compare(
         reference: Sheet,
@@ -90,6 +95,12 @@ pub fn step(sheet: &Sheet, run: &Record, report: u16) -> Stepped {
 pub fn report(run: &mut Record, sheet: &Sheet, report: u16) -> Said {
     // Sound: the record is lent for the call.
     unsafe { bench_report(run, *sheet, report) }
+}
+
+/// Answers a report on a record in place, with flags of the type `bool`.
+pub fn take_report(run: &mut Run, sheet: &Sheet, report: u16) -> Said {
+    // Sound: the record is lent for the call.
+    unsafe { bench_take_report(run, *sheet, report) }
 }
 
 /// The verdict on a device.

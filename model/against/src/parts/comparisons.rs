@@ -13,9 +13,9 @@ use crate::play::Part;
 
 const COMPARE: &str = "compare, 0 compared or the refusal";
 const REFINES: &str = "refines, 0 or trace-only 1";
-const STRAYS: &str = "strays at d 0, 1 to 9, 10 to 99, 100 and more by their digits";
-const REFUSALS: &str = "refusals at d 0, 1 to 9, 10 to 99, 100 and more by their digits";
-const TRACES: &str = "trace-only strays at d 0, 1 to 9, 10 to 99, 100 and more by their digits";
+const STRAYS: &str = "strays at d 0 (0), 1 to 9 (1), 10 to 99 (2), 100 and more (3)";
+const REFUSALS: &str = "refusals at d 0 (0), 1 to 9 (1), 10 to 99 (2), 100 and more (3)";
+const TRACES: &str = "trace-only strays at d 0 (0), 1 to 9 (1), 10 to 99 (2), 100 and more (3)";
 const WORK: &str = "work lists 0 none, 1 one short, 2 exact, 3 one more, 4 longer, 5 shorter";
 const TRACE: &str = "trace lists 0 none, 1 one short, 2 exact, 3 one more, 4 longer, 5 shorter";
 
@@ -66,7 +66,7 @@ fn round(rng: &mut Rng, round: u64, findings: &mut Findings) {
         _ => (words, places),
     };
     try_compare(rng, findings, (&reference, &device), trace_only, lengths);
-    if round % 2 == 0 {
+    if rng.one_in(2) {
         let (mut first, mut second) = (reference, device);
         match rng.below(5) {
             0 => first = bad_sheet(rng),

@@ -14,7 +14,7 @@ use crate::play::Part;
 
 const LIST: &str = "list, 0 listed or the refusal";
 const LENGTH: &str = "list, lent 0 none, 1 one short, 2 exact, 3 one more, 4 longer, 5 shorter";
-const COUNT: &str = "listed, 0, 1, 2 to 9, 10 to 99, 100 and more probes by their digits";
+const COUNT: &str = "listed, 0 (0), 1 (1), 2 to 9 (2), 10 to 99 (3), 100 and more (4) probes";
 const LARGE: &str = "listed at a node with 12 events and 16 sets";
 
 pub const PART: Part = Part {

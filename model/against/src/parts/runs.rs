@@ -17,7 +17,8 @@ const OPEN: &str = "open, 0 opened or the refusal";
 const STEP: &str = "report, 0 answered or the refusal";
 const RUNS: &str = "runs ended, 2 stray, 3 refused, 4 passed by an event, 5 passed by blocking";
 const TRACES: &str = "trace-only runs ended, 2 stray, 4 passed by an event, 5 passed by blocking";
-const DEEP: &str = "runs with 0, 1 to 9, 10 to 99, 100 and more accepted events by their digits";
+const DEEP: &str =
+    "runs of 0 (0), 1 to 9 (1), 10 to 99 (2), 100 and more (3) events before the end";
 const FLAGS: &str = "records with a flag 0, 1, 2 other";
 
 pub const PART: Part = Part {
@@ -190,7 +191,7 @@ fn try_open(findings: &mut Findings, sheet: &Sheet, k: u16, h: u16, traces: u8) 
     ours
 }
 
-/// One report by the library, by value and in place, by the model, and by each fault that
+/// One report by the library, by value and on both records in place, by the model, and by each fault that
 /// is not caught yet.
 fn try_step(findings: &mut Findings, sheet: &Sheet, record: &Record, code: u16) -> Stepped {
     let ours = edge::step(sheet, record, code);
@@ -198,9 +199,13 @@ fn try_step(findings: &mut Findings, sheet: &Sheet, record: &Record, code: u16) 
     let mut run = *record;
     let answer = edge::report(&mut run, sheet, code);
     let placed = Stepped { answer, run };
-    findings.compared(ours == model && placed == model, || {
+    let mut taken = record.run();
+    let said = edge::take_report(&mut taken, sheet, code);
+    let equal = ours == model && placed == model;
+    let equal = equal && said == model.answer && taken == model.run.run();
+    findings.compared(equal, || {
         format!(
-            "report {code} to {record:?} on {}: model {model:?}, library by value {ours:?}, in place {placed:?}",
+            "report {code} to {record:?} on {}: model {model:?}, library by value {ours:?}, in place {placed:?}, with bool {said:?} {taken:?}",
             shown_sheet(sheet)
         )
     });

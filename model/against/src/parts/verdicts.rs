@@ -16,7 +16,8 @@ use crate::play::Part;
 
 const JUDGE: &str = "judge, 0 judged or the refusal";
 const VERDICT: &str = "judged, 1 passes, 2 fails, 3 and 4 the same of trace-only tests";
-const NUMBER: &str = "judged tests 0, 1 to 9, 10 to 99, 100 to 999, 1000 and more by their digits";
+const NUMBER: &str =
+    "judged tests 0 (0), 1 to 9 (1), 10 to 99 (2), 100 to 999 (3), 1000 and more (4)";
 const SMALL: &str = "pairs whose tests below p q are all judged";
 const LATER: &str = "pairs with a test that passes after one that fails";
 
@@ -41,7 +42,7 @@ fn findings() -> Findings {
 
 /// A small pair with every test, a large one with some, and some calls that are refused.
 fn round(rng: &mut Rng, round: u64, findings: &mut Findings) {
-    let trace_only = round % 3 == 0;
+    let trace_only = rng.one_in(3);
     let (reference, device) = small_pair(rng);
     let all = u16::from(reference.n) * u16::from(device.n);
     let numbers: Vec<u16> = (0..all).collect();
