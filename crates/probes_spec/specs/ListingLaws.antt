@@ -36,6 +36,15 @@ own-other s m h e = go (check-numbers s m e)
     go (inr (inr (inr (inr (inl p))))) = omega arith
     go (inr (inr (inr (inr (inr p))))) = omega arith
 
+-- the numbers of each case
+pub count-numbers : (m : ℕ) → listedNumbers (Count m) ≡ (0, m)
+unfolding listedNumbers
+count-numbers m = refl
+
+pub denied-numbers : (k : ℕ) → listedNumbers (Denied k) ≡ (k, 0)
+unfolding listedNumbers
+denied-numbers k = refl
+
 module _ (s : Sheet) (v : ℕ) (out : List ℕ) where
   -- the sheet's own refusal comes first
   pub list-sheet : sheetFault s ≢ 0 → listFault s v out ≡ sheetFault s

@@ -1,5 +1,5 @@
 -- `listed_flat`: each case of the answer.
-use Rattle.probes_spec.specs.Listing.{listedNumbers}
+use Rattle.probes_spec.specs.ListingLaws.{count-numbers, denied-numbers}
 use Rattle.edge.specs.Flat.{listedFlat}
 use borrow.Author.Needs.{needs}
 use Rattle.edge.proofs.listed_flat.Statement.{statement}
@@ -12,12 +12,12 @@ enum-known-a-2 : tie.Need-enum-known-a-2
 enum-known-a-2 c = search needs
 
 returns : tie.Need-returns
-unfolding listedFlat listedNumbers
-returns c = rw (c .before .a .given .1)
+unfolding listedFlat
+returns c = rw (c .before .a .given .1, count-numbers)
 
 returns-2 : tie.Need-returns-2
-unfolding listedFlat listedNumbers
-returns-2 c = rw (c .before .a2 .given .1)
+unfolding listedFlat
+returns-2 c = rw (c .before .a2 .given .1, denied-numbers)
 
 pub listed-flat-spec : {M : Type 1} → statement M
 listed-flat-spec = tie.close (tie.spec enum-known-a enum-known-a-2 returns returns-2)
