@@ -2,13 +2,14 @@
  * `rt staticlib edge` writes below target/staticlib; it needs nothing but the C library.
  *
  * An event is a number below E, a node a number below N. A set of events is a 16-bit number in which event i adds 2 to the
- * power i. Every content of what is lent or handed over is answered, so no call has a condition on it. A call keeps nothing
- * of what it is lent, alters nothing unless its comment says so, and may run in several threads at once.
+ * power i. Every content of what is lent or handed over is answered, so no call has a condition on it; only the two flags of
+ * struct bench_bool_run have the type bool and so hold 0 or 1. A call keeps nothing of what it is lent, alters nothing unless
+ * its comment says so, and may run in several threads at once.
  *
  * A list is lent as a pointer, which is not null even if the list is empty, and a number of places. A flag is a byte: 0 is
  * false, every other value is true. Each call checks the sheets that it is handed again, the reference first, and answers
  * their refusals, 3 or 5 to 8, before its own. A call that is refused alters nothing, and every other part of its answer is
- * 0; a comparison's kind is then 3.
+ * 0.
  */
 #ifndef BENCH_H
 #define BENCH_H
