@@ -12,9 +12,8 @@
 _Static_assert(sizeof(struct bench_listed) == 4 && offsetof(struct bench_listed, count) == 2, "a probe list's answer");
 _Static_assert(sizeof(struct bench_said) == 4 && offsetof(struct bench_said, value) == 2, "an answer");
 _Static_assert(sizeof(struct bench_run) == 10 && offsetof(struct bench_run, traces) == 4, "a record");
-_Static_assert(offsetof(struct bench_run, node) == 6 && offsetof(struct bench_run, depth) == 8, "a record");
-_Static_assert(sizeof(struct bench_bool_run) == 10 && offsetof(struct bench_bool_run, ended) == 5, "a record");
-_Static_assert(offsetof(struct bench_bool_run, node) == 6 && offsetof(struct bench_bool_run, depth) == 8, "a record");
+_Static_assert(offsetof(struct bench_run, ended) == 5 && offsetof(struct bench_run, node) == 6, "a record");
+_Static_assert(offsetof(struct bench_run, depth) == 8, "a record");
 _Static_assert(sizeof(struct bench_stepped) == 14 && offsetof(struct bench_stepped, run) == 4, "an answer and its record");
 _Static_assert(sizeof(struct bench_compared) == 12 && offsetof(struct bench_compared, event) == 6, "a comparison's answer");
 _Static_assert(offsetof(struct bench_compared, probe) == 8, "a comparison's answer");
@@ -92,6 +91,18 @@ static void print_verdicts(uint8_t traces) {
     printf("\n");
 }
 
+/* All verdicts at once, into a list of so many places. */
+static void print_suite(uint8_t traces, size_t places) {
+    uint8_t list[8];
+    memset(list, 7, sizeof list);
+    struct bench_suited suited = bench_judge_all(reference, device, traces, list, places);
+    printf("all verdicts with %zu places: refusal %d count %d, list", places, suited.refusal, suited.count);
+    for (int place = 0; place < 8; place++) {
+        printf(" %d", list[place]);
+    }
+    printf("\n");
+}
+
 /* A comparison with lists of so many places. */
 static void print_comparison(const char *what, const struct bench_sheet *other, uint8_t traces, size_t words, size_t places) {
     uint16_t work[20];
@@ -130,17 +141,24 @@ int main(void) {
     print_said("test 1024", bench_open(reference, 1024, 0, 0).answer);
     struct bench_stepped traces = bench_open(reference, 0, 0, 200);
     print_run(&traces.run);
-    struct bench_bool_run bools = {traces.run.k, traces.run.h, true, false, traces.run.node, traces.run.depth};
     print_said("trace-only test 0, blocked", bench_report(&traces.run, reference, 65535));
     print_run(&traces.run);
-    print_said("the same with flags of the type bool", bench_take_report(&bools, reference, BENCH_BLOCKED));
-    printf("  record: k %d h %d traces %d ended %d node %d depth %d\n", bools.k, bools.h, bools.traces, bools.ended, bools.node,
-           bools.depth);
-    print_said("and once more", bench_take_report(&bools, reference, 0));
+
+    /* Every byte but 0 sets a flag. One that stays keeps its byte; an ending writes 1. */
+    struct bench_run bytes = {0, 0, 200, 0, 0, 0};
+    print_said("the same with the flag 200", bench_report(&bytes, reference, BENCH_BLOCKED));
+    print_run(&bytes);
+    bytes.ended = 2;
+    print_said("ended by the flag 2", bench_report(&bytes, reference, 0));
+    print_run(&bytes);
 
     print_verdicts(0);
     print_verdicts(1);
     printf("verdict on test 1024: refusal %d\n", bench_judge(reference, device, 1024, 0).refusal);
+
+    print_suite(0, 8);
+    print_suite(1, 6);
+    print_suite(0, 5);
 
     print_comparison("compared", &device, 0, 18, 5);
     print_comparison("traces alone", &device, 1, 18, 5);

@@ -2,9 +2,8 @@
  * `rt staticlib edge` writes below target/staticlib; it needs nothing but the C library.
  *
  * An event is a number below E, a node a number below N. A set of events is a 16-bit number in which event i adds 2 to the
- * power i. Every content of what is lent or handed over is answered, so no call has a condition on it; only the two flags of
- * struct bench_bool_run have the type bool and so hold 0 or 1. A call keeps nothing of what it is lent, alters nothing unless
- * its comment says so, and may run in several threads at once.
+ * power i. Every content of what is lent or handed over is answered, so no call has a condition on it. A call keeps nothing of
+ * what it is lent, alters nothing unless its comment says so, and may run in several threads at once.
  *
  * A list is lent as a pointer, which is not null even if the list is empty, and a number of places. A flag is a byte: 0 is
  * false, every other value is true. Each call checks the sheets that it is handed again, the reference first, and answers
@@ -14,7 +13,6 @@
 #ifndef BENCH_H
 #define BENCH_H
 
-#include <stdbool.h>
 #include <stddef.h>
 #include <stdint.h>
 
@@ -44,7 +42,7 @@ enum {
 enum {
     BENCH_BAD_NODE = 9,      /* a node that is not below N; also a record whose node is not on the sheet, whose depth exceeds
                                 its k, or whose k is above 1,023 */
-    BENCH_SHORT_PROBES = 10, /* a probe list shorter than the probes */
+    BENCH_SHORT_PROBES = 10, /* a probe list shorter than the probes; also a list of verdicts shorter than the tests */
     BENCH_OTHER_EVENTS = 11, /* the two sheets have different E */
     BENCH_SHORT_WORK = 12,   /* a work list below 3 p q words, for p nodes of the reference and q of the device */
     BENCH_SHORT_TRACE = 13,  /* a trace list below p q - 1 bytes */
@@ -99,8 +97,8 @@ struct bench_listed bench_list(struct bench_sheet sheet, uint8_t node, uint16_t 
 enum { BENCH_LAST_TEST = 1023, BENCH_BLOCKED = 256 };
 
 /* A run's record: the test's number k, the choice number h, whether it is trace-only, whether it has ended (two flags), the
- * node reached on the reference and how many events were accepted on the way. It belongs to the bench. A call that leaves a
- * flag as it was leaves its byte; it sets one with 1. */
+ * node reached on the reference and how many events were accepted on the way. It belongs to the bench. A flag that stays keeps
+ * its byte; an opening and an ending set one with 1. */
 struct bench_run {
     uint16_t k;
     uint16_t h;
@@ -149,24 +147,22 @@ struct bench_stepped bench_step(struct bench_sheet sheet, struct bench_run run, 
  * it was. */
 struct bench_said bench_report(struct bench_run *run, struct bench_sheet sheet, uint16_t report);
 
-/* A run's record whose two flags are of the type bool, which holds 0 or 1 and nothing else: C and C++ see to that unless the
- * bytes are written in another way. */
-struct bench_bool_run {
-    uint16_t k;
-    uint16_t h;
-    bool traces;
-    bool ended;
-    uint8_t node;
-    uint16_t depth;
-};
-
-/* The same report on such a record, which is altered to the one after the report; a refusal leaves it as it was. */
-struct bench_said bench_take_report(struct bench_bool_run *run, struct bench_sheet sheet, uint16_t report);
-
 /* The verdict on a device for test k, trace-only if the flag `traces` is set. Handed over: copies of both sheets. Answered:
  * BENCH_PASSES, or BENCH_FAILS if some run of the test against the device can end failed for some h; or the refusal (the
  * reference's; the device's; 11; 14). */
 struct bench_said bench_judge(struct bench_sheet reference, struct bench_sheet device, uint16_t k, uint8_t traces);
+
+/* What the call on all tests answers: the refusal, 0 for none, and how many tests were judged, 0 if it is refused. */
+struct bench_suited {
+    uint8_t refusal;
+    uint16_t count;
+};
+
+/* The verdicts on a device for tests 0 to p q - 1, trace-only if the flag `traces` is set. Together they decide whether the device
+ * refines the reference, for lists of events of every length. Handed over: copies of both sheets. Lent: a list of `length` places.
+ * Answered: p q; place k of the list then holds BENCH_PASSES or BENCH_FAILS for test k, and the rest of the list is as it was; or the
+ * refusal (the reference's; the device's; 11; 10, a list below p q places), and the whole list is as it was. */
+struct bench_suited bench_judge_all(struct bench_sheet reference, struct bench_sheet device, uint8_t traces, uint8_t *out, size_t length);
 
 /* The kinds of a comparison's answer. */
 enum {

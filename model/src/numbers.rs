@@ -15,6 +15,14 @@ pub struct Listed {
     pub count: u16,
 }
 
+/// The answer on all tests: the refusal, 0 for none, and how many were judged.
+#[repr(C)]
+#[derive(Clone, Copy, PartialEq, Eq, Debug)]
+pub struct Suited {
+    pub refusal: u8,
+    pub count: u16,
+}
+
 /// An answer to an opening, a report or a verdict: the refusal, 0 for none; which case it
 /// is, 0 for a refusal; the event or the set of that case.
 #[repr(C)]

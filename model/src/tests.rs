@@ -8,7 +8,6 @@ pub use crate::verdict::{verdict, verdicts, Verdict};
 pub const MAX_TEST: u16 = 1_023;
 
 /// The record of a run.
-#[repr(C)]
 #[derive(Clone, Copy, PartialEq, Eq, Debug)]
 pub struct Run {
     pub k: u16,

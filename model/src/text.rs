@@ -8,6 +8,13 @@ pub const MAX_INPUT: usize = 4_096;
 
 /// The output for an input of bytes, each line with its newline.
 pub fn output(input: &[u8]) -> String {
+    output_by(input, |reference, device| {
+        compare(reference, device, false, 3 * 1_024, 1_023)
+    })
+}
+
+/// The same with another comparison.
+pub fn output_by(input: &[u8], compare: impl Fn(&Sheet, &Sheet) -> Result<Outcome, u8>) -> String {
     let input = &input[..input.len().min(MAX_INPUT)];
     let (first, second) = split(input);
     let reference = match read(first) {
@@ -20,7 +27,7 @@ pub fn output(input: &[u8]) -> String {
         Err(number) => return format!("{head}device refused {number}\n"),
     };
     let heads = head + &head_line("device", &device);
-    heads + &result_lines(&reference, &device)
+    heads + &result_lines(compare(&reference, &device))
 }
 
 /// The two sheets. Under 4 bytes, or a length field that leads past the end, all of
@@ -40,8 +47,8 @@ fn head_line(who: &str, sheet: &Sheet) -> String {
     format!("{who} {} nodes {} events\n", sheet.n, sheet.e)
 }
 
-fn result_lines(reference: &Sheet, device: &Sheet) -> String {
-    match compare(reference, device, false, 3 * 1_024, 1_023) {
+fn result_lines(answer: Result<Outcome, u8>) -> String {
+    match answer {
         Err(number) => format!("comparison refused {number}\n"),
         Ok(Outcome::Refines { cleared }) => format!("refines cleared {cleared}\n"),
         Ok(Outcome::Violates {

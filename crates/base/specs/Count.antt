@@ -2,17 +2,45 @@
 use mathlib.Core.Path.{_≡_, refl, sym, ap, _∙_}
 use mathlib.Core.Logic.{_≢_, _⊎_, inl, inr}
 use mathlib.Core.Bool.{Bool, true, false, not, cond, _&&_, and-true, and-false}
-use Prim.Native.Nat.{ℕ, zero, suc, _+_, _<_}
+use Prim.Native.Nat.{ℕ, zero, suc, _+_, _≤_, _<_}
 use native.Mathlib.Omega.{arith}
 use native.Mathlib.Nat.{eq-or-lt-of-le}
 use lib.Dec.{eqb}
 use borrow.Author.Tests.{eqb-false, eq-eqb, ne-eqb}
 use Rattle.base.specs.Truth.{and-l, and-r, not-i, not-f}
 
+-- how many
 unfoldable pub count : (ℕ → Bool) → ℕ → ℕ
 count f zero = 0
 count f (suc n) = count f n + cond (f n) 1 0
 
+-- no more than there are
+pub count-le : (f : ℕ → Bool) (n : ℕ) → count f n ≤ n
+unfolding count
+count-le f zero = omega arith
+count-le f (suc n) = go (f n) (count-le f n)
+  where
+    go : (b : Bool) → count f n ≤ n → count f n + cond b 1 0 ≤ suc n
+    go true h = omega arith
+    go false h = omega arith
+
+-- all of them exactly if each passes the test
+pub count-all→ : (f : ℕ → Bool) (n : ℕ) → count f n ≡ n → (i : ℕ) → i < n → f i ≡ true
+unfolding count
+count-all→ f zero z i l = absurd (omega arith)
+count-all→ f (suc n) z i l = go (f n) refl (eq-or-lt-of-le l) (count-all→ f n)
+  where
+    go : (b : Bool) → f n ≡ b → (suc i ≡ suc n) ⊎ (suc i < suc n) → (count f n ≡ n → (i : ℕ) → i < n → f i ≡ true) → f i ≡ true
+    go true e (inl h) ih = let q : i ≡ n = omega arith in rw q e
+    go true e (inr h) ih = ih (omega (arith, rw e at z)) i (omega arith)
+    go false e h ih = absurd (omega (arith, rw e at z, count-le f n))
+
+pub count-all← : (f : ℕ → Bool) (n : ℕ) → ((i : ℕ) → i < n → f i ≡ true) → count f n ≡ n
+unfolding count
+count-all← f zero h = refl
+count-all← f (suc n) h = rw (h n (omega arith), count-all← f n (λ i l. h i (omega arith))) (omega arith)
+
+-- none of them
 pub count-none : (f : ℕ → Bool) (n : ℕ) → ((i : ℕ) → i < n → f i ≡ false) → count f n ≡ 0
 unfolding count
 count-none f zero h = refl

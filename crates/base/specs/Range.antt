@@ -77,15 +77,6 @@ least f (suc n) t = go (dec (f 0)) (least (λ i. f (suc i)) n t)
         below m h zero l = s
         below m h (suc k) l = h k (omega arith)
 
--- two numbers that are each the least are one
-pub least-unique : (f : ℕ → Bool) (m n : ℕ) → Least f m → Least f n → m ≡ n
-least-unique f m n p q = go (lt-or-ge m n) (lt-or-ge n m)
-  where
-    go : (m < n) ⊎ (n ≤ m) → (n < m) ⊎ (m ≤ n) → m ≡ n
-    go (inl l) h = absurd (clash (p .0) (q .1 m l))
-    go (inr l) (inl k) = absurd (clash (q .0) (p .1 n k))
-    go (inr l) (inr k) = omega arith
-
 -- the least number below n at which the test passes, or n
 unfoldable pub first : (ℕ → Bool) → ℕ → ℕ
 first f zero = zero

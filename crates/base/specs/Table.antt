@@ -1,17 +1,13 @@
 -- Lists given by a function of the place, and the loops that fill them.
 use mathlib.Core.Path.{_≡_, refl, sym, _∙_}
-use mathlib.Core.Bool.{Bool, true, false, _||_}
 use mathlib.Core.List.{List, [], _∷_, _++_, append-assoc}
 use mathlib.Core.Logic.{_⊎_, inl, inr}
 use Prim.Native.Nat.{ℕ, zero, suc, _+_, _-_, _<_}
 use native.Mathlib.Numerals.{add-one}
 use native.Mathlib.Nat.{eq-or-lt-of-le}
 use native.Mathlib.Omega.{arith}
-use native.Mathlib.Decide.{ℕ-discrete}
-use lib.Dec.{eqb}
-use lib.ListN.{length, getD, set, replicate, length-append, length-set, List·getD-append}
-use lib.Seq.{set-at, getD-at, ext-getD, getD-set-same, getD-set-other}
-use borrow.Author.Tests.{eq-eqb, ne-eqb}
+use lib.ListN.{length, getD, set, replicate, length-append, List·getD-append}
+use lib.Seq.{set-at, getD-at, ext-getD}
 
 -- f 0, f 1, .. f (n - 1)
 unfoldable pub upTo : {A : Type 0} → (ℕ → A) → ℕ → List A
@@ -48,20 +44,3 @@ module _ {A : Type 0} where
   -- a list of n elements is what its places hold
   pub upTo-all : (l : List A) (n : ℕ) (d : A) → length l ≡ n → upTo (λ i. getD l i d) n ≡ l
   upTo-all l n d e = ext-getD d (upTo (λ i. getD l i d) n) l (length-upTo (λ i. getD l i d) n ∙ sym e) (λ i h. getD-upTo (λ i. getD l i d) n i d (omega (arith, length-upTo (λ i. getD l i d) n)))
-
--- a store of true
-pub upTo-mark : (f : ℕ → Bool) (n x : ℕ) → x < n → set (upTo f n) x true ≡ upTo (λ v. f v || eqb x v) n
-upTo-mark f n x h = ext-getD false (set (upTo f n) x true) (upTo (λ v. f v || eqb x v) n)
-    (length-set (upTo f n) x true ∙ length-upTo f n ∙ sym (length-upTo (λ v. f v || eqb x v) n)) (λ i l. at i (omega (arith, length-set (upTo f n) x true, length-upTo f n)) (ℕ-discrete i x))
-  where
-    or-true : (b : Bool) → (b || true) ≡ true
-    or-true true = refl
-    or-true false = refl
-
-    or-false : (b : Bool) → (b || false) ≡ b
-    or-false true = refl
-    or-false false = refl
-
-    at : (i : ℕ) → i < n → Dec (i ≡ x) → getD (set (upTo f n) x true) i false ≡ getD (upTo (λ v. f v || eqb x v) n) i false
-    at i l (yes e) = rw (e, getD-set-same (upTo f n) x true false (omega (arith, length-upTo f n)), getD-upTo (λ v. f v || eqb x v) n x false h, eq-eqb x x refl, or-true (f x))
-    at i l (no e) = rw (getD-set-other (upTo f n) x i true false e, getD-upTo (λ v. f v || eqb x v) n i false l, getD-upTo f n i false l, ne-eqb x i (λ q. e (sym q)), or-false (f i))

@@ -2,3 +2,4 @@ pub mod Sheets
 pub mod Table
 pub mod Runs
 pub mod Text
+pub mod Nodes

@@ -15,6 +15,7 @@ use Rattle.sheet_spec.specs.Rules.{rangesOk, countOk, countsOk, successorsOk, r
 use Rattle.sheet_spec.specs.Reading.{readSheet, answer, bytesFault, headFault, lengthField, layoutFault, nextAt, startOf, succOf, setsOf, rowAt, rowOf, sheetOf, graphFault}
 use Rattle.probes_spec.specs.Probes.{hits, isProbe, gather, select, probes}
 use Rattle.tests_spec.specs.declared.Report.the-variants.{Event, Blocked}
+use Rattle.tests_spec.specs.Flags.{flag, flagOf}
 use Rattle.tests_spec.specs.Runs.{allEvents, outside, probesAt, chosen, offerOf, newRun, openFault, openOf, recordOk, eventFault, reportFault, movedBy, endedRun, answerOf, stepOf}
 use Rattle.tests_spec.specs.Verdicts.{CanReport, Failed, deviceAfter, EndsFailed, FailsTest}
 use Rattle.cases.specs.Sheets.{exampleReference, exampleDevice, sheet}
@@ -29,7 +30,7 @@ some a = (omega arith, a)
 
 -- and so it fails 5: with choice number 1 the device does event 0 five times, is then offered only event 1, and blocks
 pub example-fails : FailsTest false (sheet exampleReference) (sheet exampleDevice) 5
-unfolding sheet exampleReference exampleDevice readSheet answer bytesFault headFault lengthField layoutFault nextAt startOf succOf setsOf rowAt rowOf sheetOf graphFault rangesOk countOk countsOk successorsOk rowSuccessorsOk successorOk setsOk rowSetsOk setOk ascends apart blank unusedOk blanksOk reachedOk sheetFault successor acceptance acceptances initials mayStop bit has inside meets setOf nearer leads all any upTo hits isProbe gather select probes allEvents outside probesAt chosen offerOf newRun openFault openOf recordOk eventFault reportFault movedBy endedRun answerOf stepOf step CanReport Failed deviceAfter EndsFailed
+unfolding sheet exampleReference exampleDevice readSheet answer bytesFault headFault lengthField layoutFault nextAt startOf succOf setsOf rowAt rowOf sheetOf graphFault rangesOk countOk countsOk successorsOk rowSuccessorsOk successorOk setsOk rowSetsOk setOk ascends apart blank unusedOk blanksOk reachedOk sheetFault successor acceptance acceptances initials mayStop bit has inside meets setOf nearer leads all any upTo hits isProbe gather select probes allEvents outside probesAt chosen flag flagOf offerOf newRun openFault openOf recordOk eventFault reportFault movedBy endedRun answerOf stepOf step CanReport Failed deviceAfter EndsFailed
 example-fails = (
   1,
   omega arith,

@@ -2,7 +2,7 @@
 -- all. Sheets come as bytes, through the definition of reading. The rows compute through the definitions that the contracts cite,
 -- the probe lists among them.
 use mathlib.Core.Path.{_≡_, refl}
-use mathlib.Core.Bool.{Bool, true, false, cond}
+use mathlib.Core.Bool.{Bool, true, false}
 use mathlib.Core.List.{List, [], _∷_, _++_, map}
 use Prim.Native.Nat.{ℕ, _-_}
 use lib.ListN.{replicate}
@@ -29,6 +29,7 @@ use Rattle.tests_spec.specs.declared.Run.{Run}
 use Rattle.tests_spec.specs.declared.Report.{Report}
 use Rattle.tests_spec.specs.declared.Report.the-variants.{Event, Blocked}
 use Rattle.tests_spec.specs.declared.Stepped.{Stepped}
+use Rattle.tests_spec.specs.Flags.{flag, flagOf}
 use Rattle.tests_spec.specs.Runs.{allEvents, outside, probesAt, chosen, offerOf, newRun, openFault, openOf, recordOk, eventFault, reportFault, movedBy, endedRun, answerOf, stepOf}
 use Rattle.tests_spec.specs.Verdicts.{failsFrom, verdictFault, verdictOf}
 use Rattle.tests_spec.specs.Numbers.{Said, said, judged}
@@ -57,9 +58,9 @@ readNumbers a = a .refusal ∷ a .sheet .e ∷ a .sheet .n ∷ []
 unfoldable pub numbers : Said → List ℕ
 numbers a = a .refusal ∷ a .kind ∷ a .value ∷ []
 
--- a record: k, h, trace-only, ended, node and depth
+-- a record: k, h, the flag of trace-only, the flag of ended, node and depth
 unfoldable pub recordNumbers : Run → List ℕ
-recordNumbers r = r .k ∷ r .h ∷ cond (r .traces) 1 0 ∷ cond (r .ended) 1 0 ∷ r .node ∷ r .depth ∷ []
+recordNumbers r = r .k ∷ r .h ∷ r .traces ∷ r .ended ∷ r .node ∷ r .depth ∷ []
 
 -- the numbers of a run's answers, one after the other, and the record in the end
 unfoldable pub answersOf : Sheet → Stepped → List Report → List ℕ
@@ -201,5 +202,5 @@ answers =
 
 -- every row answers what 01 says
 pub cases-hold : map numbersOf table ≡ answers
-unfolding numbersOf table answers lists caseSheets workAfter readNumbers numbers recordNumbers answersOf comparedNumbers work trace sheet exampleReference exampleDevice onlyZero onlyOne mayLoop mustLoop stopped readSheet answer bytesFault headFault lengthField layoutFault nextAt startOf succOf setsOf rowAt rowOf sheetOf graphFault rangesOk countOk countsOk successorsOk rowSuccessorsOk successorOk setsOk rowSetsOk setOk ascends apart blank unusedOk blanksOk reachedOk sheetFault successor acceptance acceptances initials mayStop step bit has inside meets setOf walk nearer leads meetsIn distance later choice leastFrom leastTrace cleared code pairNext product onCodes pairDistance pairTrace pairCleared all any first count upTo hits isProbe gather select probes missing orNext firstMissing firstMissed strays hasStray firstStray covers hasRefusal violates violating allEvents outside probesAt chosen offerOf newRun openFault openOf recordOk eventFault reportFault movedBy endedRun answerOf stepOf failsFrom verdictFault verdictOf said judged pairs nearest nearestTrace clearedOf lastRow refusalNamed named judgedPair compareFault outcomeOf traceAfter compared
+unfolding numbersOf table answers lists caseSheets workAfter readNumbers numbers recordNumbers answersOf comparedNumbers work trace sheet exampleReference exampleDevice onlyZero onlyOne mayLoop mustLoop stopped readSheet answer bytesFault headFault lengthField layoutFault nextAt startOf succOf setsOf rowAt rowOf sheetOf graphFault rangesOk countOk countsOk successorsOk rowSuccessorsOk successorOk setsOk rowSetsOk setOk ascends apart blank unusedOk blanksOk reachedOk sheetFault successor acceptance acceptances initials mayStop step bit has inside meets setOf walk nearer leads meetsIn distance later choice leastFrom leastTrace cleared code pairNext product onCodes pairDistance pairTrace pairCleared all any first count upTo hits isProbe gather select probes missing orNext firstMissing firstMissed strays hasStray firstStray covers hasRefusal violates violating allEvents outside probesAt chosen flag flagOf offerOf newRun openFault openOf recordOk eventFault reportFault movedBy endedRun answerOf stepOf failsFrom verdictFault verdictOf said judged pairs nearest nearestTrace clearedOf lastRow refusalNamed named judgedPair compareFault outcomeOf traceAfter compared
 cases-hold = refl

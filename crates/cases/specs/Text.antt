@@ -20,8 +20,10 @@ use Rattle.probes_spec.specs.Probes.{hits, isProbe, gather, select, probes}
 use Rattle.probes_spec.specs.FirstMissed.{missing, orNext, firstMissing, firstMissed}
 use Rattle.refinement.specs.PairTests.{strays, hasStray, firstStray, covers, hasRefusal, violates, violating}
 use Rattle.comparison_spec.specs.Comparison.{pairs, nearest, nearestTrace, clearedOf, lastRow, refusalNamed, named, judged, compareFault, outcomeOf, traceAfter}
-use Rattle.lines_spec.specs.Lines.{ascii, decimalIn, decimal, numberLine, sheetLine, violatesLine, eventList, traceLine, refusedLine, outcomeLines}
-use Rattle.lines_spec.specs.Program.{cutInput, firstEnd, firstSheet, secondSheet, workList, traceList, comparedLines, deviceLines, sheetsLines, inputLines, compareText}
+use Rattle.text_spec.specs.Lines.{ascii, decimalIn, decimal, numberLine, sheetLine, eventList}
+use Rattle.text_spec.specs.Input.{cutInput, firstEnd, firstSheet, secondSheet}
+use Rattle.lines_spec.specs.Lines.{violatesLine, traceLine, refusedLine, outcomeLines}
+use Rattle.lines_spec.specs.Program.{workList, traceList, comparedLines, deviceLines, sheetsLines, inputLines, compareText}
 use Rattle.cases.specs.Sheets.{exampleReference, exampleDevice, mustLoop, stopped}
 
 -- 01's input

@@ -1,4 +1,5 @@
 pub mod Faults
 pub mod Names
 pub mod Pairs
+pub mod Rows
 pub mod Tells

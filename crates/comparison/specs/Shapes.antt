@@ -1,9 +1,9 @@
 -- The shapes of loops and the tables on the way; nothing to believe. Laws join them to the comparison's definitions.
 use mathlib.Core.Bool.{Bool, false, not, _&&_, _||_}
 use mathlib.Core.List.{List, _++_}
-use Prim.Native.Nat.{ℕ, _-_, _*_, _/_, _%_, _≤_, _<_}
+use Prim.Native.Nat.{ℕ, zero, suc, _+_, _-_, _*_, _/_, _%_, _≤_, _<_}
 use lib.Dec.{eqb, leb}
-use lib.ListN.{getD, replicate}
+use lib.ListN.{getD, set, replicate}
 use Rattle.base.specs.Range.{any}
 use Rattle.base.specs.Refusal.{unless, orElse}
 use Rattle.base.specs.Table.{upTo}
@@ -31,6 +31,11 @@ faultOn P Q words places =
 -- what stands at place k of a sheet's table of successors
 unfoldable pub flatAt : Sheet → ℕ → ℕ
 flatAt s k = successor (row s (k / 12)) (k % 12)
+
+-- a table in which the first j successors of a row were stored from a place on
+unfoldable pub withRow : Row → ℕ → ℕ → List ℕ → List ℕ
+withRow r at zero t = t
+withRow r at (suc j) t = set (withRow r at j t) (at + j) (successor r j)
 
 -- the initials of node v
 unfoldable pub initialsAt : ℕ → Sheet → ℕ → ℕ

@@ -12,7 +12,7 @@ use lib.Arith.{digits-lt, digits-div, digits-mod}
 use lib.ListN.{length, getD, replicate, List·getD-append}
 use borrow.Author.Tests.{lt-ltb, le-ltb}
 use Rattle.base.specs.Truth.{lt-or-ge}
-use Rattle.base.specs.Count.{count}
+use Rattle.base.specs.Count.{count-le}
 use Rattle.base.specs.Table.{upTo, length-upTo, getD-upTo}
 use Rattle.walks.specs.Graph.{Graph}
 use Rattle.walks.specs.Cleared.{cleared}
@@ -63,15 +63,6 @@ bad-agree traceOnly P Q n m h k =
     ∙ getD-upTo f (P .n * Q .n) (n * Q .n + m) false l ∙ rw (digits-div n k, digits-mod n k)
 
 -- ---- what is found
-
-count-le : (f : ℕ → Bool) (n : ℕ) → count f n ≤ n
-unfolding count
-count-le f zero = omega arith
-count-le f (suc n) = go (f n) (count-le f n)
-  where
-    go : (b : Bool) → count f n ≤ n → count f n + cond b 1 0 ≤ suc n
-    go true h = omega arith
-    go false h = omega arith
 
 cleared-le : (r d : Graph) (k : ℕ) → pairCleared r d k ≤ r .size * d .size
 unfolding pairCleared cleared product

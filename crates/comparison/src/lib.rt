@@ -2,13 +2,13 @@
 // violation with what is named, or the number of the refusal, and says what the lists then hold. The successors and the violating
 // pairs are laid out in flat tables once, and a search over these finds the nearest violating pair.
 ghost use mathlib.Core.Path.{_≡_};
-ghost use Prim.Native.Nat.{_≤_};
+ghost use Prim.Native.Nat.{_+_, _≤_};
 ghost use Rattle.base.specs.Range.{first};
 ghost use Rattle.base.specs.Table.{upTo};
 ghost use Rattle.events.specs.Sets.{has};
 ghost use Rattle.sheet_spec.specs.Rules.{sheetFault};
 ghost use Rattle.comparison_spec.specs.Comparison.{compareFault, named};
-ghost use Rattle.comparison.specs.Shapes.{faultOn, flatAt, initialsAt, covering, refusing, violatesBy, badTable, told, Fits};
+ghost use Rattle.comparison.specs.Shapes.{faultOn, flatAt, withRow, initialsAt, covering, refusing, violatesBy, badTable, told, Fits};
 ghost use Rattle.comparison_spec.specs.Contract.{Compares};
 use comparison_spec::Outcome;
 use probes_spec::Missed;
@@ -46,15 +46,25 @@ fn fault_on(reference: Sheet, device: Sheet, words: usize, places: usize) -> u8
 
 // ---- tables
 
+// Stores the twelve successors of a row from a place on.
+fn put_row(table: &mut [u8; 384], at: usize, row: Row)
+    requires { ⌜ at + 12 ≤ 384 ⌝ }
+    ensures { λ _. ⌜ now (table .exit) ≡ withRow row at 12 (now (table .entry)) ⌝ }
+{
+    for i in 0..12 {
+        let x = rows::successor_of(row, i);
+        table[at + i] = x;
+    }
+}
+
 // The successors of a sheet: node v's on event i stands at place 12 v + i.
 fn flatten(sheet: Sheet) -> [u8; 384]
     ensures { λ r. ⌜ r ≡ upTo (flatAt sheet) 384 ⌝ }
 {
     let mut table = [0u8; 384];
-    for k in 0..384 {
-        let row = sheet.rows[k / 12];
-        let x = rows::successor_of(row, k % 12);
-        table[k] = x;
+    for v in 0..32 {
+        let row = sheet.rows[v];
+        put_row(&mut table, 12 * v, row);
     }
     table
 }

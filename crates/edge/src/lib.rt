@@ -1,16 +1,20 @@
 // The edge: what C and Rust call, each function under the prefix `bench_`. None has a `requires`: every content of what is
-// lent or handed over is answered. Slices arrive as a pointer and a length, structs by value in the layout of C
-// (include/bench.h). Each result is equated with the definition of the call, in 01's numbers for each case of its answer.
+// lent or handed over is answered. Slices arrive as a pointer and a length, a run's record that is lent as a pointer, structs
+// by value; all in the layout of C (include/bench.h). Each result is equated with the definition of the call, in 01's numbers
+// for each case of its answer.
 ghost use mathlib.Core.Path.{_≡_};
 ghost use Rattle.sheet_spec.specs.Rules.{sheetFault};
 ghost use Rattle.sheet_spec.specs.Reading.{readSheet};
 ghost use Rattle.probes_spec.specs.Listing.{listedNumbers, listNumbers, listAfter};
+ghost use Rattle.tests_spec.specs.Flags.{flag};
 ghost use Rattle.tests_spec.specs.Runs.{openOf, stepOf};
 ghost use Rattle.tests_spec.specs.Verdicts.{verdictOf};
 ghost use Rattle.tests_spec.specs.Numbers.{said, judged};
+ghost use Rattle.verdicts_spec.specs.Suites.{suiteOf, verdictsAfter};
+ghost use Rattle.verdicts_spec.specs.Numbers.{suited};
 ghost use Rattle.comparison_spec.specs.Comparison.{outcomeOf, traceAfter, workAfter};
 ghost use Rattle.comparison_spec.specs.Numbers.{compared};
-ghost use Rattle.edge.specs.Flat.{flag, flagAfter, reportFlat, listedFlat, saidFlat, runFlat, runAfter, steppedFlat, zeroFlat, comparedFlat};
+ghost use Rattle.edge.specs.Flat.{reportFlat, listedFlat, saidFlat, steppedFlat, suitedFlat, comparedFlat};
 use comparison_spec::Outcome;
 use probes_spec::Listed;
 use sheet_spec::ReadSheet;
@@ -20,6 +24,7 @@ use tests_spec::Report;
 use tests_spec::Run;
 use tests_spec::Stepped;
 use tests_spec::Verdict;
+use verdicts_spec::Suite;
 
 // ---- sheets
 
@@ -83,22 +88,11 @@ pub struct BenchSaid {
     pub value: u16,
 }
 
-// A run's record in numbers.
-#[repr(C)]
-pub struct BenchRun {
-    pub k: u16,
-    pub h: u16,
-    pub traces: u8,
-    pub ended: u8,
-    pub node: u8,
-    pub depth: u16,
-}
-
 // An answer and the record after it.
 #[repr(C)]
 pub struct BenchStepped {
     pub answer: BenchSaid,
-    pub run: BenchRun,
+    pub run: Run,
 }
 
 // The numbers of an answer.
@@ -157,19 +151,6 @@ fn judged_flat(a: Verdict) -> BenchSaid
     }
 }
 
-// A flag's number after a call.
-fn flag_after(x: u8, b: bool) -> u8
-    ensures { λ r. ⌜ r ≡ flagAfter x b ⌝ }
-{
-    if b {
-        if x == 0 {
-            return 1;
-        }
-        return x;
-    }
-    0
-}
-
 // The report that a number is.
 fn report_flat(x: u16) -> Report
     ensures { λ r. ⌜ r ≡ reportFlat x ⌝ }
@@ -180,44 +161,13 @@ fn report_flat(x: u16) -> Report
     Report::Blocked
 }
 
-// The record that the numbers are.
-fn run_flat(r: BenchRun) -> Run
-    ensures { λ q. ⌜ q ≡ runFlat r ⌝ }
-{
-    Run {
-        k: r.k,
-        h: r.h,
-        traces: r.traces != 0,
-        ended: r.ended != 0,
-        node: r.node,
-        depth: r.depth,
-    }
-}
-
-// The numbers of a record that was these numbers before.
-fn run_after(r: BenchRun, q: Run) -> BenchRun
-    ensures { λ z. ⌜ z ≡ runAfter r q ⌝ }
-{
-    let traces = flag_after(r.traces, q.traces);
-    let ended = flag_after(r.ended, q.ended);
-    BenchRun {
-        k: q.k,
-        h: q.h,
-        traces: traces,
-        ended: ended,
-        node: q.node,
-        depth: q.depth,
-    }
-}
-
-// An answer and its record, where the record was these numbers before.
-fn stepped_flat(r: BenchRun, z: Stepped) -> BenchStepped
-    ensures { λ x. ⌜ x ≡ steppedFlat r z ⌝ }
+// An answer in numbers, and its record.
+fn stepped_flat(z: Stepped) -> BenchStepped
+    ensures { λ x. ⌜ x ≡ steppedFlat z ⌝ }
 {
     let a = z.answer;
-    let q = z.run;
+    let run = z.run;
     let answer = said_flat(a);
-    let run = run_after(r, q);
     BenchStepped {
         answer: answer,
         run: run,
@@ -228,51 +178,25 @@ fn stepped_flat(r: BenchRun, z: Stepped) -> BenchStepped
 // refusal and a record of zeros.
 #[no_mangle]
 pub extern "C" fn bench_open(sheet: Sheet, k: u16, h: u16, traces: u8) -> BenchStepped
-    ensures { λ r. ⌜ r ≡ steppedFlat zeroFlat (openOf sheet k h (flag traces)) ⌝ }
+    ensures { λ r. ⌜ r ≡ steppedFlat (openOf sheet k h (flag traces)) ⌝ }
 {
-    let none = BenchRun {
-        k: 0,
-        h: 0,
-        traces: 0,
-        ended: 0,
-        node: 0,
-        depth: 0,
-    };
     let stepped = tests::open_test(sheet, k, h, traces != 0);
-    stepped_flat(none, stepped)
-}
-
-// Answers a report, and gives the record after it.
-fn step_flat(sheet: Sheet, run: BenchRun, report: u16) -> BenchStepped
-    ensures { λ r. ⌜ r ≡ steppedFlat run (stepOf sheet (runFlat run) (reportFlat report)) ⌝ }
-{
-    let before = run_flat(run);
-    let said = report_flat(report);
-    let stepped = tests::step(sheet, before, said);
-    stepped_flat(run, stepped)
+    stepped_flat(stepped)
 }
 
 // Answers a report, and gives the record after it; a refusal gives its number and the record as it came.
 #[no_mangle]
-pub extern "C" fn bench_step(sheet: Sheet, run: BenchRun, report: u16) -> BenchStepped
-    ensures { λ r. ⌜ r ≡ steppedFlat run (stepOf sheet (runFlat run) (reportFlat report)) ⌝ }
+pub extern "C" fn bench_step(sheet: Sheet, run: Run, report: u16) -> BenchStepped
+    ensures { λ r. ⌜ r ≡ steppedFlat (stepOf sheet run (reportFlat report)) ⌝ }
 {
-    step_flat(sheet, run, report)
+    let said = report_flat(report);
+    let stepped = tests::step(sheet, run, said);
+    stepped_flat(stepped)
 }
 
 // Answers a report on the record that the bench holds, and stores the record after it there.
 #[no_mangle]
-pub extern "C" fn bench_report(run: &mut BenchRun, sheet: Sheet, report: u16) -> BenchSaid
-    ensures { λ r. ⌜ (r ≡ saidFlat (said (stepOf sheet (runFlat (now (run .entry))) (reportFlat report) .answer))) × (now (run .exit) ≡ runAfter (now (run .entry)) (stepOf sheet (runFlat (now (run .entry))) (reportFlat report) .run)) ⌝ }
-{
-    let stepped = step_flat(sheet, *run, report);
-    *run = stepped.run;
-    stepped.answer
-}
-
-// The same on a record whose flags are of the type `bool`, by the thin function of `tests`.
-#[no_mangle]
-pub extern "C" fn bench_take_report(run: &mut Run, sheet: Sheet, report: u16) -> BenchSaid
+pub extern "C" fn bench_report(run: &mut Run, sheet: Sheet, report: u16) -> BenchSaid
     ensures { λ r. ⌜ (r ≡ saidFlat (said (stepOf sheet (now (run .entry)) (reportFlat report) .answer))) × (now (run .exit) ≡ stepOf sheet (now (run .entry)) (reportFlat report) .run) ⌝ }
 {
     let code = report_flat(report);
@@ -287,6 +211,44 @@ pub extern "C" fn bench_judge(reference: Sheet, device: Sheet, k: u16, traces: u
 {
     let verdict = tests::judge(reference, device, k, traces != 0);
     judged_flat(verdict)
+}
+
+// The answer on all tests: the refusal, 0 for none, and how many were judged.
+#[repr(C)]
+pub struct BenchSuited {
+    pub refusal: u8,
+    pub count: u16,
+}
+
+// The numbers of the answer on all tests.
+fn suited_flat(a: Suite) -> BenchSuited
+    ensures { λ r. ⌜ r ≡ suitedFlat (suited a) ⌝ }
+{
+    match a {
+        Suite::Judged(n) => BenchSuited {
+            refusal: 0,
+            count: n,
+        },
+        Suite::Denied(m) => BenchSuited {
+            refusal: m,
+            count: 0,
+        },
+    }
+}
+
+// Judges tests 0 to p q - 1, trace-only if `traces` is not 0: writes 1 for "passes" or 2 for "fails" for each to the front of the lent
+// list and answers how many there are; or the number of the refusal, and the list is as it was.
+#[no_mangle]
+pub extern "C" fn bench_judge_all(
+    reference: Sheet,
+    device: Sheet,
+    traces: u8,
+    out: &mut [u8],
+) -> BenchSuited
+    ensures { λ r. ⌜ (r ≡ suitedFlat (suited (suiteOf reference device (now (out .entry))))) × (now (out .exit) ≡ verdictsAfter (flag traces) reference device (now (out .entry))) ⌝ }
+{
+    let answer = verdicts::judge_all(reference, device, traces != 0, out);
+    suited_flat(answer)
 }
 
 // ---- comparisons

@@ -1,2 +1,3 @@
 pub mod Bit
 pub mod Sets
+pub mod Gathered

@@ -15,8 +15,9 @@ use Rattle.events.specs.Sets.{has, has→, has←, meets, meets→, meets←}
 use Rattle.sheet_spec.specs.declared.Row.{Row}
 use Rattle.sheet_spec.specs.Kept.{mayStop}
 use Rattle.refinement.specs.PairTests.{hasStray, hasRefusal, violates}
-use Rattle.layers.specs.Shapes.{rowIn, initialsIn, strayWord, stopWord, refusalWord, earlyWord, lateWord, strayWords, earlyWords, lateWords, hits}
-use Rattle.layers.proofs.Words.{has-setOf, or-setOf, setOf-ext, any-ext}
+use Rattle.layers.specs.Shapes.{rowIn, initialsIn, strayWord, stopWord, refusalWord, earlyWord, lateWord, strayWords, earlyWords, lateWords, hits, strayTable, earlyTable, lateTable}
+use Rattle.events.specs.Gathered.{has-setOf, or-setOf, setOf-ext}
+use Rattle.layers.proofs.Words.{any-ext}
 
 -- a set meets a gathered one exactly if some node is in it and passes the test
 meets-setOf : (x q : ℕ) (f : ℕ → Bool) → meets x (setOf f q) ≡ any (λ m. has x m && f m) q
@@ -66,27 +67,17 @@ module _ (to : Bool) (mine theirs : List Row) (q e : ℕ) where
   abbrev pub late : ℕ → ℕ → Bool
   late n m = violates to e (rowIn mine n) (rowIn theirs m)
 
-  -- the words, as the tables have them
-  abbrev pub strayTable : List ℕ
-  strayTable = upTo (strayWords (upTo (initialsIn e mine) 32) (upTo (initialsIn e theirs) 32) q) 32
-
-  abbrev pub earlyTable : List ℕ
-  earlyTable = upTo (earlyWords strayTable mine (stopWord theirs q) to) 32
-
-  abbrev pub lateTable : List ℕ
-  lateTable = upTo (lateWords strayTable mine theirs q to) 32
-
   module _ (small : q ≤ 32) where
     -- a word of strays
-    stray-is : (n : ℕ) → n < 32 → getD strayTable n 0 ≡ setOf (λ m. hasStray e (rowIn mine n) (rowIn theirs m)) q
+    stray-is : (n : ℕ) → n < 32 → getD (strayTable mine theirs q e) n 0 ≡ setOf (λ m. hasStray e (rowIn mine n) (rowIn theirs m)) q
     unfolding strayWords strayWord initialsIn hasStray
     stray-is n l =
         getD-upTo (strayWords (upTo (initialsIn e mine) 32) (upTo (initialsIn e theirs) 32) q) 32 n 0 l
         ∙ rw (getD-upTo (initialsIn e mine) 32 n 0 l) (setOf-ext _ _ q (λ m k. rw (getD-upTo (initialsIn e theirs) 32 m 0 (omega arith))))
 
-    pub early-is : (n : ℕ) → n < 32 → getD earlyTable n 0 ≡ setOf (early n) q
+    pub early-is : (n : ℕ) → n < 32 → getD (earlyTable to mine theirs q e) n 0 ≡ setOf (early n) q
     unfolding earlyWords earlyWord stopWord
-    early-is n l = getD-upTo (earlyWords strayTable mine (stopWord theirs q) to) 32 n 0 l ∙ rw (stray-is n l) (go to (mayStop (rowIn mine n)))
+    early-is n l = getD-upTo (earlyWords (strayTable mine theirs q e) mine (stopWord theirs q) to) 32 n 0 l ∙ rw (stray-is n l) (go to (mayStop (rowIn mine n)))
       where
         s : ℕ → Bool
         s m = hasStray e (rowIn mine n) (rowIn theirs m)
@@ -99,9 +90,9 @@ module _ (to : Bool) (mine theirs : List Row) (q e : ℕ) where
         go false true = setOf-ext s (λ m. s m || (true && (t m && false))) q (λ m k. none (s m) (t m))
         go false false = or-setOf s t q ∙ setOf-ext (λ m. s m || t m) (λ m. s m || (true && (t m && true))) q (λ m k. some (s m) (t m))
 
-    pub late-is : (n : ℕ) → n < 32 → getD lateTable n 0 ≡ setOf (late n) q
+    pub late-is : (n : ℕ) → n < 32 → getD (lateTable to mine theirs q e) n 0 ≡ setOf (late n) q
     unfolding lateWords lateWord refusalWord violates
-    late-is n l = getD-upTo (lateWords strayTable mine theirs q to) 32 n 0 l ∙ rw (stray-is n l) (go to)
+    late-is n l = getD-upTo (lateWords (strayTable mine theirs q e) mine theirs q to) 32 n 0 l ∙ rw (stray-is n l) (go to)
       where
         s : ℕ → Bool
         s m = hasStray e (rowIn mine n) (rowIn theirs m)

@@ -1,4 +1,5 @@
 pub mod Words
+pub mod Images
 pub mod Moves
 pub mod Faults
 pub mod Fails

@@ -2,28 +2,50 @@
 use mathlib.Core.Path.{_≡_, refl, sym, ap, _∙_}
 use mathlib.Core.Bool.{Bool, true, false, _&&_, _||_, cond}
 use mathlib.Core.List.{List}
-use Prim.Native.Nat.{ℕ, zero, suc, _+_, _*_, _^_, _≤_, _<_}
+use Prim.Native.Nat.{ℕ, zero, suc, _+_, _*_, _≤_, _<_}
 use native.Mathlib.Omega.{arith}
+use native.Mathlib.Nat.{add-zero}
 use native.Mathlib.Numerals.{add-one}
 use native.Mathlib.Decide.{ℕ-discrete}
 use lib.Arith.{digits-div, digits-mod}
 use lib.Dec.{eqb, ltb}
-use lib.Bits.{bitOr}
+use lib.Bits.{bitOr, or-zero-r}
 use lib.ListN.{length, getD, set, replicate, length-set, length-replicate}
-use lib.Seq.{getD-set-same, getD-set-other}
+use lib.Seq.{getD-set-same, getD-set-other, set-getD}
 use borrow.Author.Tests.{ltb-true, eq-eqb, ne-eqb}
+use Rattle.sheet.proofs.Loops.{Filling, stored}
 use Rattle.base.specs.Range.{any}
 use Rattle.base.specs.Table.{upTo, getD-upTo}
 use Rattle.events.specs.Sets.{has}
 use Rattle.sheet_spec.specs.declared.Row.{Row}
 use Rattle.sheet_spec.specs.Kept.{successor}
-use Rattle.layers.specs.Shapes.{rowIn, nodeIf, flatAt, leadsTo, joined, image, placed, spread, next}
-use Rattle.layers.proofs.Words.{has-or, has-one, has-zero}
+use Rattle.layers.specs.Shapes.{rowIn, rowPut, flatAt, leadsTo, image, placed, spread, next}
+use Rattle.layers.proofs.Words.{has-or, has-zero}
+use Rattle.layers.proofs.Images.{image-none}
 
 -- the table of a sheet's successors holds them
 pub leads-is : (rows : List Row) (v i : ℕ) → v < 32 → i < 12 → leadsTo (upTo (flatAt rows) 384) v i ≡ successor (rowIn rows v) i
 unfolding flatAt
 leads-is rows v i l k = getD-upTo (flatAt rows) 384 (v * 12 + i) 0 (omega arith) ∙ rw (digits-div v k, digits-mod v k)
+
+-- one successor more of a node is put in its place
+pub row-more : (t : List ℕ) (row : Row) (v i : ℕ) {x : ℕ} {out : List ℕ} → out ≡ rowPut t row v i → x ≡ successor row i
+    → set out (v * 12 + i) x ≡ rowPut t row v (i + 1)
+unfolding rowPut
+row-more t row v i h e = rw (add-one i, e, h)
+
+-- the places of one node more are filled
+row-filled : (rows : List Row) (v : ℕ) {t : List ℕ} (i : ℕ) → v < 32 → i ≤ 12 → Filling (flatAt rows) 255 384 (v * 12) t
+    → Filling (flatAt rows) 255 384 (v * 12 + i) (rowPut t (rowIn rows v) v i)
+unfolding rowPut flatAt
+row-filled rows v zero l k h = rw (add-zero (v * 12)) h
+row-filled rows v (suc i) l k h =
+    let e : v * 12 + suc i ≡ v * 12 + i + 1 = omega arith in
+    rw e (stored (row-filled rows v i l (omega arith) h) (omega arith) (rw (digits-div v {m = 12} k, digits-mod v {m = 12} k)))
+
+pub row-stored : (rows : List Row) {v : ℕ} {t out : List ℕ} → Filling (flatAt rows) 255 384 (v * 12) t → v < 32 → out ≡ rowPut t (rowIn rows v) v 12
+    → Filling (flatAt rows) 255 384 ((v + 1) * 12) out
+row-stored rows {v} h l p = let e : (v + 1) * 12 ≡ v * 12 + 12 = omega arith in rw (e, p) (row-filled rows v 12 l (omega arith) h)
 
 pub zeros : (k v : ℕ) → _≡_ {A = ℕ} (getD (replicate k 0) v 0) 0
 zeros zero v = refl
@@ -34,33 +56,33 @@ or-none : (a b : Bool) → a ≡ (a || (false && b))
 or-none true b = refl
 or-none false b = refl
 
--- a set of nodes moved by event i
-pub image-has : (t : List ℕ) (i q from m y : ℕ)
-    → has (image t i q from m) y ≡ any (λ u. (has from u && ltb (leadsTo t u i) q) && eqb (leadsTo t u i) y) m
-unfolding image any joined nodeIf
-image-has t i q from zero y = has-zero y
-image-has t i q from (suc m) y = go (has from m && ltb (leadsTo t m i) q) ∙ ap (λ (b : Bool). b || ((has from m && ltb (leadsTo t m i) q) && eqb (leadsTo t m i) y)) (image-has t i q from m y)
+-- from no node nothing is placed
+pub spread-none : (out mine theirs : List ℕ) (n p from i : ℕ) → from ≡ 0 → out ≡ spread out mine theirs n p from i
+unfolding spread placed
+spread-none out mine theirs n p from zero z = refl
+spread-none out mine theirs n p from (suc i) z =
+    rw (← spread-none out mine theirs n p from i z, z, image-none theirs i 32, or-zero-r (getD out (leadsTo mine n i) 0), set-getD out (leadsTo mine n i) 0) (go (ltb (leadsTo mine n i) p))
   where
-    go : (b : Bool) → has (cond b (bitOr (image t i q from m) (2 ^ leadsTo t m i)) (image t i q from m)) y ≡ (has (image t i q from m) y || (b && eqb (leadsTo t m i) y))
-    go true = has-or (image t i q from m) (2 ^ leadsTo t m i) y ∙ ap (λ (b : Bool). has (image t i q from m) y || b) (has-one (leadsTo t m i) y)
-    go false = or-none (has (image t i q from m) y) (eqb (leadsTo t m i) y)
+    go : (b : Bool) → out ≡ cond b out out
+    go true = refl
+    go false = refl
 
-module _ (mine theirs : List ℕ) (p q : ℕ) (small : p ≤ 32) where
-  placed-length : (out : List ℕ) (x i from : ℕ) → length (placed out theirs x i p q from) ≡ length out
+module _ (mine theirs : List ℕ) (p : ℕ) (small : p ≤ 32) where
+  placed-length : (out : List ℕ) (x i from : ℕ) → length (placed out theirs x i p from) ≡ length out
   unfolding placed
   placed-length out x i from = go (ltb x p)
     where
-      go : (b : Bool) → length (cond b (set out x (bitOr (getD out x 0) (image theirs i q from q))) out) ≡ length out
-      go true = length-set out x (bitOr (getD out x 0) (image theirs i q from q))
+      go : (b : Bool) → length (cond b (set out x (bitOr (getD out x 0) (image theirs i from 32))) out) ≡ length out
+      go true = length-set out x (bitOr (getD out x 0) (image theirs i from 32))
       go false = refl
 
   placed-has : (out : List ℕ) (x i from v y : ℕ) → length out ≡ 32
-      → has (getD (placed out theirs x i p q from) v 0) y ≡ (has (getD out v 0) y || ((ltb x p && eqb x v) && has (image theirs i q from q) y))
+      → has (getD (placed out theirs x i p from) v 0) y ≡ (has (getD out v 0) y || ((ltb x p && eqb x v) && has (image theirs i from 32) y))
   unfolding placed
   placed-has out x i from v y l = go (ltb x p) refl (ℕ-discrete x v)
     where
       w : ℕ
-      w = image theirs i q from q
+      w = image theirs i from 32
 
       go : (b : Bool) → ltb x p ≡ b → Dec (x ≡ v)
           → has (getD (cond b (set out x (bitOr (getD out x 0) w)) out) v 0) y ≡ (has (getD out v 0) y || ((b && eqb x v) && has w y))
@@ -70,12 +92,12 @@ module _ (mine theirs : List ℕ) (p q : ℕ) (small : p ≤ 32) where
 
   -- event i leads from node n of the reference and from a node of the set to the pair (v, y)
   abbrev pub moves : ℕ → ℕ → ℕ → ℕ → ℕ → Bool
-  moves n from v y i = (ltb (leadsTo mine n i) p && eqb (leadsTo mine n i) v) && has (image theirs i q from q) y
+  moves n from v y i = (ltb (leadsTo mine n i) p && eqb (leadsTo mine n i) v) && has (image theirs i from 32) y
 
-  spread-length : (out : List ℕ) (n from i : ℕ) → length (spread out mine theirs n p q from i) ≡ length out
+  spread-length : (out : List ℕ) (n from i : ℕ) → length (spread out mine theirs n p from i) ≡ length out
   unfolding spread
   spread-length out n from zero = refl
-  spread-length out n from (suc i) = placed-length (spread out mine theirs n p q from i) (leadsTo mine n i) i from ∙ spread-length out n from i
+  spread-length out n from (suc i) = placed-length (spread out mine theirs n p from i) (leadsTo mine n i) i from ∙ spread-length out n from i
 
   or-assoc : (a b c : Bool) → ((a || b) || c) ≡ (a || (b || c))
   or-assoc true b c = refl
@@ -86,30 +108,30 @@ module _ (mine theirs : List ℕ) (p q : ℕ) (small : p ≤ 32) where
   or-false false = refl
 
   spread-has : (out : List ℕ) (n from i v y : ℕ) → length out ≡ 32
-      → has (getD (spread out mine theirs n p q from i) v 0) y ≡ (has (getD out v 0) y || any (moves n from v y) i)
+      → has (getD (spread out mine theirs n p from i) v 0) y ≡ (has (getD out v 0) y || any (moves n from v y) i)
   unfolding spread any
   spread-has out n from zero v y l = or-false (has (getD out v 0) y)
   spread-has out n from (suc i) v y l =
-      placed-has (spread out mine theirs n p q from i) (leadsTo mine n i) i from v y (spread-length out n from i ∙ l)
+      placed-has (spread out mine theirs n p from i) (leadsTo mine n i) i from v y (spread-length out n from i ∙ l)
       ∙ ap (λ (b : Bool). b || moves n from v y i) (spread-has out n from i v y l)
       ∙ or-assoc (has (getD out v 0) y) (any (moves n from v y) i) (moves n from v y i)
 
-  next-length : (e : ℕ) (layer : List ℕ) (n : ℕ) → length (next mine theirs p q e layer n) ≡ 32
+  next-length : (e : ℕ) (layer : List ℕ) (n : ℕ) → length (next mine theirs p e layer n) ≡ 32
   unfolding next
   next-length e layer zero = length-replicate {A = ℕ} 32 0
-  next-length e layer (suc n) = spread-length (next mine theirs p q e layer n) n (getD layer n 0) e ∙ next-length e layer n
+  next-length e layer (suc n) = spread-length (next mine theirs p e layer n) n (getD layer n 0) e ∙ next-length e layer n
 
   -- one node more of the reference
-  pub next-more : (e : ℕ) (layer out out′ : List ℕ) (n : ℕ) → out ≡ next mine theirs p q e layer n → out′ ≡ spread out mine theirs n p q (getD layer n 0) e
-      → out′ ≡ next mine theirs p q e layer (n + 1)
+  pub next-more : (e : ℕ) (layer out out′ : List ℕ) (n : ℕ) → out ≡ next mine theirs p e layer n → out′ ≡ spread out mine theirs n p (getD layer n 0) e
+      → out′ ≡ next mine theirs p e layer (n + 1)
   unfolding next
   next-more e layer out out′ n a b = rw (add-one n, ← a) b
 
   -- the pair (v, y) is in the next layer exactly if some event leads to it from a pair of the layer
   pub next-has : (e : ℕ) (layer : List ℕ) (n v y : ℕ)
-      → has (getD (next mine theirs p q e layer n) v 0) y ≡ any (λ u. any (moves u (getD layer u 0) v y) e) n
+      → has (getD (next mine theirs p e layer n) v 0) y ≡ any (λ u. any (moves u (getD layer u 0) v y) e) n
   unfolding next any
   next-has e layer zero v y = rw (zeros 32 v) (has-zero y)
   next-has e layer (suc n) v y =
-      spread-has (next mine theirs p q e layer n) n (getD layer n 0) e v y (next-length e layer n)
+      spread-has (next mine theirs p e layer n) n (getD layer n 0) e v y (next-length e layer n)
       ∙ ap (λ (b : Bool). b || any (moves n (getD layer n 0) v y) e) (next-has e layer n v y)

@@ -1,23 +1,16 @@
 // The verdict on a device, worked out over layers of node pairs: a layer has for each node of the reference one word, with a bit
 // for each node of the device. Nothing here takes a sheet: rows, tables and words do.
 ghost use mathlib.Core.Path.{_≡_};
-ghost use mathlib.Core.List.{List};
-ghost use Prim.Native.Nat.{_≤_, _<_};
+ghost use mathlib.Core.Bool.{_||_};
+ghost use mathlib.Core.List.{List, _++_};
+ghost use Prim.Native.Nat.{_-_, _^_, _≤_, _<_};
+ghost use lib.ListN.{length, drop};
 ghost use Rattle.base.specs.Table.{upTo};
-ghost use Rattle.events.specs.Sets.{has};
 ghost use Rattle.tests_spec.specs.Verdicts.{failsFrom};
-ghost use Rattle.layers.specs.Shapes.{sheetWith, nodeIf, flatAt, initialsIn, strayWord, stopWord, refusalWord, earlyWord, lateWord, strayWords, earlyWords, lateWords, joined, image, placed, spread, next, hits, failsOn, start};
+ghost use Rattle.layers.specs.Shapes.{sheetWith, nodeIf, rowPut, flatAt, initialsIn, strayWord, stopWord, refusalWord, earlyWord, lateWord, strayWords, earlyWords, lateWords, bitAt, leastNode, image, placed, spread, next, hits, failsOn, start, tablesOf, kindOf};
 use sheet_spec::Row;
 
 // ---- words
-
-// Whether node `v` is in a set of nodes.
-fn has_node(set: u32, v: usize) -> bool
-    requires { ⌜ v < 32 ⌝ }
-    ensures { λ r. ⌜ r ≡ has set v ⌝ }
-{
-    (set >> v) % 2 == 1
-}
 
 // The set with node `v`, if it is to be.
 fn with_node(set: u32, v: usize, is_in: bool) -> u32
@@ -29,17 +22,55 @@ fn with_node(set: u32, v: usize, is_in: bool) -> u32
 
 // ---- tables, each filled once
 
+// The successors of node `v` are put in its twelve places.
+fn put_row(table: &mut [u8; 384], row: Row, v: usize)
+    requires { ⌜ v < 32 ⌝ }
+    ensures { λ _. ⌜ now (table .exit) ≡ rowPut (now (table .entry)) row v 12 ⌝ }
+{
+    for i in 0..12 {
+        table[v * 12 + i] = row.succ[i];
+    }
+}
+
 // The successors of all nodes, twelve to a node.
 fn flat(rows: [Row; 32]) -> [u8; 384]
     ensures { λ r. ⌜ r ≡ upTo (flatAt rows) 384 ⌝ }
 {
     let mut table = [255u8; 384];
-    for j in 0..384 {
-        let row = rows[j / 12];
-        let x = rows::successor_of(row, j % 12);
-        table[j] = x;
+    for v in 0..32 {
+        let row = rows[v];
+        put_row(&mut table, row, v);
     }
     table
+}
+
+// Where event j / 32 leads from node j % 32, as a set: of one node or, where it leads to none of the first `q`, of none. From `q`
+// on there is no node.
+fn bit_at(table: &[u8; 384], q: usize, j: usize) -> u32
+    requires { ⌜ (j < 384) × (q ≤ 32) ⌝ }
+    ensures { λ r. ⌜ r ≡ bitAt (now (table .entry)) q j ⌝ }
+{
+    let m = j % 32;
+    if m < q {
+        let y = base::wide(table[m * 12 + j / 32]);
+        if y < q {
+            return with_node(0, y, true);
+        }
+    }
+    0
+}
+
+// The same of all nodes, thirty-two to an event.
+fn bits_of(table: &[u8; 384], q: usize) -> [u32; 384]
+    requires { ⌜ q ≤ 32 ⌝ }
+    ensures { λ r. ⌜ r ≡ upTo (bitAt (now (table .entry)) q) 384 ⌝ }
+{
+    let mut bits = [0u32; 384];
+    for j in 0..384 {
+        let x = bit_at(table, q, j);
+        bits[j] = x;
+    }
+    bits
 }
 
 // The initials of all nodes.
@@ -68,6 +99,7 @@ fn stray_word(mine: u16, theirs: [u16; 32], q: usize) -> u32
     set
 }
 
+// The same for every node of the reference, by its initials.
 fn stray_words(mine: [u16; 32], theirs: [u16; 32], q: usize) -> [u32; 32]
     requires { ⌜ q ≤ 32 ⌝ }
     ensures { λ r. ⌜ r ≡ upTo (strayWords mine theirs q) 32 ⌝ }
@@ -116,6 +148,7 @@ fn early_word(strays: u32, may_stop: bool, stops: u32, trace_only: bool) -> u32
     if may_stop { strays } else { strays | stops }
 }
 
+// The same for every node of the reference.
 fn early_words(strays: [u32; 32], mine: [Row; 32], stops: u32, trace_only: bool) -> [u32; 32]
     ensures { λ r. ⌜ r ≡ upTo (earlyWords strays mine stops «trace_only») 32 ⌝ }
 {
@@ -139,6 +172,7 @@ fn late_word(strays: u32, row: Row, theirs: [Row; 32], q: usize, trace_only: boo
     strays | refusal_word(row, theirs, q)
 }
 
+// The same for every node of the reference.
 fn late_words(
     strays: [u32; 32],
     mine: [Row; 32],
@@ -160,78 +194,77 @@ fn late_words(
 
 // ---- layers
 
-// Node `y` joins the set `out`, if node `m` is in the set `from`; a number from `q` on is no node.
-fn join(out: u32, from: u32, m: usize, y: usize, q: usize) -> u32
-    requires { ⌜ (m < 32) × (q ≤ 32) ⌝ }
-    ensures { λ r. ⌜ r ≡ joined out from m y q ⌝ }
+// The least node of a set.
+fn least_node(set: u32) -> usize
+    ensures { λ r. ⌜ r ≡ leastNode set ⌝ }
 {
-    if has_node(from, m) {
-        if y < q {
-            return with_node(out, y, true);
-        }
-    }
-    out
+    u32::trailing_zeros(set) as usize
 }
 
-// Where event `i` leads from the nodes of a set.
-fn image(table: &[u8; 384], i: usize, q: usize, from: u32) -> u32
-    requires { ⌜ (i < 12) × (q ≤ 32) ⌝ }
-    ensures { λ r. ⌜ r ≡ image (now (table .entry)) i q from q ⌝ }
+// A set without its least node.
+fn without_least(set: u32) -> u32
+    requires { ⌜ 0 < set ⌝ }
+    ensures { λ r. ⌜ r ≡ set - 2 ^ leastNode set ⌝ }
+{
+    set & (set - 1)
+}
+
+// Where event `i` leads from the nodes of a set; only these are looked at.
+fn image(bits: &[u32; 384], i: usize, from: u32) -> u32
+    requires { ⌜ i < 12 ⌝ }
+    ensures { λ r. ⌜ r ≡ image (now (bits .entry)) i from 32 ⌝ }
 {
     let mut out: u32 = 0;
-    for m in 0..q {
-        let y = base::wide(table[m * 12 + i]);
-        out = join(out, from, m, y, q);
+    let mut rest = from;
+    while rest != 0 {
+        let m = least_node(rest);
+        out = out | bits[i * 32 + m];
+        rest = without_least(rest);
     }
     out
 }
 
 // The pairs of the reference's node `x` and the nodes to which event `i` leads join the layer; from `p` on `x` is no node.
-fn place(out: &mut [u32; 32], theirs: &[u8; 384], x: usize, i: usize, p: usize, q: usize, from: u32)
-    requires { ⌜ (i < 12) × (p ≤ 32) × (q ≤ 32) ⌝ }
-    ensures { λ _. ⌜ now (out .exit) ≡ placed (now (out .entry)) (now (theirs .entry)) x i p q from ⌝ }
+fn place(out: &mut [u32; 32], theirs: &[u32; 384], x: usize, i: usize, p: usize, from: u32)
+    requires { ⌜ (i < 12) × (p ≤ 32) ⌝ }
+    ensures { λ _. ⌜ now (out .exit) ≡ placed (now (out .entry)) (now (theirs .entry)) x i p from ⌝ }
 {
     if x < p {
-        let set = image(theirs, i, q, from);
+        let set = image(theirs, i, from);
         out[x] = out[x] | set;
     }
 }
 
-// The pairs to which one event leads from node `n` of the reference and the nodes of `from`.
+// The pairs to which one event leads from node `n` of the reference and the nodes of `from`: none from no node.
 fn spread(
     out: &mut [u32; 32],
     mine: &[u8; 384],
-    theirs: &[u8; 384],
+    theirs: &[u32; 384],
     n: usize,
     p: usize,
-    q: usize,
     e: usize,
     from: u32,
 )
-    requires { ⌜ (n < 32) × (p ≤ 32) × (q ≤ 32) × (e ≤ 12) ⌝ }
-    ensures { λ _. ⌜ now (out .exit) ≡ spread (now (out .entry)) (now (mine .entry)) (now (theirs .entry)) n p q from e ⌝ }
+    requires { ⌜ (n < 32) × (p ≤ 32) × (e ≤ 12) ⌝ }
+    ensures { λ _. ⌜ now (out .exit) ≡ spread (now (out .entry)) (now (mine .entry)) (now (theirs .entry)) n p from e ⌝ }
 {
+    if from == 0 {
+        return;
+    }
     for i in 0..e {
         let x = base::wide(mine[n * 12 + i]);
-        place(out, theirs, x, i, p, q, from);
+        place(out, theirs, x, i, p, from);
     }
 }
 
 // The next layer: the pairs to which one event leads from the pairs of a layer.
-fn next(
-    mine: &[u8; 384],
-    theirs: &[u8; 384],
-    p: usize,
-    q: usize,
-    e: usize,
-    layer: [u32; 32],
-) -> [u32; 32]
-    requires { ⌜ (p ≤ 32) × (q ≤ 32) × (e ≤ 12) ⌝ }
-    ensures { λ r. ⌜ r ≡ next (now (mine .entry)) (now (theirs .entry)) p q e layer p ⌝ }
+fn next(mine: &[u8; 384], theirs: &[u32; 384], p: usize, e: usize, layer: [u32; 32]) -> [u32; 32]
+    requires { ⌜ (p ≤ 32) × (e ≤ 12) ⌝ }
+    ensures { λ r. ⌜ r ≡ next (now (mine .entry)) (now (theirs .entry)) p e layer p ⌝ }
 {
     let mut out = [0u32; 32];
     for n in 0..p {
-        spread(&mut out, mine, theirs, n, p, q, e, layer[n]);
+        spread(&mut out, mine, theirs, n, p, e, layer[n]);
     }
     out
 }
@@ -249,30 +282,113 @@ fn is_hit(layer: [u32; 32], words: [u32; 32], p: usize) -> bool
     false
 }
 
-// Layer after layer, from the pair of the two first nodes: `k` times an early fault, at last a late one.
-fn is_failing_on(
-    mine: &[u8; 384],
-    theirs: &[u8; 384],
-    early: [u32; 32],
-    late: [u32; 32],
-    p: usize,
-    q: usize,
-    e: usize,
-    k: usize,
-) -> bool
-    requires { ⌜ (p ≤ 32) × (q ≤ 32) × (e ≤ 12) ⌝ }
-    ensures { λ r. ⌜ r ≡ failsOn (now (mine .entry)) (now (theirs .entry)) early late p q e k start ⌝ }
+// The first layer: the pair of the two first nodes alone.
+fn first_layer() -> [u32; 32]
+    ensures { λ r. ⌜ r ≡ start ⌝ }
 {
     let mut layer = [0u32; 32];
     layer[0] = 1;
+    layer
+}
+
+// Layer after layer, from the pair of the two first nodes: `k` times an early fault, at last a late one.
+fn is_failing_on(
+    mine: &[u8; 384],
+    theirs: &[u32; 384],
+    early: [u32; 32],
+    late: [u32; 32],
+    p: usize,
+    e: usize,
+    k: usize,
+) -> bool
+    requires { ⌜ (p ≤ 32) × (e ≤ 12) ⌝ }
+    ensures { λ r. ⌜ r ≡ failsOn (now (mine .entry)) (now (theirs .entry)) early late p e k start ⌝ }
+{
+    let mut layer = first_layer();
     for j in 0..k {
         if is_hit(layer, early, p) {
             return true;
         }
-        let after = next(mine, theirs, p, q, e, layer);
+        let after = next(mine, theirs, p, e, layer);
         layer = after;
     }
     is_hit(layer, late, p)
+}
+
+// The number of a verdict: 2, fails, after an early fault or at a late one in this layer; else 1, passes.
+fn kind_at(faulty: bool, layer: [u32; 32], late: [u32; 32], p: usize) -> u8
+    requires { ⌜ p ≤ 32 ⌝ }
+    ensures { λ r. ⌜ r ≡ kindOf («faulty» || hits layer late p) ⌝ }
+{
+    if faulty {
+        return 2;
+    }
+    if is_hit(layer, late, p) {
+        return 2;
+    }
+    1
+}
+
+// Whether there was an early fault, or is one in this layer.
+fn is_faulty(faulty: bool, layer: [u32; 32], early: [u32; 32], p: usize) -> bool
+    requires { ⌜ p ≤ 32 ⌝ }
+    ensures { λ r. ⌜ r ≡ («faulty» || hits layer early p) ⌝ }
+{
+    if faulty {
+        return true;
+    }
+    is_hit(layer, early, p)
+}
+
+// The verdicts of the first `tests` tests from one pass over the layers: each is written when its last layer is reached.
+fn write_verdicts(
+    mine: &[u8; 384],
+    theirs: &[u32; 384],
+    early: [u32; 32],
+    late: [u32; 32],
+    p: usize,
+    e: usize,
+    tests: usize,
+    out: &mut [u8],
+)
+    requires { ⌜ (p ≤ 32) × (e ≤ 12) × (tests ≤ length (now out)) ⌝ }
+    ensures { λ _. ⌜ now (out .exit) ≡ upTo (λ k. kindOf (failsOn (now (mine .entry)) (now (theirs .entry)) early late p e k start)) tests ++ drop tests (now (out .entry)) ⌝ }
+{
+    let mut layer = first_layer();
+    let mut faulty = false;
+    for k in 0..tests {
+        out[k] = kind_at(faulty, layer, late, p);
+        faulty = is_faulty(faulty, layer, early, p);
+        let after = next(mine, theirs, p, e, layer);
+        layer = after;
+    }
+}
+
+// ---- verdicts
+
+// What a verdict is worked out from: the successors of both sheets' nodes, the device's as sets of one, and where a test fails
+// early and late.
+struct Tables {
+    mine: [u8; 384],
+    theirs: [u32; 384],
+    early: [u32; 32],
+    late: [u32; 32],
+}
+
+// All tables of two sheets' rows.
+fn tables_of(mine: [Row; 32], theirs: [Row; 32], q: usize, e: usize, trace_only: bool) -> Tables
+    requires { ⌜ q ≤ 32 ⌝ }
+    ensures { λ r. ⌜ r ≡ tablesOf «trace_only» mine theirs q e ⌝ }
+{
+    let strays = stray_words(all_initials(mine, e), all_initials(theirs, e), q);
+    let stops = stop_word(theirs, q);
+    let device = flat(theirs);
+    Tables {
+        mine: flat(mine),
+        theirs: bits_of(&device, q),
+        early: early_words(strays, mine, stops, trace_only),
+        late: late_words(strays, mine, theirs, q, trace_only),
+    }
 }
 
 // Whether the device with the rows `theirs` fails test `k` of the reference with the rows `mine`.
@@ -288,11 +404,32 @@ pub fn is_failing(
     requires { ⌜ (0 < p) × (p ≤ 32) × (0 < q) × (q ≤ 32) × (e ≤ 12) ⌝ }
     ensures { λ r. ⌜ r ≡ failsFrom «trace_only» (sheetWith mine e p) (sheetWith theirs e q) k 0 0 ⌝ }
 {
-    let strays = stray_words(all_initials(mine, e), all_initials(theirs, e), q);
-    let stops = stop_word(theirs, q);
-    let early = early_words(strays, mine, stops, trace_only);
-    let late = late_words(strays, mine, theirs, q, trace_only);
-    let mine_flat = flat(mine);
-    let theirs_flat = flat(theirs);
-    is_failing_on(&mine_flat, &theirs_flat, early, late, p, q, e, k)
+    let tables = tables_of(mine, theirs, q, e, trace_only);
+    let reference = tables.mine;
+    let device = tables.theirs;
+    let early = tables.early;
+    let late = tables.late;
+    is_failing_on(&reference, &device, early, late, p, e, k)
+}
+
+// Writes 2 for each of the first `tests` tests that the device fails and 1 for each that it passes; the rest of the list stays.
+pub fn failing_all(
+    mine: [Row; 32],
+    p: usize,
+    theirs: [Row; 32],
+    q: usize,
+    e: usize,
+    trace_only: bool,
+    tests: usize,
+    out: &mut [u8],
+)
+    requires { ⌜ (0 < p) × (p ≤ 32) × (0 < q) × (q ≤ 32) × (e ≤ 12) × (tests ≤ length (now out)) ⌝ }
+    ensures { λ _. ⌜ now (out .exit) ≡ upTo (λ k. kindOf (failsFrom «trace_only» (sheetWith mine e p) (sheetWith theirs e q) k 0 0)) tests ++ drop tests (now (out .entry)) ⌝ }
+{
+    let tables = tables_of(mine, theirs, q, e, trace_only);
+    let reference = tables.mine;
+    let device = tables.theirs;
+    let early = tables.early;
+    let late = tables.late;
+    write_verdicts(&reference, &device, early, late, p, e, tests, out);
 }

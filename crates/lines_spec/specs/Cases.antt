@@ -21,8 +21,10 @@ use Rattle.sheet_spec.specs.Reading.{lengthField, headFault, nextAt, layoutFaul
 use Rattle.refinement.specs.PairTests.{strays, hasStray, firstStray, covers, hasRefusal, violates, violating}
 use Rattle.comparison_spec.specs.Comparison.{pairs, nearest, nearestTrace, clearedOf, lastRow, refusalNamed, named, judged, compareFault, outcomeOf, traceAfter}
 use Rattle.comparison_spec.specs.declared.Outcome.the-variants.{Refusal}
-use Rattle.lines_spec.specs.Lines.{ascii, decimalIn, decimal, numberLine, sheetLine, violatesLine, eventList, traceLine, refusedLine, outcomeLines}
-use Rattle.lines_spec.specs.Program.{cutInput, firstEnd, firstSheet, secondSheet, workList, traceList, comparedLines, deviceLines, sheetsLines, inputLines, compareText}
+use Rattle.text_spec.specs.Lines.{ascii, decimalIn, decimal, numberLine, sheetLine, eventList}
+use Rattle.text_spec.specs.Input.{cutInput, firstEnd, firstSheet, secondSheet}
+use Rattle.lines_spec.specs.Lines.{violatesLine, traceLine, refusedLine, outcomeLines}
+use Rattle.lines_spec.specs.Program.{workList, traceList, comparedLines, deviceLines, sheetsLines, inputLines, compareText}
 
 -- one node with two events, of which it loops on only event 0, or only on event 1
 unfoldable pub onlyZero : List ℕ
@@ -76,12 +78,6 @@ texts =
 pub texts-hold : map compareText inputs ≡ texts
 unfolding inputs texts onlyZero onlyOne mayLoop stopped compareText cutInput inputLines firstSheet secondSheet firstEnd lengthField sheetsLines deviceLines comparedLines workList traceList outcomeLines numberLine sheetLine violatesLine eventList traceLine refusedLine decimal decimalIn readSheet answer bytesFault headFault layoutFault nextAt startOf succOf setsOf rowAt rowOf sheetOf graphFault rangesOk countOk countsOk successorOk rowSuccessorsOk successorsOk ascends apart setOk rowSetsOk setsOk blank unusedOk blanksOk reachedOk sheetFault successor acceptance acceptances initials step bit setOf has inside meets nearer leads walk all any first upTo count outcomeOf traceAfter compareFault judged named refusalNamed lastRow clearedOf nearestTrace nearest pairs pairDistance pairTrace pairCleared onCodes product pairNext code cleared meetsIn distance later choice leastFrom leastTrace strays hasStray firstStray covers hasRefusal violates violating
 texts-hold = refl
-
--- the numbers of one to four digits
-pub numbers-hold : map decimal (0 ∷ 9 ∷ 10 ∷ 99 ∷ 100 ∷ 1023 ∷ 1024 ∷ 4095 ∷ [])
-    ≡ (ascii "0" ∷ ascii "9" ∷ ascii "10" ∷ ascii "99" ∷ ascii "100" ∷ ascii "1023" ∷ ascii "1024" ∷ ascii "4095" ∷ [])
-unfolding decimal decimalIn
-numbers-hold = refl
 
 -- the lines of an outcome that names a refused probe
 pub refusal-holds : outcomeLines (Refusal 5 5 2 1) (0 ∷ 1 ∷ 0 ∷ 11 ∷ 0 ∷ 7 ∷ []) ≡ ascii "violates after 5 cleared 5\ntrace 0 1 0 11 0\nrefused 2 by 1\n"

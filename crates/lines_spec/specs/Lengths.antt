@@ -11,7 +11,7 @@ use lib.Pow.{pow-mono}
 use lib.Seq.{take-at}
 use borrow.Author.Tests.{eqb-true, ltb-true, eq-eqb}
 use Rattle.base.specs.Refusal.{unless, orElse}
-use Rattle.base.specs.Count.{count}
+use Rattle.base.specs.Count.{count-le}
 use Rattle.base.specs.Range.{first≤}
 use Rattle.base.specs.Table.{length-upTo, getD-upTo}
 use Rattle.walks.specs.Graph.{Graph, walk}
@@ -36,28 +36,14 @@ use Rattle.events.specs.Sets.{has}
 use Rattle.refinement.specs.PairTests.{strays, hasStray, firstStray, violating}
 use Rattle.comparison_spec.specs.declared.Outcome.the-variants.{Refines, Stray, Denied}
 use Rattle.comparison_spec.specs.Comparison.{pairs, nearest, nearestTrace, clearedOf, lastRow, refusalNamed, named, judged, compareFault, outcomeOf, traceAfter}
-use Rattle.lines_spec.specs.Lines.{ascii, decimal, numberLine, sheetLine, violatesLine, eventList, traceLine, refusedLine, outcomeLines}
-use Rattle.lines_spec.specs.LineLaws.{decimal-few}
-use Rattle.lines_spec.specs.Program.{cutInput, firstSheet, secondSheet, workList, traceList, comparedLines, deviceLines, sheetsLines, inputLines, compareText}
+use Rattle.text_spec.specs.Lines.{ascii, decimal, numberLine, sheetLine, eventList}
+use Rattle.text_spec.specs.DecimalLaws.{decimal-few}
+use Rattle.text_spec.specs.Input.{cutInput, firstSheet, secondSheet}
+use Rattle.text_spec.specs.LengthLaws.{number-length, sheet-length}
+use Rattle.lines_spec.specs.Lines.{violatesLine, traceLine, refusedLine, outcomeLines}
+use Rattle.lines_spec.specs.Program.{workList, traceList, comparedLines, deviceLines, sheetsLines, inputLines, compareText}
 
 -- each line, by the digits of its numbers
-number-length : (words : List ℕ) (k n : ℕ) → n < 10 ^ suc k → length (numberLine words n) ≤ length words + suc k + 1
-unfolding numberLine
-number-length words k n h = omega (arith, length-append words (decimal n ++ ascii "\n"), length-append (decimal n) (ascii "\n"), decimal-few k n h)
-
-sheet-length : (who : List ℕ) (n e : ℕ) → n < 100 → e < 100 → length (sheetLine who n e) ≤ length who + 19
-unfolding sheetLine
-sheet-length who n e h k =
-    omega (
-      arith,
-      length-append who (decimal n ++ (ascii " nodes " ++ (decimal e ++ ascii " events\n"))),
-      length-append (decimal n) (ascii " nodes " ++ (decimal e ++ ascii " events\n")),
-      length-append (ascii " nodes ") (decimal e ++ ascii " events\n"),
-      length-append (decimal e) (ascii " events\n"),
-      decimal-few 1 n h,
-      decimal-few 1 e k,
-    )
-
 violates-length : (d c : ℕ) → d < 10000 → c < 10000 → length (violatesLine d c) ≤ 33
 unfolding violatesLine
 violates-length d c h k =
@@ -101,16 +87,6 @@ least-length g bad h (suc j) n =
   where
     one : (e : ℕ) (t : List ℕ) → e < 100 → length (eventList t) ≤ 3 * j → length ((ascii " " ++ decimal e) ++ eventList t) ≤ 3 * suc j
     one e t l ih = rw (length-append (ascii " " ++ decimal e) (eventList t)) (omega (arith, decimal-few 1 e l))
-
--- a count is not more than what is counted over
-count-le : (f : ℕ → Bool) (n : ℕ) → count f n ≤ n
-unfolding count
-count-le f zero = omega arith
-count-le f (suc n) = go (f n) (count-le f n)
-  where
-    go : (b : Bool) → count f n ≤ n → count f n + cond b 1 0 ≤ suc n
-    go true h = omega arith
-    go false h = omega arith
 
 -- refusal numbers
 unless-le : (t : Bool) (k r m : ℕ) → k ≤ m → r ≤ m → unless t k r ≤ m

@@ -1,6 +1,5 @@
 pub mod Lines
 pub mod Program
-pub mod LineLaws
 pub mod Lengths
 pub mod ProgramLaws
 pub mod Cases

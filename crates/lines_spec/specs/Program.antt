@@ -1,33 +1,17 @@
 -- The text that `compare` prints, as a function of its input (01, "The program `compare`").
-use mathlib.Core.Bool.{false, _||_, cond}
+use mathlib.Core.Bool.{false, cond}
 use mathlib.Core.List.{List, _++_}
-use Prim.Native.Nat.{ℕ, _+_, _-_}
-use lib.Dec.{eqb, ltb}
-use lib.ListN.{length, take, drop, replicate}
+use Prim.Native.Nat.{ℕ, _-_}
+use lib.Dec.{eqb}
+use lib.ListN.{length, replicate}
 use Rattle.sheet_spec.specs.declared.Sheet.{Sheet}
 use Rattle.sheet_spec.specs.declared.ReadSheet.{ReadSheet}
-use Rattle.sheet_spec.specs.Reading.{lengthField, readSheet}
+use Rattle.sheet_spec.specs.Reading.{readSheet}
+use Rattle.text_spec.specs.Lines.{ascii, numberLine, sheetLine}
+use Rattle.text_spec.specs.Input.{cutInput, firstSheet, secondSheet}
 use Rattle.comparison_spec.specs.Comparison.{outcomeOf, traceAfter}
 use Rattle.lines_spec.specs.declared.Text.{Text}
-use Rattle.lines_spec.specs.Lines.{ascii, numberLine, sheetLine, outcomeLines}
-
--- no more than 4,096 bytes are read; later bytes count as absent
-unfoldable pub cutInput : List ℕ → List ℕ
-cutInput input = take 4096 input
-
--- where the first sheet ends: if the input has under 4 bytes, or the first length field plus 4 exceeds it, all of it is the first
--- sheet
-unfoldable pub firstEnd : List ℕ → ℕ
-firstEnd input =
-    cond (ltb (length input) 4 || ltb (length input) (lengthField input + 4)) (length input) (lengthField input + 4)
-
--- the first sheet's bytes
-unfoldable pub firstSheet : List ℕ → List ℕ
-firstSheet input = take (firstEnd input) input
-
--- the rest is the second sheet
-unfoldable pub secondSheet : List ℕ → List ℕ
-secondSheet input = drop (firstEnd input) input
+use Rattle.lines_spec.specs.Lines.{outcomeLines}
 
 -- the lists that the program lends to the comparison: 3,072 words and 1,023 bytes, which is enough for every two sheets
 unfoldable pub workList : List ℕ

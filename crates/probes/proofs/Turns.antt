@@ -8,8 +8,8 @@ use native.Mathlib.Nat.{le-refl, eq-or-lt-of-le}
 use native.Mathlib.Decide.{le-ind}
 use native.Mathlib.Numerals.{add-one}
 use native.Mathlib.Omega.{arith}
-use lib.ListN.{length, getD, set, drop, length-append}
-use lib.Seq.{drop-cons, set-append-seam}
+use lib.ListN.{length, getD, set, take, drop, length-append}
+use lib.Seq.{drop-cons, set-append-seam, take-suc, length-take-le, take-append-seam}
 use Rattle.base.specs.Truth.{dec}
 use Rattle.probes_spec.specs.Probes.{gather, probes}
 use Rattle.probes_spec.specs.Gather.{gather-yes, gather-no, gather-skip, gather-short, gather-room, gather-has}
@@ -147,3 +147,17 @@ pub fill-more : (accs : List ℕ) (e x : ℕ) → Stands accs e x → x < turns 
     → length (probes accs e) ≤ length out → y ≡ nextFrom (turn accs e) (turns e) (x + 1) → set now n (value e x) ≡ front out (seen accs e y)
 fill-more accs e x s h out now n y a b room q =
     rw (seen-next accs e x s h y q, a, b) (front-put out (seen accs e x) (value e x) (omega (arith, seen-room accs e x s h)))
+
+-- ---- the list that is copied
+
+-- one set more
+pub copy-more : (found out now : List ℕ) (i : ℕ) → i < length found → i < length out → now ≡ front out (take i found) → set now i (getD found i 0) ≡ front out (take (i + 1) found)
+copy-more found out now i h k e =
+    let l : length (take i found) ≡ i = length-take-le i found (omega arith) in
+    rw (e, add-one i, take-suc found i 0 h)
+    (ap (λ (n : ℕ). set (front out (take i found)) n (getD found i 0)) (sym l) ∙ front-put out (take i found) (getD found i 0) (omega arith))
+
+-- of a list that has others at its front, as many as they are
+pub front-taken : (out ps : List ℕ) {found : List ℕ} {m : ℕ} → found ≡ front out ps → m ≡ length ps → take m found ≡ ps
+unfolding front
+front-taken out ps p q = rw (p, q) (take-append-seam ps (drop (length ps) out))

@@ -1,9 +1,9 @@
-// The probes of a node (01, "Probes"): its minimal hitting sets, listed, counted, picked by place, and looked through for the first
+// The probes of a node (01, "Probes"): its minimal hitting sets, listed, and looked through for the first
 // that a device's acceptances miss. `list` takes any sheet, node and list; the others take a row's sets with C up to 16 and E up
 // to 12.
 ghost use mathlib.Core.Path.{_≡_};
 ghost use Prim.Native.Nat.{_≤_, _<_};
-ghost use lib.ListN.{length, take, getD};
+ghost use lib.ListN.{length, take};
 ghost use Rattle.probes_spec.specs.Probes.{isProbe, probes};
 ghost use Rattle.probes_spec.specs.Shapes.{lone, turns, value, turn, nextFrom};
 ghost use Rattle.probes_spec.specs.FirstMissed.{firstMissed};
@@ -84,43 +84,10 @@ fn next_turn(sets: [u16; 16], c: usize, e: usize, from: u16) -> u16
 
 // ---- all probes
 
-// How many probes the first `c` acceptances have.
-pub fn count(sets: [u16; 16], c: usize, e: usize) -> usize
-    requires { ⌜ (c ≤ 16) × (e ≤ 12) ⌝ }
-    ensures { λ r. ⌜ r ≡ length (probes (take c sets) e) ⌝ }
-{
-    let end = rounds(e);
-    let mut found: usize = 0;
-    let mut x = next_turn(sets, c, e, 0);
-    while x < end {
-        found += 1;
-        x = next_turn(sets, c, e, x + 1);
-    }
-    found
-}
-
-// The probe at a place of the list, 0 where the list has no such place.
-pub fn nth(sets: [u16; 16], c: usize, e: usize, place: usize) -> u16
-    requires { ⌜ (c ≤ 16) × (e ≤ 12) ⌝ }
-    ensures { λ r. ⌜ r ≡ getD (probes (take c sets) e) place 0 ⌝ }
-{
-    let end = rounds(e);
-    let mut n: usize = 0;
-    let mut x = next_turn(sets, c, e, 0);
-    while x < end {
-        if n == place {
-            return set_of(e, x);
-        }
-        n += 1;
-        x = next_turn(sets, c, e, x + 1);
-    }
-    0
-}
-
-// Writes the probes to the front of a list that is long enough.
-fn fill(sets: [u16; 16], c: usize, e: usize, out: &mut [u16])
+// Writes the probes to the front of a list that is long enough, and answers how many they are.
+pub fn fill(sets: [u16; 16], c: usize, e: usize, out: &mut [u16]) -> usize
     requires { ⌜ (c ≤ 16) × (e ≤ 12) × (length (probes (take c sets) e) ≤ length (now out)) ⌝ }
-    ensures { λ r. ⌜ now (out .exit) ≡ front (now (out .entry)) (probes (take c sets) e) ⌝ }
+    ensures { λ r. ⌜ (now (out .exit) ≡ front (now (out .entry)) (probes (take c sets) e)) × (r ≡ length (probes (take c sets) e)) ⌝ }
 {
     let last = rounds(e);
     let mut at: usize = 0;
@@ -129,6 +96,19 @@ fn fill(sets: [u16; 16], c: usize, e: usize, out: &mut [u16])
         out[at] = set_of(e, x);
         at += 1;
         x = next_turn(sets, c, e, x + 1);
+    }
+    at
+}
+
+// Copies the first `m` sets of a list to the front of another.
+fn copy(found: &[u16], m: usize, out: &mut [u16])
+    requires { ⌜ (m ≤ 4096) × (m ≤ length (now found)) × (m ≤ length (now out)) ⌝ }
+    ensures { λ r. ⌜ now (out .exit) ≡ front (now (out .entry)) (take m (now (found .entry))) ⌝ }
+{
+    let mut i: usize = 0;
+    while i < m {
+        out[i] = found[i];
+        i += 1;
     }
 }
 
@@ -149,11 +129,12 @@ pub fn list(sheet: Sheet, node: u8, out: &mut [u16]) -> Listed
     let row = sheet.rows[v];
     let c = base::wide(row.c);
     let sets = row.sets;
-    let m = count(sets, c, e);
+    let mut found = [0u16; 4096];
+    let m = fill(sets, c, e, &mut found);
     if out.len() < m {
         return Listed::Denied(10);
     }
-    fill(sets, c, e, out);
+    copy(&found, m, out);
     Listed::Count(m as u16)
 }
 

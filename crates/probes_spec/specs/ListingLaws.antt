@@ -24,6 +24,11 @@ use Rattle.probes_spec.specs.Probes.{probes, Probe, Narrow}
 use Rattle.probes_spec.specs.ProbeLaws.{probe-at, probe-listed, probes-few, probes-none, probes-some}
 use Rattle.probes_spec.specs.Listing.{nodeProbes, listFault, listedNumbers, listedOf, listNumbers, front, listAfter}
 
+-- a list with others at its front has them at their places
+pub front-at : (out ps : List ℕ) (x : ℕ) → x < length ps → getD (front out ps) x 0 ≡ getD ps x 0
+unfolding front
+front-at out ps x l = List·getD-append ps (drop (length ps) out) 0 x l
+
 -- a sheet's own refusal is none of this call's
 own-other : (s : Sheet) (m : ℕ) → 8 < m → sheetFault s ≢ m
 own-other s m h e = go (check-numbers s m e)
@@ -133,8 +138,7 @@ module _ (s : Sheet) (v : ℕ) (out : List ℕ) where
 
     -- .. place by place
     pub after-probe : (x : ℕ) → x < length (nodeProbes s v) → getD (listAfter s v out) x 0 ≡ getD (nodeProbes s v) x 0
-    unfolding front
-    after-probe x l = rw after-front (List·getD-append (nodeProbes s v) (drop (length (nodeProbes s v)) out) 0 x l)
+    after-probe x l = rw after-front (front-at out (nodeProbes s v) x l)
 
     pub after-rest : (x : ℕ) → length (nodeProbes s v) ≤ x → getD (listAfter s v out) x 0 ≡ getD out x 0
     unfolding front

@@ -1,5 +1,5 @@
 -- The single pass over the acceptances is the literal test, and the turns over all sets list the probes.
-use mathlib.Core.Path.{_≡_, refl, sym, ap, _∙_, fun-ext}
+use mathlib.Core.Path.{_≡_, refl, sym, ap, _∙_}
 use mathlib.Core.Logic.{_⊎_, inl, inr, _≢_}
 use mathlib.Core.Bool.{Bool, true, false, cond, false≢true}
 use mathlib.Core.List.{List, [], _∷_}
@@ -134,18 +134,9 @@ onePass-isProbe accs x = same (onePass accs x 0) (isProbe accs x) (λ t. isProbe
     back : Probe accs x → Passed accs x 0
     back p = record { met = p .hits; whole = λ i b. inr (probe→alone accs x p i b) }
 
--- the list by the single pass, which computes faster
-pub probes-onePass : (accs : List ℕ) (e : ℕ) → probes accs e ≡ select (λ x. onePass accs x 0) (2 ^ e)
-unfolding probes
-probes-onePass accs e = ap (λ (p : ℕ → Bool). select p (2 ^ e)) (fun-ext (λ x. sym (onePass-isProbe accs x)))
-
 -- ---- the turns
 
 -- all turns together list the probes
 pub turns-probes : (accs : List ℕ) (e : ℕ) → gather (turn accs e) (value e) (turns e) ≡ probes accs e
 unfolding probes select turns turn value
 turns-probes accs e = refl
-
-pub turn-onePass : (accs : List ℕ) (e n : ℕ) → turn accs e n ≡ onePass accs (value e n) 0
-unfolding turn
-turn-onePass accs e n = sym (onePass-isProbe accs (value e n))

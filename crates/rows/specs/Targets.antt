@@ -11,7 +11,6 @@ use borrow.Author.Tests.{lt-ltb, le-ltb, eq-eqb, ne-eqb}
 use Rattle.base.specs.Truth.{lt-or-ge}
 use Rattle.base.specs.Range.{any}
 use Rattle.events.specs.Bit.{bit, bits-ext, bits-zero, bit-or, bit-one, bit-other, bit-high, setOf, setOf-lt, bit-setOf}
-use Rattle.events.specs.Sets.{has}
 use Rattle.sheet_spec.specs.declared.Row.{Row}
 use Rattle.sheet_spec.specs.Kept.{successor}
 use Rattle.rows.specs.Shapes.{nodeAdded, targets}
@@ -54,15 +53,6 @@ pub bit-targets-high : (e : ℕ) (r : Row) (v : ℕ) → 32 ≤ v → bit (targe
 unfolding targets
 bit-targets-high zero r v l = bits-zero v
 bit-targets-high (suc e) r v l = added-high (targets e r) (successor r e) v l ∙ bit-targets-high e r v l
-
--- a digit as a truth
-digit : (b : Bool) → eqb (cond b 1 0) 1 ≡ b
-digit true = refl
-digit false = refl
-
-pub has-targets : (e : ℕ) (r : Row) (v : ℕ) → v < 32 → has (targets e r) v ≡ any (λ i. eqb (successor r i) v) e
-unfolding has
-has-targets e r v l = ap (λ (x : ℕ). eqb x 1) (bit-targets e r v l) ∙ digit (any (λ i. eqb (successor r i) v) e)
 
 pub targets-is : (e : ℕ) (r : Row) → targets e r ≡ setOf (λ v. any (λ i. eqb (successor r i) v) e) 32
 targets-is e r = bits-ext (targets e r) (setOf f 32) (λ v. go v (lt-or-ge v 32))

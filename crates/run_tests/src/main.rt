@@ -38,15 +38,6 @@ fn say_denied(x: u8) {
     say_number(x as u16);
 }
 
-// Writes 1 or 0.
-fn say_flag(b: bool) {
-    if b {
-        say(b" 1");
-    } else {
-        say(b" 0");
-    }
-}
-
 // ---- sheets
 
 // The sheet of these bytes, of zeros if they are refused.
@@ -216,8 +207,8 @@ fn say_stepped(s: Stepped) {
     say(b" |");
     say_number(run.k);
     say_number(run.h);
-    say_flag(run.traces);
-    say_flag(run.ended);
+    say_number(run.traces as u16);
+    say_number(run.ended as u16);
     say_number(run.node as u16);
     say_number(run.depth);
     say(b";");
@@ -237,8 +228,8 @@ fn record_of(line: Line) -> Run {
     Run {
         k: number(line, 3),
         h: number(line, 4),
-        traces: flag(line, 5),
-        ended: flag(line, 6),
+        traces: small(line, 5),
+        ended: small(line, 6),
         node: small(line, 7),
         depth: number(line, 8),
     }

@@ -12,7 +12,7 @@ ghost use Rattle.search_spec.specs.Queue.{readBack};
 ghost use Rattle.search_spec.specs.Words.{st, nodeAt, linkAt, distAt, visited, tried, scanned, VisitOk};
 ghost use Rattle.search_spec.specs.Found.{Ended, levelOf, settled, readOut, Searched};
 ghost use Rattle.search_spec.specs.Steps.{StepOk, ScanOk, RunOk};
-ghost use Rattle.search_spec.specs.Read.{Deep, LevelOk, SettleOk, SearchOk};
+ghost use Rattle.search_spec.specs.Read.{linkIn, linksOf, frontOf, Deep, LevelOk, SettleOk, SearchOk};
 use search_spec::Found;
 
 // An entry of the queue: its place, its two nodes and its distance.
@@ -35,14 +35,6 @@ fn node_at(work: &[u16], place: usize) -> usize
     ensures { λ r. ⌜ r ≡ nodeAt (now (work .entry)) place ⌝ }
 {
     work[place] as usize
-}
-
-// The link of a pair.
-fn link_at(work: &[u16], n: usize, node: usize) -> usize
-    requires { ⌜ (n ≤ 1024) × (n + node < length (now work)) ⌝ }
-    ensures { λ r. ⌜ r ≡ linkAt n (now (work .entry)) node ⌝ }
-{
-    work[n + node] as usize
 }
 
 // The distance of a pair.
@@ -204,19 +196,60 @@ fn level_start(work: &[u16], n: usize, head: usize, d: usize) -> usize
     x
 }
 
-// Writes the d events that lead to an entry to the front of the trace list, the last one first: it stands in the entry's link,
-// and the others lead to the entry that the link names.
-fn read_back(work: &[u16], n: usize, place: usize, d: usize, trace: &mut [u8])
-    requires { ⌜ (n ≤ 1024) × Deep n (now work) place d × (d ≤ length (now trace)) ⌝ }
-    ensures { λ _. ⌜ now (trace .exit) ≡ readBack (nodeAt (now (work .entry))) (linkAt n (now (work .entry))) d place ++ drop d (now (trace .entry)) ⌝ }
+// A word as a number.
+fn number(word: u16) -> usize
+    ensures { λ r. ⌜ r ≡ word ⌝ }
+{
+    word as usize
+}
+
+// The links of the first m entries, by their places.
+fn links_of(work: &[u16], n: usize, m: usize) -> [u16; 1024]
+    requires { ⌜ LevelOk n (now work) m ⌝ }
+    ensures { λ r. ⌜ r ≡ linksOf n (now (work .entry)) m ⌝ }
+{
+    let mut links = [0u16; 1024];
+    for x in 0..m {
+        let node = node_at(work, x);
+        links[x] = work[n + node];
+    }
+    links
+}
+
+// Writes the d events that lead to an entry to the front of a list, the last one first: it stands in the entry's link, and the
+// others lead to the entry that the link names. (Both lists are of fixed size, so that the compiler makes a loop of it. With slices it
+// keeps a frame on the stack for each event, which takes three times as long.)
+fn read_back(links: &[u16; 1024], place: usize, d: usize, events: &mut [u8; 1024])
+    requires { ⌜ Deep 1024 (λ x. x) (linkIn (now links)) place d × (d ≤ 1024) × (length (now events) ≡ 1024) ⌝ }
+    ensures { λ _. ⌜ now (events .exit) ≡ readBack (λ x. x) (linkIn (now (links .entry))) d place ++ drop d (now (events .entry)) ⌝ }
 {
     if d == 0 {
         return;
     }
-    let node = node_at(work, place);
-    let link = link_at(work, n, node);
-    trace[d - 1] = ((link - 2) % 12) as u8;
-    read_back(work, n, (link - 2) / 12, d - 1, trace);
+    let link = number(links[place]);
+    events[d - 1] = ((link - 2) % 12) as u8;
+    read_back(links, (link - 2) / 12, d - 1, events);
+}
+
+// Writes the first d events of a list to the front of the trace list.
+fn put_front(events: &[u8; 1024], d: usize, trace: &mut [u8])
+    requires { ⌜ (d ≤ 1024) × (d ≤ length (now trace)) ⌝ }
+    ensures { λ _. ⌜ now (trace .exit) ≡ frontOf (now (events .entry)) d ++ drop d (now (trace .entry)) ⌝ }
+{
+    for i in 0..d {
+        trace[i] = events[i];
+    }
+}
+
+// Writes the d events that lead to one of m entries to the front of the trace list.
+fn write_trace(work: &[u16], n: usize, m: usize, place: usize, d: usize, trace: &mut [u8])
+    requires { ⌜ LevelOk n (now work) m × Deep m (nodeAt (now work)) (linkAt n (now work)) place d × (d ≤ 1024) × (d ≤ length (now trace)) ⌝ }
+    ensures { λ _. ⌜ now (trace .exit) ≡ readBack (nodeAt (now (work .entry))) (linkAt n (now (work .entry))) d place ++ drop d (now (trace .entry)) ⌝ }
+{
+    let links = links_of(work, n, m);
+    let mut events = [0u8; 1024];
+    read_back(&links, place, d, &mut events);
+    put_front(&events, d, trace);
 }
 
 // The answer where a search ended, with its trace.
@@ -229,7 +262,7 @@ fn settle(q: usize, work: &[u16], n: usize, stop: Stop, trace: &mut [u8]) -> Fou
         let node = node_at(work, stop.head);
         let d = dist_at(work, n, node);
         let c = level_start(work, n, stop.head, d);
-        read_back(work, n, stop.head, d, trace);
+        write_trace(work, n, stop.tail, stop.head, d, trace);
         return Found::Bad {
             distance: d,
             reference: node / q,

@@ -1,6 +1,6 @@
 -- Successors as a flat table: node n's successor on event i stands at place n * 12 + i, and a number that is no node stands
 -- for none. The bad pairs as a table of truth values: with q nodes in the second graph, the pair (n, m) stands at n * q + m.
-use mathlib.Core.Path.{_≡_, refl, ap, _∙_}
+use mathlib.Core.Path.{_≡_, ap, _∙_}
 use mathlib.Core.Logic.{_⊎_, inl, inr}
 use mathlib.Core.Bool.{Bool, true, false, cond, _&&_}
 use mathlib.Core.List.{List}
@@ -13,7 +13,6 @@ use borrow.Author.Tests.{lt-ltb, le-ltb}
 use Rattle.base.specs.Truth.{lt-or-ge}
 use Rattle.walks.specs.Graph.{Graph, WellFormed}
 use Rattle.walks.specs.Product.{code, pairNext, pairNext←, pairNext→, product, product-next, product-wellFormed}
-use Rattle.walks.specs.Pairs.{onCodes}
 
 -- The successor of node n on event i that a table of `size` nodes and `e` events names; `size` stands for none.
 unfoldable pub tableNext : List ℕ → ℕ → ℕ → ℕ → ℕ → ℕ
@@ -40,12 +39,6 @@ pub table-at : (next : List ℕ) (size e n i : ℕ) → n < size → i < e → t
 unfolding tableNext
 table-at next size e n i h k = rw (lt-ltb n size h, lt-ltb i e k)
 
--- a table that holds a graph's successors draws that graph
-pub table-draws : (g : Graph) (next : List ℕ) → ((n i : ℕ) → tableNext next (g .size) (g .events) n i ≡ g .next n i)
-    → tableGraph next (g .size) (g .events) ≡ g
-unfolding tableGraph
-table-draws g next h = λ j. record { events = g .events; size = g .size; next = λ n i. h n i j }
-
 -- every table with a node draws a graph that serves the theory of walks
 pub table-wellFormed : (next : List ℕ) (size e : ℕ) → 0 < size → WellFormed (tableGraph next size e)
 unfolding tableGraph tableNext
@@ -71,11 +64,6 @@ pairs-wellFormed a b p q e h k = product-wellFormed (table-wellFormed a p e h) (
 pub badCode-at : (bad : List Bool) (q c : ℕ) → badCode bad q c ≡ getD bad c false
 unfolding badCode badIn
 badCode-at bad q c = ap (λ (x : ℕ). getD bad x false) (div-add-mod' c q)
-
--- it is the theory's test on numbers of pairs
-pub badCode-on : (bad : List Bool) (b : List ℕ) (q e : ℕ) → onCodes (tableGraph b q e) (badIn bad q) ≡ badCode bad q
-unfolding onCodes badCode tableGraph
-badCode-on bad b q e = refl
 
 module _ (a b : List ℕ) (p q e r d k : ℕ) (hr : r < p) (hd : d < q) (hk : k < e) where
   -- the pair that event k leads to from (r, d), as the tables have it

@@ -14,6 +14,7 @@ use Rattle.base.specs.Range.{any, all}
 use Rattle.base.specs.Table.{upTo, getD-upTo}
 use Rattle.events.specs.Bit.{bit, bits-ext, bit-or, bit-high, setOf, setOf-lt, bit-setOf}
 use Rattle.events.specs.Sets.{has}
+use Rattle.events.specs.Gathered.{has-setOf, or-setOf, setOf-ext}
 use Rattle.walks.specs.Reach.{leads, nearer}
 use Rattle.sheet_spec.specs.declared.Sheet.{Sheet}
 use Rattle.sheet_spec.specs.Kept.{row, successor, step, graph}
@@ -32,33 +33,6 @@ module _ (f g : ℕ → Bool) where
   unfolding all
   all-ext zero h = refl
   all-ext (suc n) h = rw (all-ext n (λ i l. h i (omega arith)), h n (omega arith))
-
-  setOf-ext : (n : ℕ) → ((i : ℕ) → i < n → f i ≡ g i) → setOf f n ≡ setOf g n
-  unfolding setOf
-  setOf-ext zero h = refl
-  setOf-ext (suc n) h = rw (setOf-ext n (λ i l. h i (omega arith)), h n (omega arith))
-
-has-setOf : (f : ℕ → Bool) (n v : ℕ) → v < n → has (setOf f n) v ≡ f v
-unfolding has
-has-setOf f n v l = rw (bit-setOf f n v l) (go (f v))
-  where
-    go : (b : Bool) → eqb (cond b 1 0) 1 ≡ b
-    go true = refl
-    go false = refl
-
--- a union of sets is the set of "or"
-or-setOf : (f g : ℕ → Bool) (n : ℕ) → bitOr (setOf f n) (setOf g n) ≡ setOf (λ v. f v || g v) n
-or-setOf f g n = bits-ext (bitOr (setOf f n) (setOf g n)) (setOf (λ v. f v || g v) n) (λ v. bit-or v (setOf f n) (setOf g n) ∙ at v (lt-or-ge v n))
-  where
-    digit : (a b : Bool) → max (cond a 1 0) (cond b 1 0) ≡ cond (a || b) 1 0
-    digit true true = refl
-    digit true false = refl
-    digit false true = refl
-    digit false false = refl
-
-    at : (v : ℕ) → (v < n) ⊎ (n ≤ v) → max (bit (setOf f n) v) (bit (setOf g n) v) ≡ bit (setOf (λ v. f v || g v) n) v
-    at v (inl l) = rw (bit-setOf f n v l, bit-setOf g n v l, bit-setOf (λ v. f v || g v) n v l) (digit (f v) (g v))
-    at v (inr l) = rw (bit-high n v (setOf f n) (setOf-lt f n) l, bit-high n v (setOf g n) (setOf-lt g n) l, bit-high n v (setOf (λ v. f v || g v) n) (setOf-lt (λ v. f v || g v) n) l)
 
 -- one round over the first k nodes: node 0, and the nodes to which t leads from a node that was seen
 module _ (sets : List ℕ) (t : ℕ → ℕ → Bool) (h : (u : ℕ) → u < 32 → getD sets u 0 ≡ setOf (t u) 32) (seen : ℕ → Bool) where

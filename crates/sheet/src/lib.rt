@@ -118,6 +118,7 @@ fn succ_of(bytes: &[u8], at: usize, e: usize, i: usize) -> u8
     if i < e { byte_at(bytes, at + i) } else { 255 }
 }
 
+// All twelve successor places of a node whose bytes begin at a place.
 fn succs_of(bytes: &[u8], at: usize, e: usize) -> [u8; 12]
     requires { ⌜ at < 1000000 ⌝ }
     ensures { λ r. ⌜ r ≡ upTo (succOf (now (bytes .entry)) at e) 12 ⌝ }
@@ -138,6 +139,7 @@ fn set_of(bytes: &[u8], at: usize, c: usize, j: usize) -> u16
     if j < c { word_at(bytes, at + j * 2) } else { 0 }
 }
 
+// All sixteen set places of a node whose sets begin at a place.
 fn sets_of(bytes: &[u8], at: usize, c: usize) -> [u16; 16]
     requires { ⌜ at < 900000 ⌝ }
     ensures { λ r. ⌜ r ≡ upTo (setsOf (now (bytes .entry)) at c) 16 ⌝ }
@@ -190,6 +192,7 @@ fn row_of(bytes: &[u8], e: usize, n: usize, v: usize, at: usize) -> Row
     }
 }
 
+// All rows, one for each of 32 nodes.
 fn rows_of(bytes: &[u8], e: usize, n: usize) -> [Row; 32]
     requires { ⌜ e ≤ 255 ⌝ }
     ensures { λ r. ⌜ r ≡ upTo (rowOf (now (bytes .entry)) e n) 32 ⌝ }

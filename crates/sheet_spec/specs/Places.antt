@@ -80,11 +80,6 @@ module _ (b : List ℕ) (e n : ℕ) (l : layoutFault b e n nodesAt ≡ 0) where
       let k : n - v ≡ suc (n - suc v) = omega arith in
       layout-step b e (n - suc v) (startOf b e v) (rw k at (comes v (omega arith))) .0
 
-  -- so the place after it is not past the end
-  pub next-inside : (v : ℕ) → v < n → startOf b e (suc v) ≤ length b
-  unfolding startOf
-  next-inside v h = whole v h .ends
-
   -- the place after the last node is the end of the bytes
   pub last-end : startOf b e n ≡ length b
   last-end =

@@ -18,6 +18,7 @@ use Rattle.tests_spec.specs.declared.Report.{Report}
 use Rattle.tests_spec.specs.declared.Report.the-variants.{Event, Blocked}
 use Rattle.tests_spec.specs.declared.Answer.the-variants.{Going, Stray, Refused, Passed, Denied}
 use Rattle.tests_spec.specs.declared.Stepped.{Stepped}
+use Rattle.tests_spec.specs.Flags.{flag, flagOf, flag-clear, flag-set}
 use Rattle.tests_spec.specs.Runs.{outside, probesAt, offerOf, newRun, openFault, openOf, recordOk, eventFault, reportFault, movedBy, endedRun, answerOf, stepOf}
 use Rattle.tests_spec.specs.Numbers.{said}
 use Rattle.layers.specs.Shapes.{sheetWith}
@@ -36,6 +37,10 @@ offer-is s r = refl
 -- ---- opening
 
 module _ (s : Sheet) (k h : ℕ) (to : Bool) {f : ℕ} (p : f ≡ sheetFault s) where
+  -- a run at its start, with this byte as its flag
+  abbrev started : ℕ → Run
+  started b = record { k = k; h = h; traces = b; ended = 0; node = 0; depth = 0 }
+
   pub open-sheet : {o : Stepped} → (f ≡ 0 → ⊥) → o ≡ notOpened f → o ≡ openOf s k h to
   unfolding openOf openFault
   open-sheet n q = q ∙ rw (← p, orElse-some f (unless (leb k 1023) 14 0) (omega arith), ne-eqb f 0 n)
@@ -44,9 +49,9 @@ module _ (s : Sheet) (k h : ℕ) (to : Bool) {f : ℕ} (p : f ≡ sheetFault s) 
   unfolding openOf openFault
   open-k z l q = q ∙ rw (← p, z, lt-leb k 1023 l)
 
-  pub opened : {e x : ℕ} → f ≡ 0 → k ≤ 1023 → e ≡ s .e → x ≡ offerAt e (row s 0) (newRun k h to) → answered (Going x) (newRun k h to) ≡ openOf s k h to
+  pub opened : {e x b : ℕ} → f ≡ 0 → k ≤ 1023 → e ≡ s .e → b ≡ flagOf to → x ≡ offerAt e (row s 0) (started b) → answered (Going x) (started b) ≡ openOf s k h to
   unfolding openOf openFault newRun
-  opened z l d q = rw (← p, z, le-leb k 1023 l, q, d, ← offer-is s (newRun k h to))
+  opened z l d c q = rw (← p, z, le-leb k 1023 l, q, d, c, ← offer-is s (newRun k h to))
 
 -- node v of an accepted sheet has at most 16 sets, and the sheet at most 12 events and 32 nodes
 module _ (s : Sheet) {f : ℕ} (p : f ≡ sheetFault s) (z : f ≡ 0) where
@@ -89,7 +94,7 @@ module _ (s : Sheet) (r : Run) (report : Report) where
   by-record {f} {g} {n} p z d q h = refused at h
     where
       at : reportFault s r report ≡ g
-      at = unfold reportFault recordOk in rw (← p, z) (chain (not (r .ended)) (ltb (r .node) (s .n) && (leb (r .depth) (r .k) && leb (r .k) 1023)) (eventFault s r report) g (unfold recordFault in q ∙ rw d) h)
+      at = unfold reportFault recordOk in rw (← p, z) (chain (not (flag (r .ended))) (ltb (r .node) (s .n) && (leb (r .depth) (r .k) && leb (r .k) 1023)) (eventFault s r report) g (unfold recordFault in q ∙ rw d) h)
 
 -- a report on an accepted sheet with a right record
 module _ (s : Sheet) (r : Run) (z : sheetFault s ≡ 0) (y : recordFault (s .n) r ≡ 0) where
@@ -123,13 +128,13 @@ module _ (s : Sheet) (r : Run) (z : sheetFault s ≡ 0) (y : recordFault (s .n) 
   module _ {v : ℕ} (e : v ≡ r .node) where
     -- blocked
     module _ {o : Run} (q : o ≡ endedRun r) where
-      pub blocked-traces : r .traces ≡ true → answered Passed o ≡ stepOf s r Blocked
-      blocked-traces t = answers Blocked (unfold eventFault in refl) (unfold answerOf in rw (q, t))
+      pub blocked-traces : r .traces ≢ 0 → answered Passed o ≡ stepOf s r Blocked
+      blocked-traces t = answers Blocked (unfold eventFault in refl) (unfold answerOf in rw (q, flag-set (r .traces) t))
 
-      pub blocked-stops : {t : Bool} → r .traces ≡ false → t ≡ mayStop (row s v) → t ≡ true → answered Passed o ≡ stepOf s r Blocked
-      blocked-stops f p t = answers Blocked (unfold eventFault in refl) (unfold answerOf in rw (q, f, ← e, ← p, t))
+      pub blocked-stops : {t : Bool} → r .traces ≡ 0 → t ≡ mayStop (row s v) → t ≡ true → answered Passed o ≡ stepOf s r Blocked
+      blocked-stops f p t = answers Blocked (unfold eventFault in refl) (unfold answerOf in rw (q, f, flag-clear, ← e, ← p, t))
 
-      pub blocked-refused : {t : Bool} {x : ℕ} → r .traces ≡ false → t ≡ mayStop (row s v) → t ≡ false → x ≡ offerAt (s .e) (row s v) r
+      pub blocked-refused : {t : Bool} {x : ℕ} → r .traces ≡ 0 → t ≡ mayStop (row s v) → t ≡ false → x ≡ offerAt (s .e) (row s v) r
           → answered (Refused x) o ≡ stepOf s r Blocked
       blocked-refused {t} {x} f p d u = answers Blocked (unfold eventFault in refl) (rw (q, offered) goes)
         where
@@ -140,7 +145,7 @@ module _ (s : Sheet) (r : Run) (z : sheetFault s ≡ 0) (y : recordFault (s .n) 
           stays = sym (subst (λ (y : ℕ). t ≡ mayStop (row s y)) e p) ∙ d
 
           goes : answered (Refused (offerOf s r)) (endedRun r) ≡ answerOf s r Blocked
-          goes = unfold answerOf in neither (r .traces) (mayStop (row s (r .node))) f stays (answered Passed (endedRun r)) (answered (Refused (offerOf s r)) (endedRun r))
+          goes = unfold answerOf in neither (flag (r .traces)) (mayStop (row s (r .node))) (ap flag f ∙ flag-clear) stays (answered Passed (endedRun r)) (answered (Refused (offerOf s r)) (endedRun r))
 
     -- event i
     module _ (i : ℕ) {m : ℕ} (u : m ≡ eventFaultAt (s .e) (row s v) r i) where

@@ -3,10 +3,12 @@ use mathlib.Core.Path.{_≡_, refl, sym, _∙_}
 use mathlib.Core.Logic.{_≢_}
 use mathlib.Core.Bool.{Bool, true, false, not, _||_}
 use mathlib.Core.List.{List}
-use Prim.Native.Nat.{ℕ, _-_, _%_, _≤_, _<_}
+use Prim.Native.Nat.{ℕ, _-_, _%_, _^_, _≤_, _<_}
 use native.Mathlib.Omega.{arith}
+use native.Mathlib.Nat.{mod-lt}
 use lib.Bits.{bitOr}
 use lib.ListN.{length, getD, take, length-map}
+use lib.Pow.{pow-mono}
 use lib.Seq.{getD-take, length-take-le}
 use borrow.Author.Tests.{lt-ltb, le-ltb, ne-eqb, not-true, not-false}
 use mir.Val.{Val}
@@ -18,7 +20,11 @@ use Rattle.sheet_spec.specs.Kept.{acceptance, acceptances, initials}
 use Rattle.sheet_spec.specs.Slices.{upTo-is}
 use Rattle.sheet_spec.proofs.Row as R
 use Rattle.probes_spec.specs.Probes.{probes}
+use Rattle.probes_spec.specs.Listing.{front as frontWith}
+use Rattle.probes_spec.specs.ListingLaws.{front-at}
+use Rattle.probes_spec.specs.ProbeLaws.{probes-few}
 use Rattle.tests_spec.specs.declared.Run.{Run}
+use Rattle.tests_spec.specs.Flags.{flag}
 use Rattle.tests_spec.specs.Runs.{allEvents, chosen}
 use Rattle.tests_spec.specs.Offers.{initials-small}
 use Rattle.tests.specs.Shapes.{offersAll, offerAt, eventFaultAt}
@@ -36,10 +42,10 @@ unfolding allEvents
 inside e w h = omega (arith, initials-small e w h)
 
 pub all-below : (r : Run) → r .depth < r .k → true ≡ offersAll r
-all-below r l = sym (or-r (r .traces) (lt-ltb (r .depth) (r .k) l))
+all-below r l = sym (or-r (flag (r .traces)) (lt-ltb (r .depth) (r .k) l))
 
-pub all-traces : (r : Run) → r .k ≤ r .depth → r .traces ≡ offersAll r
-all-traces r l = rw (le-ltb (r .depth) (r .k) l) (or-none (r .traces))
+pub all-traces : (r : Run) → r .k ≤ r .depth → flag (r .traces) ≡ offersAll r
+all-traces r l = rw (le-ltb (r .depth) (r .k) l) (or-none (flag (r .traces)))
   where
     or-none : (b : Bool) → b ≡ (b || false)
     or-none true = refl
@@ -55,15 +61,26 @@ module _ (e : ℕ) (w : Row) (r : Run) {all : ℕ} {t : Bool} (a : all ≡ allEv
   unfolding offerAt
   offer-last {vs} p s h q d u = rw (u, d, a, q, ← b, h, front w vs p s)
 
+-- at most 4,096 probes
+pub few : (accs : List ℕ) (e : ℕ) → e ≤ 12 → length (probes accs e) ≤ 4096
+few accs e h = let k : 2 ^ e ≤ 2 ^ 12 = pow-mono h in omega (arith, probes-few accs e)
+
 -- the probe of a choice number
 module _ (ps : List ℕ) (h : ℕ) {m : ℕ} (q : m ≡ length ps) where
   pub chosen-none : m ≡ 0 → 0 ≡ chosen ps h
   unfolding chosen
   chosen-none z = rw (← q, z)
 
-  pub chosen-some : {x : ℕ} → m ≢ 0 → x ≡ getD ps (h % m) 0 → x ≡ chosen ps h
+  -- from a list that has the probes at its front
+  pub chosen-some : (out : List ℕ) {found : List ℕ} → m ≢ 0 → found ≡ frontWith out ps → getD found (h % m) 0 ≡ chosen ps h
   unfolding chosen
-  chosen-some n p = p ∙ rw (← q, ne-eqb m 0 n)
+  chosen-some out n p =
+      let l : h % m < length ps = rw (← q) (mod-lt h (omega arith)) in
+      rw p (front-at out ps (h % m) l ∙ rw (← q, ne-eqb m 0 n))
+
+  -- the place is in a list of 4,096
+  pub chosen-place : length ps ≤ 4096 → m ≢ 0 → h % m < 4096
+  chosen-place r n = let l : h % m < m = mod-lt h (omega arith) in omega arith
 
 -- 15 and 17 of event i, j being its number
 module _ (e : ℕ) (w : Row) (r : Run) (i : ℕ) {j : ℕ} (d : j ≡ i) where

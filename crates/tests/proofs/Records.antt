@@ -1,6 +1,7 @@
 -- The refusals 16 and 9 of a record, test by test, and what a record that has none is like.
 use mathlib.Core.Path.{_≡_}
-use mathlib.Core.Bool.{true, false, not, _&&_}
+use mathlib.Core.Logic.{_≢_}
+use mathlib.Core.Bool.{true, not, _&&_}
 use Prim.Native.Nat.{ℕ, _≤_, _<_}
 use native.Mathlib.Omega.{arith}
 use lib.Dec.{ltb, leb}
@@ -8,35 +9,36 @@ use borrow.Author.Tests.{lt-ltb, le-ltb, le-leb, lt-leb, ltb-true, leb-true}
 use Rattle.base.specs.Truth.{and-l, and-r}
 use Rattle.base.specs.Refusal.{unless→}
 use Rattle.tests_spec.specs.declared.Run.{Run}
+use Rattle.tests_spec.specs.Flags.{flag, flag-clear, flag-set}
 use Rattle.tests.specs.Shapes.{recordFault}
 
 module _ (r : Run) (n : ℕ) where
-  pub by-ended : r .ended ≡ true → 16 ≡ recordFault n r
+  pub by-ended : r .ended ≢ 0 → 16 ≡ recordFault n r
   unfolding recordFault
-  by-ended h = rw h
+  by-ended h = rw (flag-set (r .ended) h)
 
-  module _ {v : ℕ} (h : r .ended ≡ false) (e : v ≡ r .node) where
+  module _ {v : ℕ} (h : r .ended ≡ 0) (e : v ≡ r .node) where
     pub by-node : n ≤ v → 9 ≡ recordFault n r
     unfolding recordFault
-    by-node l = rw (h, le-ltb (r .node) n (omega arith))
+    by-node l = rw (h, flag-clear, le-ltb (r .node) n (omega arith))
 
     module _ (l : v < n) where
       pub by-depth : r .k < r .depth → 9 ≡ recordFault n r
       unfolding recordFault
-      by-depth d = rw (h, lt-ltb (r .node) n (omega arith), lt-leb (r .depth) (r .k) d)
+      by-depth d = rw (h, flag-clear, lt-ltb (r .node) n (omega arith), lt-leb (r .depth) (r .k) d)
 
       module _ (d : r .depth ≤ r .k) where
         pub by-k : 1023 < r .k → 9 ≡ recordFault n r
         unfolding recordFault
-        by-k k = rw (h, lt-ltb (r .node) n (omega arith), le-leb (r .depth) (r .k) d, lt-leb (r .k) 1023 k)
+        by-k k = rw (h, flag-clear, lt-ltb (r .node) n (omega arith), le-leb (r .depth) (r .k) d, lt-leb (r .k) 1023 k)
 
         pub by-none : r .k ≤ 1023 → 0 ≡ recordFault n r
         unfolding recordFault
-        by-none k = rw (h, lt-ltb (r .node) n (omega arith), le-leb (r .depth) (r .k) d, le-leb (r .k) 1023 k)
+        by-none k = rw (h, flag-clear, lt-ltb (r .node) n (omega arith), le-leb (r .depth) (r .k) d, le-leb (r .k) 1023 k)
 
 -- a record without refusal
 pub record Right (n : ℕ) (r : Run) : Type 0 where
-  pub going : not (r .ended) ≡ true
+  pub going : not (flag (r .ended)) ≡ true
   pub ok : (ltb (r .node) n && (leb (r .depth) (r .k) && leb (r .k) 1023)) ≡ true
   pub node : r .node < n
   pub depth : r .depth ≤ r .k
@@ -45,7 +47,7 @@ pub record Right (n : ℕ) (r : Run) : Type 0 where
 pub right : (n : ℕ) (r : Run) → recordFault n r ≡ 0 → Right n r
 unfolding recordFault
 right n r h =
-    let a = unless→ (not (r .ended)) 15 _ h in
+    let a = unless→ (not (flag (r .ended))) 15 _ h in
     let b = unless→ (ltb (r .node) n && (leb (r .depth) (r .k) && leb (r .k) 1023)) 8 0 (a .1) in
     let c = and-r (ltb (r .node) n) (leb (r .depth) (r .k) && leb (r .k) 1023) (b .0) in
     record {

@@ -12,6 +12,7 @@ use Rattle.tests_spec.specs.declared.Run.{Run}
 use Rattle.tests_spec.specs.declared.Answer.{Answer}
 use Rattle.tests_spec.specs.declared.Answer.the-variants.{Denied}
 use Rattle.tests_spec.specs.declared.Stepped.{Stepped}
+use Rattle.tests_spec.specs.Flags.{flag}
 use Rattle.tests_spec.specs.Runs.{allEvents, chosen, zeroRun}
 
 -- an answer beside a record
@@ -24,7 +25,7 @@ notOpened m = answered (Denied m) zeroRun
 
 -- a run offers all events
 abbrev pub offersAll : Run → Bool
-offersAll r = r .traces || ltb (r .depth) (r .k)
+offersAll r = flag (r .traces) || ltb (r .depth) (r .k)
 
 -- what a run offers at a node with this row
 unfoldable pub offerAt : ℕ → Row → Run → ℕ
@@ -32,7 +33,7 @@ offerAt e w r = cond (offersAll r) (allEvents e) (bitOr (chosen (probes (accepta
 
 -- 16 and 9, with n nodes on the sheet
 unfoldable pub recordFault : ℕ → Run → ℕ
-recordFault n r = unless (not (r .ended)) 16 (unless (ltb (r .node) n && (leb (r .depth) (r .k) && leb (r .k) 1023)) 9 0)
+recordFault n r = unless (not (flag (r .ended))) 16 (unless (ltb (r .node) n && (leb (r .depth) (r .k) && leb (r .k) 1023)) 9 0)
 
 -- 15 and 17 of event i
 unfoldable pub eventFaultAt : ℕ → Row → Run → ℕ → ℕ

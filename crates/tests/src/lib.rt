@@ -4,6 +4,7 @@ ghost use mathlib.Core.Path.{_≡_};
 ghost use Prim.Native.Nat.{_≤_, _<_};
 ghost use lib.ListN.{take};
 ghost use Rattle.probes_spec.specs.Probes.{probes};
+ghost use Rattle.tests_spec.specs.Flags.{flagOf};
 ghost use Rattle.tests_spec.specs.Runs.{allEvents, chosen, zeroRun, endedRun, openOf, stepOf};
 ghost use Rattle.tests_spec.specs.Verdicts.{verdictOf};
 ghost use Rattle.tests_spec.specs.Numbers.{said, judged};
@@ -34,11 +35,12 @@ fn chosen_probe(sets: [u16; 16], c: usize, e: usize, h: u16) -> u16
     requires { ⌜ (c ≤ 16) × (e ≤ 12) ⌝ }
     ensures { λ r. ⌜ r ≡ chosen (probes (take c sets) e) h ⌝ }
 {
-    let m = probes::count(sets, c, e);
+    let mut found = [0u16; 4096];
+    let m = probes::fill(sets, c, e, &mut found);
     if m == 0 {
         return 0;
     }
-    probes::nth(sets, c, e, (h as usize) % m)
+    found[(h as usize) % m]
 }
 
 // Whether a run offers all events: below depth k, and at every depth if it is trace-only.
@@ -48,7 +50,7 @@ fn offers_all(run: Run) -> bool
     if run.depth < run.k {
         return true;
     }
-    run.traces
+    run.traces != 0
 }
 
 // What a run offers at a node with this row: all events, or the chosen probe and the events outside the initials.
@@ -76,8 +78,8 @@ fn not_opened(number: u8) -> Stepped
     let run = Run {
         k: 0,
         h: 0,
-        traces: false,
-        ended: false,
+        traces: 0,
+        ended: 0,
         node: 0,
         depth: 0,
     };
@@ -85,6 +87,16 @@ fn not_opened(number: u8) -> Stepped
         answer: Answer::Denied(number),
         run: run,
     }
+}
+
+// The byte with which a flag is set or cleared: 1 or 0.
+fn flag_of(set: bool) -> u8
+    ensures { λ r. ⌜ r ≡ flagOf «set» ⌝ }
+{
+    if set {
+        return 1;
+    }
+    0
 }
 
 // Opens test `k` with the choice number `h`: the first offer and the record, or the number of a refusal.
@@ -101,8 +113,8 @@ pub fn open_test(sheet: Sheet, k: u16, h: u16, trace_only: bool) -> Stepped
     let run = Run {
         k: k,
         h: h,
-        traces: trace_only,
-        ended: false,
+        traces: flag_of(trace_only),
+        ended: 0,
         node: 0,
         depth: 0,
     };
@@ -120,7 +132,7 @@ pub fn open_test(sheet: Sheet, k: u16, h: u16, trace_only: bool) -> Stepped
 fn record_fault(run: Run, n: usize) -> u8
     ensures { λ r. ⌜ r ≡ recordFault n run ⌝ }
 {
-    if run.ended {
+    if run.ended != 0 {
         return 16;
     }
     if base::wide(run.node) >= n {
@@ -150,12 +162,12 @@ fn event_fault(row: Row, e: usize, run: Run, event: u8) -> u8
     0
 }
 
-// The record, marked as ended.
+// The record, marked with 1 as ended.
 fn ended(run: Run) -> Run
     ensures { λ r. ⌜ r ≡ endedRun run ⌝ }
 {
     let mut after = run;
-    after.ended = true;
+    after.ended = 1;
     after
 }
 
@@ -215,7 +227,7 @@ fn on_blocked(rows: [Row; 32], n: usize, e: usize, run: Run) -> Stepped
 {
     let row = rows[base::wide(run.node)];
     let after = ended(run);
-    if run.traces {
+    if run.traces != 0 {
         return Stepped {
             answer: Answer::Passed,
             run: after,

@@ -1,7 +1,7 @@
--- What a device cannot report, on the device of 01's example; and the record of a refused opening. (The worked cases of verdicts and
--- runs compute through the probe lists, so they stand in the crate `cases`.)
+-- What a device cannot report, on the device of 01's example; the record of a refused opening; the bytes of a flag. (The worked
+-- cases of verdicts and runs compute through the probe lists, so they stand in the crate `cases`.)
 use mathlib.Core.Path.{_≡_, refl}
-use mathlib.Core.Bool.{false}
+use mathlib.Core.Bool.{true, false}
 use mathlib.Core.List.{List, [], _∷_}
 use Prim.Native.Nat.{ℕ, zero, suc, _+_, _≤_, _<_}
 use native.Mathlib.Omega.{arith}
@@ -17,6 +17,7 @@ use Rattle.sheet_spec.specs.Rules.{reachedOk}
 use Rattle.sheet_spec.specs.Reading.{readSheet, answer, bytesFault, headFault, lengthField, layoutFault, nextAt}
 use Rattle.sheet_spec.specs.Reading.{startOf, succOf, setsOf, rowAt, rowOf, sheetOf, graphFault}
 use Rattle.tests_spec.specs.declared.Report.the-variants.{Event, Blocked}
+use Rattle.tests_spec.specs.Flags.{flag}
 use Rattle.tests_spec.specs.Runs.{zeroRun}
 use Rattle.tests_spec.specs.Verdicts.{CanReport}
 
@@ -50,6 +51,11 @@ unreported = (
     alone zero l f = let z : 2 ≤ 1 = f 0 in omega arith
     alone (suc j) l f = omega arith
 
--- a record of zeros: it has 0 in every place, and is not ended
-pub zero-record : (zeroRun .k ≡ 0) × (zeroRun .h ≡ 0) × (zeroRun .traces ≡ false) × (zeroRun .ended ≡ false) × (zeroRun .node ≡ 0) × (zeroRun .depth ≡ 0)
+-- a record of zeros: it has 0 in every place
+pub zero-record : (zeroRun .k ≡ 0) × (zeroRun .h ≡ 0) × (zeroRun .traces ≡ 0) × (zeroRun .ended ≡ 0) × (zeroRun .node ≡ 0) × (zeroRun .depth ≡ 0)
 zero-record = (refl, refl, refl, refl, refl, refl)
+
+-- a flag: 0 is false; 1, 2 and 255 are true
+pub flag-bytes : (flag 0 ≡ false) × (flag 1 ≡ true) × (flag 2 ≡ true) × (flag 255 ≡ true)
+unfolding flag
+flag-bytes = (refl, refl, refl, refl)

@@ -1,20 +1,19 @@
--- The rules of a live run (01, "Test k and a live run" and "Who can cause a refusal"): what is refused, what each report is
--- answered, and how many reports a run takes.
+-- The rules of a live run (01, "Test k and a live run" and "Who can cause a refusal"): what is refused, and what each report is
+-- answered.
 use mathlib.Core.Path.{_≡_, refl, sym, ap, _∙_}
 use mathlib.Core.Logic.{_⊎_, inl, inr, _≢_, _↔_}
 use mathlib.Core.Bool.{Bool, true, false, not}
-use mathlib.Core.List.{List, [], _∷_}
-use Prim.Native.Nat.{ℕ, _+_, _-_, _≤_, _<_}
+use Prim.Native.Nat.{ℕ, _-_, _≤_, _<_}
 use native.Mathlib.Omega.{arith}
 use lib.Dec.{eqb, ltb, leb}
 use borrow.Author.Tests.{eqb-true, eqb-false, eq-eqb, ne-eqb, lt-ltb, le-ltb}
 use Rattle.base.specs.Truth.{dec, clash, lt-or-ge, or-r, not-i}
 use Rattle.base.specs.Finds.{Finds, finds-le, finds-lt, finds-and, finds-not}
-use Rattle.base.specs.Refusal.{unless, unless-hit, unless-pass, unless-none, unless-other, orElse-some, orElse-first, orElse-then}
+use Rattle.base.specs.Refusal.{unless, unless-hit, unless-pass, unless-none, unless-other, orElse-first, orElse-then}
 use Rattle.events.specs.Bit.{bit}
 use Rattle.events.specs.Sets.{has, has→, has←}
 use Rattle.sheet_spec.specs.declared.Sheet.{Sheet}
-use Rattle.sheet_spec.specs.Kept.{row, successor, initials, mayStop}
+use Rattle.sheet_spec.specs.Kept.{row, initials, mayStop}
 use Rattle.sheet_spec.specs.Faults.{Initial}
 use Rattle.sheet_spec.specs.Rules.{sheetFault}
 use Rattle.sheet_spec.specs.RuleLaws.{initials→, initials←}
@@ -26,6 +25,7 @@ use Rattle.tests_spec.specs.declared.Report.the-variants.{Event, Blocked
 use Rattle.tests_spec.specs.declared.Answer.{Answer}
 use Rattle.tests_spec.specs.declared.Answer.the-variants.{Going, Stray, Refused, Passed, Denied}
 use Rattle.tests_spec.specs.declared.Stepped.{Stepped}
+use Rattle.tests_spec.specs.Flags.{flag}
 use Rattle.tests_spec.specs.Runs.{offerOf, newRun, zeroRun, openFault, openOf, recordOk, eventFault, reportFault, movedBy, endedRun, answerOf, stepOf}
 use Rattle.tests_spec.specs.Numbers.{said}
 
@@ -103,7 +103,7 @@ RecordFault s r = (s .n ≤ r .node) ⊎ ((r .k < r .depth) ⊎ (1023 < r .k))
 
 -- neither the sheet's own refusal nor 16: the sheet is accepted and the run has not ended
 abbrev pub Shown : Sheet → Run → Type 0
-Shown s r = (sheetFault s ≡ 0) × (¬ (r .ended ≡ true))
+Shown s r = (sheetFault s ≡ 0) × (¬ (flag (r .ended) ≡ true))
 
 -- nor 9: the record fits the sheet
 abbrev pub Fitting : Sheet → Run → Type 0
@@ -154,7 +154,7 @@ module _ (s : Sheet) (r : Run) (x : Report) where
   after16 = unless (recordOk s r) 9 (eventFault s r x)
 
   after-sheet : ℕ
-  after-sheet = unless (not (r .ended)) 16 (unless (recordOk s r) 9 (eventFault s r x))
+  after-sheet = unless (not (flag (r .ended))) 16 (unless (recordOk s r) 9 (eventFault s r x))
 
   pass-sheet : (m : ℕ) → (8 < m) ⊎ (m ≡ 0) → (reportFault s r x ≡ m) ↔ ((sheetFault s ≡ 0) × (after-sheet ≡ m))
   unfolding reportFault after-sheet
@@ -163,7 +163,7 @@ module _ (s : Sheet) (r : Run) (x : Report) where
 
   pass-16 : (m : ℕ) → (8 < m) ⊎ (m ≡ 0) → 16 ≢ m → (reportFault s r x ≡ m) ↔ (Shown s r × (after16 ≡ m))
   unfolding after-sheet after16
-  pass-16 m c n = further (pass-sheet m c) (λ h. unless-pass 16 after16 m (ended-finds (r .ended)) n)
+  pass-16 m c n = further (pass-sheet m c) (λ h. unless-pass 16 after16 m (ended-finds (flag (r .ended))) n)
 
   pass-9 : (m : ℕ) → (8 < m) ⊎ (m ≡ 0) → 16 ≢ m → 9 ≢ m → (reportFault s r x ≡ m) ↔ (Fitting s r × (after9 ≡ m))
   unfolding after16 after9
@@ -174,15 +174,15 @@ module _ (s : Sheet) (r : Run) (x : Report) where
   unfolding reportFault
   report-sheet m z l =
       orElse-first (sheetFault s) _ m (λ e. omega arith)
-      (unless-other (not (r .ended)) (λ e. omega arith)
+      (unless-other (not (flag (r .ended))) (λ e. omega arith)
       (unless-other (recordOk s r) (λ e. omega arith) (event-numbers s r x m (λ e. omega arith) (λ e. omega arith) (λ e. omega arith))))
 
   -- 16: the run has ended
-  pub report-16 : (reportFault s r x ≡ 16) ↔ ((sheetFault s ≡ 0) × (r .ended ≡ true))
+  pub report-16 : (reportFault s r x ≡ 16) ↔ ((sheetFault s ≡ 0) × (flag (r .ended) ≡ true))
   unfolding after-sheet
   report-16 =
       finally (pass-sheet 16 (inl (omega arith)))
-      (λ h. unless-hit 16 _ (ended-finds (r .ended))
+      (λ h. unless-hit 16 _ (ended-finds (flag (r .ended)))
       (unless-other (recordOk s r) (λ e. omega arith) (event-numbers s r x 16 (λ e. omega arith) (λ e. omega arith) (λ e. omega arith))))
 
   -- 9: the record does not fit the sheet
@@ -218,7 +218,7 @@ module _ (s : Sheet) (r : Run) (x : Report) where
   step-answers z = rw (eq-eqb (reportFault s r x) 0 z)
 
 -- what a report that is not refused says of the run and the sheet
-pub unrefused : (s : Sheet) (r : Run) (x : Report) → reportFault s r x ≡ 0 → (sheetFault s ≡ 0) × (¬ (r .ended ≡ true))
+pub unrefused : (s : Sheet) (r : Run) (x : Report) → reportFault s r x ≡ 0 → (sheetFault s ≡ 0) × (¬ (flag (r .ended) ≡ true))
 unrefused s r x z = report-0 s r x .0 z .0 .0 .0
 
 module _ (s : Sheet) (r : Run) where
@@ -250,13 +250,13 @@ module _ (s : Sheet) (r : Run) where
   passing-step i z a l = step-answers s r (Event i) z ∙ rw (inner i z a, le-ltb (r .depth) (r .k) l)
 
   -- blocked: passed in a trace-only run and where the node may stop
-  pub blocked-passes : reportFault s r Blocked ≡ 0 → (r .traces ≡ true) ⊎ (mayStop (row s (r .node)) ≡ true) → stepOf s r Blocked ≡ with Passed (endedRun r)
+  pub blocked-passes : reportFault s r Blocked ≡ 0 → (flag (r .traces) ≡ true) ⊎ (mayStop (row s (r .node)) ≡ true) → stepOf s r Blocked ≡ with Passed (endedRun r)
   unfolding answerOf
   blocked-passes z (inl t) = step-answers s r Blocked z ∙ rw t
-  blocked-passes z (inr m) = step-answers s r Blocked z ∙ rw (or-r (r .traces) m)
+  blocked-passes z (inr m) = step-answers s r Blocked z ∙ rw (or-r (flag (r .traces)) m)
 
   -- blocked otherwise: ended, failed as refused, with the set offered
-  pub blocked-refused : reportFault s r Blocked ≡ 0 → r .traces ≡ false → mayStop (row s (r .node)) ≡ false
+  pub blocked-refused : reportFault s r Blocked ≡ 0 → flag (r .traces) ≡ false → mayStop (row s (r .node)) ≡ false
       → stepOf s r Blocked ≡ with (Refused (offerOf s r)) (endedRun r)
   unfolding answerOf
   blocked-refused z t m = step-answers s r Blocked z ∙ rw (t, m)
@@ -267,7 +267,7 @@ pub data Taken (s : Sheet) (r : Run) (x : Report) : Type 0 where
   moves : (i : ℕ) → x ≡ Event i → reportFault s r x ≡ 0 → Initial (s .e) (row s (r .node)) i → r .depth < r .k
       → stepOf s r x ≡ with (Going (offerOf s (movedBy s r i))) (movedBy s r i) → Taken s r x
   strays : (i : ℕ) → x ≡ Event i → reportFault s r x ≡ 0 → ¬ Initial (s .e) (row s (r .node)) i → stepOf s r x ≡ with (Stray i) (endedRun r) → Taken s r x
-  refuses : x ≡ Blocked → reportFault s r x ≡ 0 → r .traces ≡ false → mayStop (row s (r .node)) ≡ false
+  refuses : x ≡ Blocked → reportFault s r x ≡ 0 → flag (r .traces) ≡ false → mayStop (row s (r .node)) ≡ false
       → stepOf s r x ≡ with (Refused (offerOf s r)) (endedRun r) → Taken s r x
   passes : reportFault s r x ≡ 0 → stepOf s r x ≡ with Passed (endedRun r) → Taken s r x
 
@@ -291,9 +291,9 @@ taken s r x = go (dec (eqb (reportFault s r x) 0))
         pick (inr t) d =
             let n : ¬ Initial (s .e) (row s (r .node)) i = λ a. clash (inner s r i z a) t in
             strays i refl z n (stray-step s r i z n)
-    answered Blocked z = pick (dec (r .traces)) (dec (mayStop (row s (r .node))))
+    answered Blocked z = pick (dec (flag (r .traces))) (dec (mayStop (row s (r .node))))
       where
-        pick : (r .traces ≡ true) ⊎ (r .traces ≡ false) → (mayStop (row s (r .node)) ≡ true) ⊎ (mayStop (row s (r .node)) ≡ false) → Taken s r Blocked
+        pick : (flag (r .traces) ≡ true) ⊎ (flag (r .traces) ≡ false) → (mayStop (row s (r .node)) ≡ true) ⊎ (mayStop (row s (r .node)) ≡ false) → Taken s r Blocked
         pick (inl t) m = passes z (blocked-passes s r z (inl t))
         pick (inr t) (inl m) = passes z (blocked-passes s r z (inr m))
         pick (inr t) (inr m) = refuses refl z t m (blocked-refused s r z t m)
@@ -332,183 +332,3 @@ open-refused s k h to m = (λ e. forth e (dec (eqb (openFault s k) 0)), back)
 
     back : (openFault s k ≡ m) × (m ≢ 0) → openOf s k h to .answer ≡ Denied m
     back (e, n) = answer-of (open-denied s k h to (λ z. n (sym e ∙ z))) ∙ ap Denied e
-
--- the record q is r moved on by event i
-pub record Moved (s : Sheet) (r : Run) (i : ℕ) (q : Run) : Type 0 where
-  pub depth : q .depth ≡ r .depth + 1
-  pub node : q .node ≡ successor (row s (r .node)) i
-  pub k : q .k ≡ r .k
-  pub h : q .h ≡ r .h
-  pub traces : q .traces ≡ r .traces
-  pub ended : q .ended ≡ r .ended
-
--- the record q is r, ended
-pub record Marked (r q : Run) : Type 0 where
-  pub ended : q .ended ≡ true
-  pub node : q .node ≡ r .node
-  pub depth : q .depth ≡ r .depth
-  pub k : q .k ≡ r .k
-  pub h : q .h ≡ r .h
-  pub traces : q .traces ≡ r .traces
-
-module _ (s : Sheet) (r : Run) (x : Report) where
-  -- a refusal is answered exactly with the number of the report's refusal
-  pub step-refused : (m : ℕ) → (stepOf s r x .answer ≡ Denied m) ↔ ((reportFault s r x ≡ m) × (m ≢ 0))
-  unfolding said
-  step-refused m = (λ e. forth e (taken s r x), back)
-    where
-      forth : stepOf s r x .answer ≡ Denied m → Taken s r x → (reportFault s r x ≡ m) × (m ≢ 0)
-      forth e (denies n p) = let q : reportFault s r x ≡ m = ap (λ (z : Answer). said z .refusal) (sym (answer-of p) ∙ e) in (q, λ z. n (q ∙ z))
-      forth e (moves i _ z a l p) = absurd (omega (arith, kind-once (sym (answer-of p) ∙ e)))
-      forth e (strays i _ z n p) = absurd (omega (arith, kind-once (sym (answer-of p) ∙ e)))
-      forth e (refuses _ z t m p) = absurd (omega (arith, kind-once (sym (answer-of p) ∙ e)))
-      forth e (passes z p) = absurd (omega (arith, kind-once (sym (answer-of p) ∙ e)))
-
-      back : (reportFault s r x ≡ m) × (m ≢ 0) → stepOf s r x .answer ≡ Denied m
-      back (e, n) = answer-of (step-denied s r x (λ z. n (sym e ∙ z))) ∙ ap Denied e
-
-  -- a refused report leaves the record as it came
-  pub denied-still : (m : ℕ) → stepOf s r x .answer ≡ Denied m → stepOf s r x .run ≡ r
-  denied-still m e = let w = step-refused m .0 e in run-of (step-denied s r x (λ z. w .1 (sym (w .0) ∙ z)))
-
-  -- an ended run, shown an accepted sheet, answers 16 and its record stays
-  pub ended-16 : sheetFault s ≡ 0 → r .ended ≡ true → stepOf s r x ≡ with (Denied 16) r
-  ended-16 z t =
-      let q : reportFault s r x ≡ 16 = report-16 s r x .1 (z, t) in
-      step-denied s r x (λ e. omega (arith, q)) ∙ rw q
-
-  -- shown any other sheet, every run answers that sheet's number and its record stays
-  pub sheet-refused : sheetFault s ≢ 0 → stepOf s r x ≡ with (Denied (sheetFault s)) r
-  sheet-refused n = step-denied s r x (λ e. n (sym q ∙ e)) ∙ rw q
-    where
-      q : reportFault s r x ≡ sheetFault s
-      q = unfold reportFault in orElse-some (sheetFault s) _ (omega (arith, n))
-
-  -- so an ended run's record never changes
-  pub ended-still : r .ended ≡ true → stepOf s r x .run ≡ r
-  ended-still t = go (dec (eqb (sheetFault s) 0))
-    where
-      go : (eqb (sheetFault s) 0 ≡ true) ⊎ (eqb (sheetFault s) 0 ≡ false) → stepOf s r x .run ≡ r
-      go (inl z) = run-of (ended-16 (eqb-true _ 0 z) t)
-      go (inr z) = run-of (sheet-refused (eqb-false (sheetFault s) 0 z))
-
-  -- a trace-only run never answers "refused"
-  pub traces-unrefused : r .traces ≡ true → (X : ℕ) → stepOf s r x .answer ≢ Refused X
-  unfolding said
-  traces-unrefused t X e = go (taken s r x)
-    where
-      go : Taken s r x → ⊥
-      go (denies n p) = omega (arith, kind-once (sym (answer-of p) ∙ e))
-      go (moves i _ z a l p) = omega (arith, kind-once (sym (answer-of p) ∙ e))
-      go (strays i _ z n p) = omega (arith, kind-once (sym (answer-of p) ∙ e))
-      go (refuses _ z f m p) = clash t f
-      go (passes z p) = omega (arith, kind-once (sym (answer-of p) ∙ e))
-
-  -- a report with which the run goes on is an event; the run, at most k deep, is one deeper and at the event's successor, and
-  -- nothing else of it alters; the answer has its next offer
-  pub going-deeper : (X : ℕ) → stepOf s r x .answer ≡ Going X
-      → (i : ℕ) × (x ≡ Event i) × (r .depth < r .k) × Moved s r i (stepOf s r x .run) × (X ≡ offerOf s (stepOf s r x .run))
-  unfolding said movedBy
-  going-deeper X e = go (taken s r x)
-    where
-      go : Taken s r x → (i : ℕ) × (x ≡ Event i) × (r .depth < r .k) × Moved s r i (stepOf s r x .run) × (X ≡ offerOf s (stepOf s r x .run))
-      go (denies n p) = absurd (omega (arith, kind-once (sym (answer-of p) ∙ e)))
-      go (moves i q z a l p) = (
-        i,
-        q,
-        l,
-        rw (run-of p) (record { depth = refl; node = refl; k = refl; h = refl; traces = refl; ended = refl }),
-        sym (value-once (sym (answer-of p) ∙ e)) ∙ ap (offerOf s) (sym (run-of p)),
-      )
-      go (strays i _ z n p) = absurd (omega (arith, kind-once (sym (answer-of p) ∙ e)))
-      go (refuses _ z f m p) = absurd (omega (arith, kind-once (sym (answer-of p) ∙ e)))
-      go (passes z p) = absurd (omega (arith, kind-once (sym (answer-of p) ∙ e)))
-
-  -- an answer that neither refuses nor goes on ends the run: the record is marked, and nothing else of it alters
-  pub ending-marks : ((m : ℕ) → stepOf s r x .answer ≢ Denied m) → ((X : ℕ) → stepOf s r x .answer ≢ Going X) → Marked r (stepOf s r x .run)
-  unfolding endedRun
-  ending-marks a b = go (taken s r x)
-    where
-      marked : {a : Answer} → stepOf s r x ≡ with a (endedRun r) → Marked r (stepOf s r x .run)
-      marked p = rw (run-of p) (record { ended = refl; node = refl; depth = refl; k = refl; h = refl; traces = refl })
-
-      go : Taken s r x → Marked r (stepOf s r x .run)
-      go (denies n p) = absurd (a (reportFault s r x) (answer-of p))
-      go (moves i _ z u l p) = absurd (b (offerOf s (movedBy s r i)) (answer-of p))
-      go (strays i _ z n p) = marked p
-      go (refuses _ z f m p) = marked p
-      go (passes z p) = marked p
-
--- 1 for an answer that is not a refusal
-unfoldable pub counts : Answer → ℕ
-counts (Going x) = 1
-counts (Stray i) = 1
-counts (Refused x) = 1
-counts Passed = 1
-counts (Denied m) = 0
-
--- how many of a sequence of reports, each shown some sheet, are not denied
-unfoldable pub accepted : Run → List (Sheet × Report) → ℕ
-accepted r [] = 0
-accepted r (l ∷ ls) = counts (stepOf (l .0) r (l .1) .answer) + accepted (stepOf (l .0) r (l .1) .run) ls
-
--- the record after all of them
-unfoldable pub runAfter : Run → List (Sheet × Report) → Run
-runAfter r [] = r
-runAfter r (l ∷ ls) = runAfter (stepOf (l .0) r (l .1) .run) ls
-
--- whatever an ended run is shown, its record stays
-pub ended-stays : (ls : List (Sheet × Report)) (r : Run) → r .ended ≡ true → runAfter r ls ≡ r
-unfolding runAfter
-ended-stays [] r t = refl
-ended-stays (l ∷ ls) r t = rw (ended-still (l .0) r (l .1) t) (ended-stays ls r t)
-
--- and it accepts nothing
-pub ended-none : (ls : List (Sheet × Report)) (r : Run) → r .ended ≡ true → accepted r ls ≡ 0
-unfolding accepted counts
-ended-none [] r t = refl
-ended-none (l ∷ ls) r t = go (taken (l .0) r (l .1)) (ended-none ls r t)
-  where
-    live : reportFault (l .0) r (l .1) ≢ 0
-    live z = unrefused (l .0) r (l .1) z .1 t
-
-    go : Taken (l .0) r (l .1) → accepted r ls ≡ 0 → counts (stepOf (l .0) r (l .1) .answer) + accepted (stepOf (l .0) r (l .1) .run) ls ≡ 0
-    go (denies n p) ih = rw p (omega arith)
-    go (moves i _ z a h p) ih = absurd (live z)
-    go (strays i _ z n p) ih = absurd (live z)
-    go (refuses _ z f m p) ih = absurd (live z)
-    go (passes z p) ih = absurd (live z)
-
--- over any sequence of sheets and reports a record with depth at most k has at most k + 1 - depth reports that are not denied
-pub accepted-bound : (ls : List (Sheet × Report)) (r : Run) → r .depth ≤ r .k → accepted r ls ≤ r .k + 1 - r .depth
-unfolding accepted counts movedBy endedRun
-accepted-bound [] r d = omega arith
-accepted-bound (l ∷ ls) r d = go (taken (l .0) r (l .1)) (accepted-bound ls)
-  where
-    last : accepted (endedRun r) ls ≡ 0
-    last = ended-none ls (endedRun r) refl
-
-    go : Taken (l .0) r (l .1) → ((r : Run) → r .depth ≤ r .k → accepted r ls ≤ r .k + 1 - r .depth)
-        → counts (stepOf (l .0) r (l .1) .answer) + accepted (stepOf (l .0) r (l .1) .run) ls ≤ r .k + 1 - r .depth
-    go (denies n p) ih = rw p (omega (arith, ih r d))
-    go (moves i _ z a h p) ih = rw p (omega (arith, ih (movedBy (l .0) r i) (omega arith)))
-    go (strays i _ z n p) ih = rw p (omega (arith, last))
-    go (refuses _ z f m p) ih = rw p (omega (arith, last))
-    go (passes z p) ih = rw p (omega (arith, last))
-
--- with as many as that the run has ended: it ends within k + 1 accepted reports
-pub accepted-ends : (ls : List (Sheet × Report)) (r : Run) → r .depth ≤ r .k → accepted r ls ≡ r .k + 1 - r .depth → runAfter r ls .ended ≡ true
-unfolding accepted counts movedBy endedRun runAfter
-accepted-ends [] r d e = absurd (omega arith)
-accepted-ends (l ∷ ls) r d e = go (taken (l .0) r (l .1)) (accepted-ends ls)
-  where
-    last : runAfter (endedRun r) ls .ended ≡ true
-    last = rw (ended-stays ls (endedRun r) refl)
-
-    go : Taken (l .0) r (l .1) → ((r : Run) → r .depth ≤ r .k → accepted r ls ≡ r .k + 1 - r .depth → runAfter r ls .ended ≡ true)
-        → runAfter (stepOf (l .0) r (l .1) .run) ls .ended ≡ true
-    go (denies n p) ih = rw p (ih r d (omega (arith, rw p at e)))
-    go (moves i _ z a h p) ih = rw p (ih (movedBy (l .0) r i) (omega arith) (omega (arith, rw p at e)))
-    go (strays i _ z n p) ih = rw p last
-    go (refuses _ z f m p) ih = rw p last
-    go (passes z p) ih = rw p last

@@ -16,6 +16,7 @@ use Rattle.tests_spec.specs.declared.Report.{Report}
 use Rattle.tests_spec.specs.declared.Report.the-variants.{Event, Blocked}
 use Rattle.tests_spec.specs.declared.Answer.the-variants.{Going, Stray, Refused, Passed, Denied}
 use Rattle.tests_spec.specs.declared.Stepped.{Stepped}
+use Rattle.tests_spec.specs.Flags.{flag, flagOf}
 
 -- all e events, as a set
 unfoldable pub allEvents : ℕ → ℕ
@@ -35,15 +36,15 @@ chosen ps h = cond (eqb (length ps) 0) 0 (getD ps (h % length ps) 0)
 
 -- below depth k, and in a trace-only run, all events are offered; at depth k the chosen probe and all events outside the initials
 unfoldable pub offerOf : Sheet → Run → ℕ
-offerOf s r = cond (r .traces || ltb (r .depth) (r .k)) (allEvents (s .e)) (bitOr (chosen (probesAt s (r .node)) (r .h)) (outside s (r .node)))
+offerOf s r = cond (flag (r .traces) || ltb (r .depth) (r .k)) (allEvents (s .e)) (bitOr (chosen (probesAt s (r .node)) (r .h)) (outside s (r .node)))
 
 -- a run at its start
 unfoldable pub newRun : ℕ → ℕ → Bool → Run
-newRun k h traceOnly = record { k = k; h = h; traces = traceOnly; ended = false; node = 0; depth = 0 }
+newRun k h traceOnly = record { k = k; h = h; traces = flagOf traceOnly; ended = 0; node = 0; depth = 0 }
 
 -- a record with 0 in every place
 abbrev pub zeroRun : Run
-zeroRun = record { k = 0; h = 0; traces = false; ended = false; node = 0; depth = 0 }
+zeroRun = record { k = 0; h = 0; traces = 0; ended = 0; node = 0; depth = 0 }
 
 -- the refusal of an opening: the sheet's own; 14: k above 1,023
 unfoldable pub openFault : Sheet → ℕ → ℕ
@@ -67,15 +68,15 @@ eventFault s r Blocked = 0
 
 -- the refusal of a report: the sheet's own; 16: the run has ended; 9; 15; 17
 unfoldable pub reportFault : Sheet → Run → Report → ℕ
-reportFault s r report = orElse (sheetFault s) (unless (not (r .ended)) 16 (unless (recordOk s r) 9 (eventFault s r report)))
+reportFault s r report = orElse (sheetFault s) (unless (not (flag (r .ended))) 16 (unless (recordOk s r) 9 (eventFault s r report)))
 
 -- the run moved on by event i: its successor, and one more in depth
 unfoldable pub movedBy : Sheet → Run → ℕ → Run
 movedBy s r i = record { k = r .k; h = r .h; traces = r .traces; ended = r .ended; node = successor (row s (r .node)) i; depth = r .depth + 1 }
 
--- an ending only marks the record; its node and depth stay
+-- an ending only marks the record, with 1; its node and depth stay
 unfoldable pub endedRun : Run → Run
-endedRun r = record { k = r .k; h = r .h; traces = r .traces; ended = true; node = r .node; depth = r .depth }
+endedRun r = record { k = r .k; h = r .h; traces = r .traces; ended = 1; node = r .node; depth = r .depth }
 
 -- an event outside the initials: failed as stray; inside them below depth k the run moves on, at depth k it has passed. Blocked:
 -- passed if the node may stop or the run is trace-only, else failed as refused with the set offered
@@ -87,7 +88,7 @@ answerOf s r (Event i) =
     (record { answer = Passed; run = endedRun r }))
     (record { answer = Stray i; run = endedRun r })
 answerOf s r Blocked =
-    cond (r .traces || mayStop (row s (r .node)))
+    cond (flag (r .traces) || mayStop (row s (r .node)))
     (record { answer = Passed; run = endedRun r })
     (record { answer = Refused (offerOf s r); run = endedRun r })
 

@@ -29,6 +29,7 @@ use Rattle.tests_spec.specs.declared.Report.the-variants.{Event, Blocked
 use Rattle.tests_spec.specs.declared.Answer.the-variants.{Going}
 use Rattle.tests_spec.specs.declared.Verdict.{Verdict}
 use Rattle.tests_spec.specs.declared.Verdict.the-variants.{Passes, Fails, Denied as NoVerdict}
+use Rattle.tests_spec.specs.Flags.{flag, flagOf, flag-clear, flag-of}
 use Rattle.tests_spec.specs.Runs.{probesAt, chosen, offerOf, newRun, openOf, reportFault, movedBy, stepOf}
 use Rattle.tests_spec.specs.Verdicts.{CanReport, Failed, deviceAfter, EndsFailed, FailsTest, failsFrom, verdictFault, verdictOf}
 use Rattle.tests_spec.specs.Numbers.{said, judged}
@@ -156,7 +157,15 @@ module _ (P Q : Sheet) (accP : sheetFault P ≡ 0) (accQ : sheetFault Q ≡ 0) (
 
   -- a run of this test that goes on: at node n, x events deep
   abbrev live : ℕ → ℕ → ℕ → Run
-  live h n x = record { k = k; h = h; traces = to; ended = false; node = n; depth = x }
+  live h n x = record { k = k; h = h; traces = flagOf to; ended = 0; node = n; depth = x }
+
+  -- it has not ended
+  not-ended : ¬ (flag 0 ≡ true)
+  not-ended t = clash t flag-clear
+
+  -- its flag reads as what the test is
+  traced : {b : Bool} → to ≡ b → flag (flagOf to) ≡ b
+  traced t = flag-of to ∙ t
 
   -- the events of the two sheets are the same
   to-P : (m i : ℕ) → Initial (Q .e) (row Q m) i → Initial (P .e) (row Q m) i
@@ -173,11 +182,11 @@ module _ (P Q : Sheet) (accP : sheetFault P ≡ 0) (accQ : sheetFault Q ≡ 0) (
 
   takes-event : (h n x i : ℕ) → n < P .n → x ≤ k → i < P .e → bit (offerOf P (live h n x)) i ≡ 1 → reportFault P (live h n x) (Event i) ≡ 0
   unfolding Beyond NotOffered
-  takes-event h n x i a l c b = report-0 P (live h n x) (Event i) .1 ((((accP, false≢true), fits h n x a l), λ z. omega arith), λ z. z b)
+  takes-event h n x i a l c b = report-0 P (live h n x) (Event i) .1 ((((accP, not-ended), fits h n x a l), λ z. omega arith), λ z. z b)
 
   takes-blocked : (h n x : ℕ) → n < P .n → x ≤ k → reportFault P (live h n x) Blocked ≡ 0
   unfolding Beyond NotOffered
-  takes-blocked h n x a l = report-0 P (live h n x) Blocked .1 ((((accP, false≢true), fits h n x a l), λ z. z), λ z. z)
+  takes-blocked h n x a l = report-0 P (live h n x) Blocked .1 ((((accP, not-ended), fits h n x a l), λ z. z), λ z. z)
 
   -- a device that blocks where the reference may not stop: with none to go a refusal, with some to go a stop
   blocked-fails : (h left n x m : ℕ) → x + left ≡ k → n < P .n → m < Q .n → to ≡ false → mayStop (row P n) ≡ false
@@ -194,7 +203,7 @@ module _ (P Q : Sheet) (accP : sheetFault P ≡ 0) (accQ : sheetFault Q ≡ 0) (
       within i = go (ℕ-discrete (bit Y i) 1)
         where
           go : Dec (bit Y i ≡ 1) → bit Y i ≤ bit (offerOf P (live h n x)) i
-          go (yes c) = omega (arith, c, offer-at P (live h n x) (op .ranges .e-high) t (omega arith) i .1 (inl c))
+          go (yes c) = omega (arith, c, offer-at P (live h n x) (op .ranges .e-high) (traced t) (omega arith) i .1 (inl c))
           go (no c) = omega (arith, c, bit≤1 Y i)
   blocked-fails h (suc left) n x m e a b t s r =
       fails-next to P Q left n m .1
@@ -262,7 +271,7 @@ module _ (P Q : Sheet) (accP : sheetFault P ≡ 0) (accQ : sheetFault Q ≡ 0) (
       go (strays i q z u p) alt ih =
           stray-fails left n m
           (stray-means (P .e) (row P n) (row Q m) (op .ranges .e-high) .1 (i, to-P m i (subst (CanReport Q m (offerOf P (live h n x))) q can .1), u))
-      go (refuses q z t s p) alt ih = blocked-fails h left n x m e a b t s (subst (CanReport Q m (offerOf P (live h n x))) q can)
+      go (refuses q z t s p) alt ih = blocked-fails h left n x m e a b (sym (flag-of to) ∙ t) s (subst (CanReport Q m (offerOf P (live h n x))) q can)
 
   -- a run that ends failed, for some choice number
   abbrev Ends : ℕ → ℕ → ℕ → Type 0
@@ -289,7 +298,7 @@ module _ (P Q : Sheet) (accP : sheetFault P ≡ 0) (accQ : sheetFault Q ≡ 0) (
   block-ends : (h n x m : ℕ) → h < 65536 → n < P .n → x ≤ k → to ≡ false → mayStop (row P n) ≡ false → MayRefuse (row Q m) (offerOf P (live h n x)) → Ends n x m
   unfolding EndsFailed CanReport Failed
   block-ends h n x m c a l t s r =
-      (h, c, (Blocked ∷ [], (r, inl (refl, subst Failed (sym (answer-of (blocked-refused P (live h n x) (takes-blocked h n x a l) t s))) tt))))
+      (h, c, (Blocked ∷ [], (r, inl (refl, subst Failed (sym (answer-of (blocked-refused P (live h n x) (takes-blocked h n x a l) (traced t) s))) tt))))
 
   -- one that ends at a refusal, at depth k
   refusal-ends : (n x m : ℕ) → x ≡ k → n < P .n → m < Q .n → to ≡ false
@@ -314,7 +323,7 @@ module _ (P Q : Sheet) (accP : sheetFault P ≡ 0) (accQ : sheetFault Q ≡ 0) (
               clash (stray-means (P .e) (row P n) (row Q m) (op .ranges .e-high) .1 (i, (c .0, λ w. omega (arith, q .1, oq .ranges .n-high)), c .1)) s
 
           go : Dec (bit A i ≡ 1) → Dec (bit (offerOf P (live h n x)) i ≡ 1) → bit A i + bit (offerOf P (live h n x)) i ≤ 1
-          go (yes y) (yes c) = absurd (none y (offer-at P (live h n x) (op .ranges .e-high) t (omega arith) i .0 c))
+          go (yes y) (yes c) = absurd (none y (offer-at P (live h n x) (op .ranges .e-high) (traced t) (omega arith) i .0 c))
           go (yes y) (no c) = omega (arith, y, c, bit≤1 (offerOf P (live h n x)) i)
           go (no y) c = omega (arith, y, bit≤1 A i, bit≤1 (offerOf P (live h n x)) i)
 

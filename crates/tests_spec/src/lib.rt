@@ -3,13 +3,13 @@
 // It has no function.
 
 // A live run: the test's number k, the choice number h, whether it is trace-only (`traces`), whether it has ended, the node reached on the
-// reference and how many events were accepted on the way.
+// reference and how many events were accepted on the way. A flag is a byte: 0 is false, any other value is true.
 #[repr(C)]
 pub struct Run {
     pub k: u16,
     pub h: u16,
-    pub traces: bool,
-    pub ended: bool,
+    pub traces: u8,
+    pub ended: u8,
     pub node: u8,
     pub depth: u16,
 }

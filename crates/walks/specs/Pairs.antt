@@ -9,11 +9,11 @@ use native.Mathlib.Omega.{arith}
 use lib.ListN.{length}
 use Rattle.walks.specs.Graph.{Graph, WellFormed, walk, Trace}
 use Rattle.walks.specs.Bound.{bound}
-use Rattle.walks.specs.Reach.{ReachedBefore, Reachable, reached, reached-means, nearer, nearer-means, nearer-all}
+use Rattle.walks.specs.Reach.{ReachedBefore, Reachable, reached, reached-means, nearer, nearer-means}
 use Rattle.walks.specs.Order.{Lex}
 use Rattle.walks.specs.Near.{Leads, distance, distance-le, distance≤, distance<, distance-means}
 use Rattle.walks.specs.Near.{leastTrace, leastTrace-length, leastTrace-leads, leastTrace-least, leastTrace-unique}
-use Rattle.walks.specs.Cleared.{Lists, lists-same, cleared, cleared-means, cleared-all, cleared-more}
+use Rattle.walks.specs.Cleared.{Lists, cleared, cleared-means, cleared-all, cleared-more}
 use Rattle.walks.specs.Product.{code, code-div, code-mod, code-lt, code-unique, code-split, code-start, code-div-lt, code-mod-lt}
 use Rattle.walks.specs.Product.{product, product-wellFormed, product-walk, product-both, product-trace, product-at}
 
@@ -203,17 +203,6 @@ module _ {r d : Graph} (wr : WellFormed r) (wd : WellFormed d) where
       back : PairReachedBefore r d k n m → pairNearer r d k n m ≡ true
       back e = nearer-means w k (code d n m) (code-lt r d n m h l) .1 (before k n m h l .1 e)
 
-  -- as many events as there are pairs reach all pairs that any number of events reaches
-  pub pairNearer-all : (k n m : ℕ) → r .size * d .size ≤ k → n < r .size → m < d .size → (pairNearer r d k n m ≡ true) ↔ PairReachable r d n m
-  unfolding pairNearer product
-  pairNearer-all k n m q h l = (forth, back)
-    where
-      forth : pairNearer r d k n m ≡ true → PairReachable r d n m
-      forth e = ever n m h l .0 (nearer-all w k (code d n m) q (code-lt r d n m h l) .0 e)
-
-      back : PairReachable r d n m → pairNearer r d k n m ≡ true
-      back e = nearer-all w k (code d n m) q (code-lt r d n m h l) .1 (ever n m h l .1 e)
-
   module _ {P : ℕ → Type 0} {R : ℕ → ℕ → Type 0} (same : (n m : ℕ) → n < r .size → m < d .size → P (code d n m) ↔ R n m) where
     -- a listing of codes lists pairs
     decode : {L : ℕ} {Q : ℕ → ℕ} → Lists (r .size * d .size) P L Q → PairLists r d R L (λ x. Q x / d .size) (λ x. Q x % d .size)
@@ -274,18 +263,3 @@ module _ {r d : Graph} (wr : WellFormed r) (wd : WellFormed d) where
   pub pairCleared-more : (k : ℕ) → r .size * d .size ≤ k → pairCleared r d k ≡ pairCleared r d (r .size * d .size)
   unfolding pairCleared product
   pairCleared-more k q = cleared-more w k q
-
-  -- the same listing by codes: Q lists, each once, the codes of the pairs reached
-  pub pairCleared-codes : (k L : ℕ) → (pairCleared r d k ≡ L)
-      ↔ ((Q : ℕ → ℕ) × Lists (r .size * d .size) (λ c. PairReachedBefore r d k (c / d .size) (c % d .size)) L Q)
-  unfolding pairCleared product
-  pairCleared-codes k L = (forth, back)
-    where
-      as-pair : (c : ℕ) → c < r .size * d .size → ReachedBefore (product r d) k c ↔ PairReachedBefore r d k (c / d .size) (c % d .size)
-      as-pair c h = rw (code-split d c) at (before k (c / d .size) (c % d .size) (code-div-lt r d c (wd .start) h) (code-mod-lt d c (wd .start)))
-
-      forth : pairCleared r d k ≡ L → (Q : ℕ → ℕ) × Lists (r .size * d .size) (λ c. PairReachedBefore r d k (c / d .size) (c % d .size)) L Q
-      forth e = let l = cleared-means w k L .0 e in (l .0, lists-same as-pair (l .1))
-
-      back : (Q : ℕ → ℕ) × Lists (r .size * d .size) (λ c. PairReachedBefore r d k (c / d .size) (c % d .size)) L Q → pairCleared r d k ≡ L
-      back (Q, l) = cleared-means w k L .1 (Q, lists-same (λ c h. (as-pair c h .1, as-pair c h .0)) l)

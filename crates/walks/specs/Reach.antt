@@ -8,7 +8,7 @@ use native.Mathlib.Omega.{arith}
 use lib.Dec.{eqb}
 use lib.ListN.{length}
 use borrow.Author.Tests.{eqb-true, eq-eqb}
-use Rattle.base.specs.Truth.{and-l, and-r, and-i, or-e, or-l, or-r, same}
+use Rattle.base.specs.Truth.{and-l, and-r, and-i, or-e, or-r, same}
 use Rattle.base.specs.Range.{any, any→, any←}
 use Rattle.walks.specs.Graph.{Graph, WellFormed, walk, Trace, walk-snoc, trace-front, snoc-ind, length-snoc}
 use Rattle.walks.specs.Bound.{bound}
@@ -114,21 +114,6 @@ nearer-means {g} w k v l = (nearer→ g k v, back)
   where
     back : ReachedBefore g k v → nearer g k v ≡ true
     back (t, p, q) = rw (← q) (nearer← w t k p (omega (arith, q)))
-
--- more events reach no fewer nodes
-pub nearer-more : (g : Graph) (k l v : ℕ) → k ≤ l → nearer g k v ≡ true → nearer g l v ≡ true
-unfolding nearer
-nearer-more g zero l v h e = absurd (false≢true e)
-nearer-more g (suc k) zero v h e = absurd (omega arith)
-nearer-more g (suc k) (suc l) v h e = go (or-e (eqb v 0) (any (λ u. leads g u v && nearer g k u) (g .size)) e) (λ u. nearer-more g k l u (omega arith))
-  where
-    go : (eqb v 0 ≡ true) ⊎ (any (λ u. leads g u v && nearer g k u) (g .size) ≡ true) → ((u : ℕ) → nearer g k u ≡ true → nearer g l u ≡ true)
-        → (eqb v 0 || any (λ u. leads g u v && nearer g l u) (g .size)) ≡ true
-    go (inl s) ih = or-l (any (λ u. leads g u v && nearer g l u) (g .size)) s
-    go (inr s) ih =
-        let u = any→ (λ u. leads g u v && nearer g k u) (g .size) s in
-        or-r (eqb v 0) (any← (λ u. leads g u v && nearer g l u) (g .size) (u .0) (u .1)
-        (and-i (and-l (leads g (u .0) v) (nearer g k (u .0)) (u .2)) (ih (u .0) (and-r (leads g (u .0) v) (nearer g k (u .0)) (u .2)))))
 
 -- as many events as there are nodes reach all that any number of events reaches
 pub nearer-all : {g : Graph} → WellFormed g → (k v : ℕ) → g .size ≤ k → v < g .size → (nearer g k v ≡ true) ↔ Reachable g v

@@ -3,9 +3,8 @@
 use std::mem::{offset_of, size_of};
 
 use model::faults::ReadAnswer;
-use model::numbers::{Compared, Listed, Record, Said, Stepped};
+use model::numbers::{Compared, Listed, Record, Said, Stepped, Suited};
 use model::sheet::{Row, Sheet};
-use model::tests::Run;
 
 /// What reading answers, in the layout of C.
 #[repr(C)]
@@ -23,14 +22,12 @@ const _: () = assert!(offset_of!(Sheet, e) == 1_472 && offset_of!(Sheet, n) == 1
 const _: () = assert!(size_of::<ReadSheet>() == 1_476);
 const _: () = assert!(offset_of!(ReadSheet, sheet) == 2);
 const _: () = assert!(size_of::<Listed>() == 4 && offset_of!(Listed, count) == 2);
+const _: () = assert!(size_of::<Suited>() == 4 && offset_of!(Suited, count) == 2);
 const _: () = assert!(size_of::<Said>() == 4);
 const _: () = assert!(offset_of!(Said, kind) == 1 && offset_of!(Said, value) == 2);
 const _: () = assert!(size_of::<Record>() == 10);
 const _: () = assert!(offset_of!(Record, traces) == 4 && offset_of!(Record, ended) == 5);
 const _: () = assert!(offset_of!(Record, node) == 6 && offset_of!(Record, depth) == 8);
-const _: () = assert!(size_of::<Run>() == 10);
-const _: () = assert!(offset_of!(Run, trace_only) == 4 && offset_of!(Run, ended) == 5);
-const _: () = assert!(offset_of!(Run, node) == 6 && offset_of!(Run, depth) == 8);
 const _: () = assert!(size_of::<Stepped>() == 14 && offset_of!(Stepped, run) == 4);
 const _: () = assert!(size_of::<Compared>() == 12);
 const _: () = assert!(offset_of!(Compared, d) == 2 && offset_of!(Compared, cleared) == 4);
@@ -44,8 +41,14 @@ extern "C" {
     fn bench_open(sheet: Sheet, k: u16, h: u16, traces: u8) -> Stepped;
     fn bench_step(sheet: Sheet, run: Record, report: u16) -> Stepped;
     fn bench_report(run: *mut Record, sheet: Sheet, report: u16) -> Said;
-    fn bench_take_report(run: *mut Run, sheet: Sheet, report: u16) -> Said;
     fn bench_judge(reference: Sheet, device: Sheet, k: u16, traces: u8) -> Said;
+    fn bench_judge_all(
+        reference: Sheet,
+        device: Sheet,
+        traces: u8,
+        out: *mut u8,
+        length: usize,
+    ) -> Suited;
     fn bench_compare(
         reference: Sheet,
         device: Sheet,
@@ -97,16 +100,16 @@ pub fn report(run: &mut Record, sheet: &Sheet, report: u16) -> Said {
     unsafe { bench_report(run, *sheet, report) }
 }
 
-/// Answers a report on a record in place, with flags of the type `bool`.
-pub fn take_report(run: &mut Run, sheet: &Sheet, report: u16) -> Said {
-    // Sound: the record is lent for the call.
-    unsafe { bench_take_report(run, *sheet, report) }
-}
-
 /// The verdict on a device.
 pub fn judge(reference: &Sheet, device: &Sheet, k: u16, traces: u8) -> Said {
     // Sound: everything is handed over by value.
     unsafe { bench_judge(*reference, *device, k, traces) }
+}
+
+/// The verdicts on a device for all tests, into a lent list.
+pub fn judge_all(reference: &Sheet, device: &Sheet, traces: u8, out: &mut [u8]) -> Suited {
+    // Sound: the slice is lent for the call, and the library is proved to write inside it.
+    unsafe { bench_judge_all(*reference, *device, traces, out.as_mut_ptr(), out.len()) }
 }
 
 /// Compares a device with a reference.

@@ -21,6 +21,27 @@ struct Plant {
     caught: Option<u64>,
 }
 
+/// What is left of the findings of a part at its end.
+pub struct Summary {
+    /// Whether nothing is wrong.
+    pub good: bool,
+    /// How many classes there are, and how many inputs the smallest has.
+    pub classes: usize,
+    pub smallest: u64,
+    /// The names of the planted faults, and the round that first told each from the library.
+    pub plants: Vec<(String, Option<u64>)>,
+}
+
+impl Summary {
+    /// The summary of a part that came to no end.
+    pub const BROKEN: Summary = Summary {
+        good: false,
+        classes: 0,
+        smallest: 0,
+        plants: Vec::new(),
+    };
+}
+
 /// The findings of one part.
 pub struct Findings {
     round: u64,
@@ -105,8 +126,8 @@ impl Findings {
         }
     }
 
-    /// Prints the counts and all that is wrong. Whether nothing is.
-    pub fn report(mut self) -> bool {
+    /// Prints the counts and all that is wrong.
+    pub fn report(mut self) -> Summary {
         println!(
             "  {} answers compared, {} differ",
             self.compared, self.differences
@@ -136,6 +157,13 @@ impl Findings {
         for line in &self.wrong {
             println!("  WRONG: {line}");
         }
-        self.wrong.is_empty()
+        let counts = self.groups.iter().flat_map(|group| group.counts.values());
+        let plants = self.plants.into_iter();
+        Summary {
+            good: self.wrong.is_empty(),
+            classes: counts.clone().count(),
+            smallest: counts.copied().min().unwrap_or(0),
+            plants: plants.map(|plant| (plant.name, plant.caught)).collect(),
+        }
     }
 }

@@ -7,3 +7,4 @@ pub mod edge;
 pub mod findings;
 pub mod parts;
 pub mod play;
+pub mod speed;

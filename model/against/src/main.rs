@@ -7,7 +7,8 @@
 use std::process::ExitCode;
 use std::time::Instant;
 
-use against::parts::ALL;
+use against::findings::Summary;
+use against::parts::{ALL, MISTAKES};
 use against::play::{play, Rounds};
 
 fn main() -> ExitCode {
@@ -16,12 +17,13 @@ fn main() -> ExitCode {
         return ExitCode::from(2);
     };
     let start = Instant::now();
-    let mut good = true;
+    let mut summaries = Vec::new();
     for part in &ALL {
         let begun = Instant::now();
-        good &= play(part, rounds);
+        summaries.push((part.name, play(part, rounds)));
         println!("  {:.1} seconds", begun.elapsed().as_secs_f64());
     }
+    let good = close(&summaries);
     let word = if good { "all equal" } else { "FAILED" };
     let seconds = start.elapsed().as_secs_f64();
     println!("{word}: seed {}, {seconds:.1} seconds", rounds.seed);
@@ -30,6 +32,39 @@ fn main() -> ExitCode {
     } else {
         ExitCode::FAILURE
     }
+}
+
+/// Prints the closing lines of all parts. Whether nothing is wrong.
+fn close(summaries: &[(&str, Summary)]) -> bool {
+    let all = || summaries.iter().map(|(_, summary)| summary);
+    let mut good = all().all(|summary| summary.good);
+    println!(
+        "all parts: {} classes, the smallest with {} inputs; {} planted faults",
+        all().map(|summary| summary.classes).sum::<usize>(),
+        all().map(|summary| summary.smallest).min().unwrap_or(0),
+        all().map(|summary| summary.plants.len()).sum::<usize>()
+    );
+    println!("the mistakes that a good bench hand makes, with the rounds that caught them:");
+    for (name, mistake) in MISTAKES {
+        let caught = caught(summaries, name);
+        good &= !caught.is_empty();
+        let told = if caught.is_empty() {
+            "WRONG: not caught".to_string()
+        } else {
+            caught.join(", ")
+        };
+        println!("  {mistake}: {told}");
+    }
+    good
+}
+
+/// Where a mistake was caught: each part in which it is planted, with the round.
+fn caught(summaries: &[(&str, Summary)], name: &str) -> Vec<String> {
+    let places = summaries.iter().flat_map(|(part, summary)| {
+        let plants = summary.plants.iter().filter(|(plant, _)| plant == name);
+        plants.filter_map(move |(_, round)| round.map(|round| format!("{part} {round}")))
+    });
+    places.collect()
 }
 
 /// The rounds that the arguments ask for.

@@ -9,7 +9,7 @@ use std::time::Duration;
 
 use model::random::Rng;
 
-use crate::findings::Findings;
+use crate::findings::{Findings, Summary};
 
 /// The stack of the thread that makes the calls.
 const STACK: usize = 2 * 1_024 * 1_024;
@@ -49,8 +49,8 @@ fn generator(seed: u64, part: &str, round: u64) -> Rng {
     Rng::new(Rng::new(start ^ round).next_u64())
 }
 
-/// Plays the rounds of a part and prints what they find. Whether nothing is wrong.
-pub fn play(part: &'static Part, rounds: Rounds) -> bool {
+/// Plays the rounds of a part and prints what they find.
+pub fn play(part: &'static Part, rounds: Rounds) -> Summary {
     let count = rounds.count.unwrap_or(part.rounds);
     let at = Arc::new(AtomicU64::new(rounds.first));
     let place = Arc::clone(&at);
@@ -72,7 +72,7 @@ pub fn play(part: &'static Part, rounds: Rounds) -> bool {
     );
     if let Err(error) = Builder::new().stack_size(STACK).spawn(work) {
         println!("  WRONG: no thread: {error}");
-        return false;
+        return Summary::BROKEN;
     }
     let mut seen = rounds.first;
     loop {
@@ -80,13 +80,13 @@ pub fn play(part: &'static Part, rounds: Rounds) -> bool {
             Ok(findings) => return findings.report(),
             Err(RecvTimeoutError::Disconnected) => {
                 println!("  WRONG: round {} panicked", at.load(Ordering::Relaxed));
-                return false;
+                return Summary::BROKEN;
             }
             Err(RecvTimeoutError::Timeout) => {
                 let now = at.load(Ordering::Relaxed);
                 if now == seen {
                     println!("  WRONG: round {now} has no end");
-                    return false;
+                    return Summary::BROKEN;
                 }
                 seen = now;
             }

@@ -4,6 +4,7 @@
 pub mod comparisons;
 pub mod probes;
 pub mod runs;
+pub mod suites;
 pub mod text;
 pub mod verdicts;
 

@@ -1,8 +1,9 @@
 //! The text of `compare` with a fault planted.
 
+use super::comparisons::{compare_with, CompareFault};
 use super::faults;
 use crate::sheet::read;
-use crate::text::{output, MAX_INPUT};
+use crate::text::{output, output_by, MAX_INPUT};
 
 faults! {
     /// One planted fault of the text, or none.
@@ -29,11 +30,44 @@ faults! {
         ElevenAfterOne,
         /// Cleared is one more.
         ClearedOneMore,
+        /// The search stops at depth p + q.
+        DepthSum,
+        /// The search stops at the larger number of nodes.
+        DepthLarger,
+        /// Acceptances are compared for equality.
+        AcceptancesEqual,
+        /// The empty acceptance of the reference is taken as "no rule here".
+        EmptyIsNoRule,
+        /// Every pair after the start is counted as good.
+        LaterGood,
     }
+}
+
+/// The fault of the comparison that a fault of the text comes from.
+fn comparison_fault(fault: TextFault) -> Option<CompareFault> {
+    Some(match fault {
+        TextFault::DepthSum => CompareFault::DepthSum,
+        TextFault::DepthLarger => CompareFault::DepthLarger,
+        TextFault::AcceptancesEqual => CompareFault::AcceptancesEqual,
+        TextFault::EmptyIsNoRule => CompareFault::EmptyIsNoRule,
+        TextFault::LaterGood => CompareFault::LaterGood,
+        _ => return None,
+    })
 }
 
 /// The output for an input of bytes.
 pub fn output_with(fault: TextFault, input: &[u8]) -> String {
+    match comparison_fault(fault) {
+        Some(other) => output_by(input, |reference, device| {
+            let (mut work, mut list) = ([0; 3_072], [0; 1_023]);
+            compare_with(other, reference, device, false, &mut work, &mut list)
+        }),
+        None => lines_with(fault, input),
+    }
+}
+
+/// The output with a fault in its lines or in the split of the input.
+fn lines_with(fault: TextFault, input: &[u8]) -> String {
     let most = match fault {
         TextFault::OneByteLess => MAX_INPUT - 1,
         TextFault::OneByteMore => MAX_INPUT + 1,

@@ -1,7 +1,8 @@
 -- `bench_compare`: the numbers of the answer, and both lists.
 use mathlib.Core.Path.{ap, _∙_}
-use borrow.Author.Needs.{needs}
-use Rattle.edge.specs.Flat.{flag, comparedFlat}
+use native.Mathlib.Omega.{arith}
+use Rattle.tests_spec.specs.Flags.{flag}
+use Rattle.edge.specs.Flat.{comparedFlat}
 use Rattle.edge.proofs.bench_compare.Statement.{statement}
 use Rattle.edge.proofs.bench_compare.Tie as tie
 
@@ -12,10 +13,10 @@ compared-flat-requires : tie.Need-compared-flat-requires
 compared-flat-requires c κs = tt
 
 same-length : tie.Need-same-length
-same-length c = search needs
+same-length c = omega arith
 
 same-length-2 : tie.Need-same-length-2
-same-length-2 c = search needs
+same-length-2 c = omega arith
 
 returns : tie.Need-returns
 unfolding flag

@@ -1,5 +1,5 @@
 -- `bench_judge`: the verdict's numbers.
-use Rattle.edge.specs.Flat.{flag}
+use Rattle.tests_spec.specs.Flags.{flag}
 use Rattle.edge.proofs.bench_judge.Statement.{statement}
 use Rattle.edge.proofs.bench_judge.Tie as tie
 

@@ -1,6 +1,6 @@
 -- `bench_list`: the numbers of the answer, and the list.
 use mathlib.Core.Path.{ap, _∙_}
-use borrow.Author.Needs.{needs}
+use native.Mathlib.Omega.{arith}
 use Rattle.edge.specs.Flat.{listedFlat}
 use Rattle.edge.proofs.bench_list.Statement.{statement}
 use Rattle.edge.proofs.bench_list.Tie as tie
@@ -12,7 +12,7 @@ listed-flat-requires : tie.Need-listed-flat-requires
 listed-flat-requires c κs = tt
 
 same-length : tie.Need-same-length
-same-length c = search needs
+same-length c = omega arith
 
 returns : tie.Need-returns
 returns c =

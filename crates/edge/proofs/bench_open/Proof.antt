@@ -1,5 +1,5 @@
 -- `bench_open`: the numbers of the opening.
-use Rattle.edge.specs.Flat.{flag, zeroFlat}
+use Rattle.tests_spec.specs.Flags.{flag}
 use Rattle.edge.proofs.bench_open.Statement.{statement}
 use Rattle.edge.proofs.bench_open.Tie as tie
 
@@ -10,7 +10,7 @@ stepped-flat-requires : tie.Need-stepped-flat-requires
 stepped-flat-requires c κs = tt
 
 returns : tie.Need-returns
-unfolding flag zeroFlat
+unfolding flag
 returns c = rw (c .stepped-flat .ensures, c .before .open-test .ensures .0)
 
 pub bench-open-spec : {M : Type 1} → statement M

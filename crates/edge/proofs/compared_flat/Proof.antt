@@ -1,21 +1,21 @@
 -- `compared_flat`: each case of the answer.
 use Rattle.comparison_spec.specs.Numbers.{compared}
 use Rattle.edge.specs.Flat.{comparedFlat}
-use borrow.Author.Needs.{needs}
+use native.Mathlib.Omega.{arith}
 use Rattle.edge.proofs.compared_flat.Statement.{statement}
 use Rattle.edge.proofs.compared_flat.Tie as tie
 
 enum-known-o : tie.Need-enum-known-o
-enum-known-o c = search needs
+enum-known-o c = omega arith
 
 enum-known-o-2 : tie.Need-enum-known-o-2
-enum-known-o-2 c = search needs
+enum-known-o-2 c = omega arith
 
 enum-known-o-3 : tie.Need-enum-known-o-3
-enum-known-o-3 c = search needs
+enum-known-o-3 c = omega arith
 
 enum-known-o-4 : tie.Need-enum-known-o-4
-enum-known-o-4 c = search needs
+enum-known-o-4 c = omega arith
 
 returns : tie.Need-returns
 unfolding comparedFlat compared

@@ -1,17 +1,17 @@
-use borrow.Author.Needs.{needs}
+use native.Mathlib.Omega.{arith}
 use Rattle.tests_spec.specs.Numbers.{judged}
 use Rattle.edge.specs.Flat.{saidFlat}
 use Rattle.edge.proofs.judged_flat.Statement.{statement}
 use Rattle.edge.proofs.judged_flat.Tie as tie
 
 enum-told : tie.Need-enum-told
-enum-told c = search needs
+enum-told c = omega arith
 
 enum-told-2 : tie.Need-enum-told-2
-enum-told-2 c = search needs
+enum-told-2 c = omega arith
 
 enum-known-a : tie.Need-enum-known-a
-enum-known-a c = search needs
+enum-known-a c = omega arith
 
 returns : tie.Need-returns
 unfolding saidFlat judged

@@ -1,15 +1,15 @@
 -- `listed_flat`: each case of the answer.
 use Rattle.probes_spec.specs.ListingLaws.{count-numbers, denied-numbers}
 use Rattle.edge.specs.Flat.{listedFlat}
-use borrow.Author.Needs.{needs}
+use native.Mathlib.Omega.{arith}
 use Rattle.edge.proofs.listed_flat.Statement.{statement}
 use Rattle.edge.proofs.listed_flat.Tie as tie
 
 enum-known-a : tie.Need-enum-known-a
-enum-known-a c = search needs
+enum-known-a c = omega arith
 
 enum-known-a-2 : tie.Need-enum-known-a-2
-enum-known-a-2 c = search needs
+enum-known-a-2 c = omega arith
 
 returns : tie.Need-returns
 unfolding listedFlat

@@ -1,26 +1,26 @@
-use borrow.Author.Needs.{needs}
+use native.Mathlib.Omega.{arith}
 use Rattle.tests_spec.specs.Numbers.{said}
 use Rattle.edge.specs.Flat.{saidFlat}
 use Rattle.edge.proofs.said_flat.Statement.{statement}
 use Rattle.edge.proofs.said_flat.Tie as tie
 
 enum-known-a : tie.Need-enum-known-a
-enum-known-a c = search needs
+enum-known-a c = omega arith
 
 enum-known-a-2 : tie.Need-enum-known-a-2
-enum-known-a-2 c = search needs
+enum-known-a-2 c = omega arith
 
 cast-t7 : tie.Need-cast-t7
-cast-t7 c = search needs
+cast-t7 c = omega arith
 
 enum-known-a-3 : tie.Need-enum-known-a-3
-enum-known-a-3 c = search needs
+enum-known-a-3 c = omega arith
 
 enum-told : tie.Need-enum-told
-enum-told c = search needs
+enum-told c = omega arith
 
 enum-known-a-4 : tie.Need-enum-known-a-4
-enum-known-a-4 c = search needs
+enum-known-a-4 c = omega arith
 
 returns : tie.Need-returns
 unfolding saidFlat said

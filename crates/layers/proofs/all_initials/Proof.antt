@@ -38,10 +38,10 @@ loop-less c = omega arith
 
 loop-again : tie.Need-loop-again Inv-loop μ-loop
 unfolding initialsIn
-loop-again c = search stored
+loop-again c = stored (c .before .before .before .loop .inv) (omega arith) (c .initials-of .ensures)
 
 returns : tie.Need-returns Inv-loop μ-loop
-returns c = search filled
+returns c = filled (c .before .loop .inv) (omega arith)
 
 pub all-initials-spec : {M : Type 1} → statement M
 all-initials-spec = tie.close (tie.spec Inv-loop μ-loop loop-holds mul-row array-copy-out-row initials-of-requires mul-sets array-write-sets add-v loop-less loop-again returns)

@@ -52,7 +52,7 @@ loop-again c =
     stored (l .inv) (omega arith) (rw (← c .before .may-stop .ensures) (c .early-word .ensures))
 
 returns : tie.Need-returns Inv-loop μ-loop
-returns c = search filled
+returns c = filled (c .before .loop .inv) (omega arith)
 
 pub early-words-spec : {M : Type 1} → statement M
 early-words-spec = tie.close (tie.spec Inv-loop μ-loop loop-holds mul-row array-copy-out-row mul-early-word array-read-early-word may-stop-requires early-word-requires mul-words array-write-words add-n loop-less loop-again returns)

@@ -1,49 +1,46 @@
--- After m turns the nodes to which the event leads from the first m nodes are joined.
-use mathlib.Core.Path.{_≡_, refl}
-use Prim.Native.Nat.{_-_, _≤_}
+-- Before each turn, where the event leads from the nodes that are left is what is missing.
 use native.Mathlib.Omega.{arith}
-use native.Mathlib.Numerals.{add-one}
-use Rattle.layers.specs.Shapes.{image}
+use lib.Pow.{pow-pos}
+use Rattle.layers.specs.Shapes.{leastNode}
+use Rattle.layers.proofs.Images.{Walked, walk-starts, walk-on, walk-ends, least-lt}
 use Rattle.layers.proofs.image.Statement.{statement}
 use Rattle.layers.proofs.image.Tie as tie
 
 abbrev Inv-loop : tie.InvT-loop
-Inv-loop table i q from out₀ m₀ out m = (m ≤ q) × (out ≡ image table i q from m)
+Inv-loop bits i from out₀ rest₀ out rest = Walked bits i from out rest
 
 abbrev μ-loop : tie.MeasureT-loop
-μ-loop table i q from out₀ m₀ out m = q - m
+μ-loop bits i from out₀ rest₀ out rest = rest
 
 loop-holds : tie.Need-loop-holds Inv-loop μ-loop
-unfolding image
-loop-holds c = (omega arith, refl)
+loop-holds c = walk-starts
 
-mul-wide : tie.Need-mul-wide Inv-loop μ-loop
-mul-wide c = omega arith
+least-node-requires : tie.Need-least-node-requires Inv-loop μ-loop
+least-node-requires c κs = tt
 
-add-wide : tie.Need-add-wide Inv-loop μ-loop
-add-wide c = omega arith
+mul-out : tie.Need-mul-out Inv-loop μ-loop
+mul-out c = omega arith
 
-element-copy-out-wide : tie.Need-element-copy-out-wide Inv-loop μ-loop
-element-copy-out-wide c = omega arith
+add-out : tie.Need-add-out Inv-loop μ-loop
+add-out c = omega (arith, least-lt (c .before .before .loop .rest) (omega arith) (omega arith))
 
-wide-requires : tie.Need-wide-requires Inv-loop μ-loop
-wide-requires c κs = tt
+mul-out-2 : tie.Need-mul-out-2 Inv-loop μ-loop
+mul-out-2 c = omega (arith, least-lt (c .before .before .loop .rest) (omega arith) (omega arith))
 
-join-requires : tie.Need-join-requires Inv-loop μ-loop
-join-requires c κs = (omega arith, omega arith)
+element-copy-out-out : tie.Need-element-copy-out-out Inv-loop μ-loop
+element-copy-out-out c = omega (arith, least-lt (c .before .before .loop .rest) (omega arith) (omega arith))
 
-add-m : tie.Need-add-m Inv-loop μ-loop
-add-m c = omega arith
+without-least-requires : tie.Need-without-least-requires Inv-loop μ-loop
+without-least-requires c κs = omega arith
 
 loop-less : tie.Need-loop-less Inv-loop μ-loop
-loop-less c = omega arith
+loop-less c = omega (arith, pow-pos (leastNode (c .before .before .before .before .loop .rest)))
 
 loop-again : tie.Need-loop-again Inv-loop μ-loop
-unfolding image
-loop-again c = (omega arith, rw add-one (cc))
+loop-again c = walk-on (c .before .before .before .before .loop .inv) (omega arith) (omega arith) (c .before .before .least-node .ensures) (c .without-least .ensures)
 
 returns : tie.Need-returns Inv-loop μ-loop
-returns c = let e : c .before .loop .m ≡ c .before .before .args .q = omega arith in cc
+returns c = walk-ends (c .before .loop .inv) (omega arith)
 
 pub image-spec : {M : Type 1} → statement M
-image-spec = tie.close (tie.spec Inv-loop μ-loop loop-holds mul-wide add-wide element-copy-out-wide wide-requires join-requires add-m loop-less loop-again returns)
+image-spec = tie.close (tie.spec Inv-loop μ-loop loop-holds least-node-requires mul-out add-out mul-out-2 element-copy-out-out without-least-requires loop-less loop-again returns)

@@ -44,10 +44,10 @@ loop-less c = omega arith
 
 loop-again : tie.Need-loop-again Inv-loop μ-loop
 unfolding lateWords
-loop-again c = search stored
+loop-again c = stored (c .before .before .before .loop .inv) (omega arith) (c .late-word .ensures)
 
 returns : tie.Need-returns Inv-loop μ-loop
-returns c = search filled
+returns c = filled (c .before .loop .inv) (omega arith)
 
 pub late-words-spec : {M : Type 1} → statement M
 late-words-spec = tie.close (tie.spec Inv-loop μ-loop loop-holds mul-row array-copy-out-row mul-late-word array-read-late-word late-word-requires mul-words array-write-words add-n loop-less loop-again returns)

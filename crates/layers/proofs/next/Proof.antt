@@ -8,10 +8,10 @@ use Rattle.layers.proofs.next.Statement.{statement}
 use Rattle.layers.proofs.next.Tie as tie
 
 abbrev Inv-loop : tie.InvT-loop
-Inv-loop mine theirs p q e layer out₀ n₀ out n = (n ≤ p) × (out ≡ next mine theirs p q e layer n)
+Inv-loop mine theirs p e layer out₀ n₀ out n = (n ≤ p) × (out ≡ next mine theirs p e layer n)
 
 abbrev μ-loop : tie.MeasureT-loop
-μ-loop mine theirs p q e layer out₀ n₀ out n = p - n
+μ-loop mine theirs p e layer out₀ n₀ out n = p - n
 
 loop-holds : tie.Need-loop-holds Inv-loop μ-loop
 unfolding next
@@ -24,7 +24,7 @@ array-read-spread : tie.Need-array-read-spread Inv-loop μ-loop
 array-read-spread c = omega arith
 
 spread-requires : tie.Need-spread-requires Inv-loop μ-loop
-spread-requires c κs = (omega arith, omega arith, omega arith, omega arith)
+spread-requires c κs = (omega arith, omega arith, omega arith)
 
 add-n : tie.Need-add-n Inv-loop μ-loop
 add-n c = omega arith
@@ -33,7 +33,7 @@ loop-less : tie.Need-loop-less Inv-loop μ-loop
 loop-less c = omega arith
 
 loop-again : tie.Need-loop-again Inv-loop μ-loop
-loop-again c = (omega arith, next-more _ _ _ _ (omega arith) _ _ _ _ _ (c .before .before .before .loop .inv .1) (c .spread .ensures))
+loop-again c = (omega arith, next-more _ _ _ (omega arith) _ _ _ _ _ (c .before .before .before .loop .inv .1) (c .spread .ensures))
 
 returns : tie.Need-returns Inv-loop μ-loop
 returns c = let e : c .before .loop .n ≡ c .before .before .args .p = omega arith in rw e at (c .before .loop .inv .1)

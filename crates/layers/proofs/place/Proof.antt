@@ -6,7 +6,7 @@ use Rattle.layers.proofs.place.Statement.{statement}
 use Rattle.layers.proofs.place.Tie as tie
 
 image-requires : tie.Need-image-requires
-image-requires c κs = (omega arith, omega arith)
+image-requires c κs = omega arith
 
 mul-out : tie.Need-mul-out
 mul-out c = omega arith

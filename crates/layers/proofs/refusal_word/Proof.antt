@@ -39,7 +39,7 @@ loop-again c = more (c .before .before .before .before .loop .inv) (omega arith)
 
 returns : tie.Need-returns Inv-loop μ-loop
 unfolding refusalWord
-returns c = search gathered
+returns c = gathered (c .before .loop .inv) (omega arith)
 
 pub refusal-word-spec : {M : Type 1} → statement M
 refusal-word-spec = tie.close (tie.spec Inv-loop μ-loop loop-holds mul-other array-copy-out-other has-refusal-requires with-node-requires add-m loop-less loop-again returns)

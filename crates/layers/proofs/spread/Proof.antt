@@ -1,17 +1,21 @@
--- After i turns the pairs of the first i events are placed.
+-- From no node nothing is placed; else after i turns the pairs of the first i events are.
 use mathlib.Core.Path.{_≡_, refl}
 use Prim.Native.Nat.{_-_, _≤_}
 use native.Mathlib.Omega.{arith}
 use native.Mathlib.Numerals.{add-one}
 use Rattle.layers.specs.Shapes.{spread}
+use Rattle.layers.proofs.Moves.{spread-none}
 use Rattle.layers.proofs.spread.Statement.{statement}
 use Rattle.layers.proofs.spread.Tie as tie
 
 abbrev Inv-loop : tie.InvT-loop
-Inv-loop out₀ mine theirs n p q e from i₀ out i = (i ≤ e) × (out ≡ spread out₀ mine theirs n p q from i)
+Inv-loop out₀ mine theirs n p e from i₀ out i = (i ≤ e) × (out ≡ spread out₀ mine theirs n p from i)
 
 abbrev μ-loop : tie.MeasureT-loop
-μ-loop out₀ mine theirs n p q e from i₀ out i = e - i
+μ-loop out₀ mine theirs n p e from i₀ out i = e - i
+
+returns : tie.Need-returns Inv-loop μ-loop
+returns c = spread-none _ _ _ _ _ _ _ (c .if1 .taken)
 
 loop-holds : tie.Need-loop-holds Inv-loop μ-loop
 unfolding spread
@@ -30,7 +34,7 @@ wide-requires : tie.Need-wide-requires Inv-loop μ-loop
 wide-requires c κs = tt
 
 place-requires : tie.Need-place-requires Inv-loop μ-loop
-place-requires c κs = (omega arith, omega arith, omega arith)
+place-requires c κs = (omega arith, omega arith)
 
 add-i : tie.Need-add-i Inv-loop μ-loop
 add-i c = omega arith
@@ -42,8 +46,8 @@ loop-again : tie.Need-loop-again Inv-loop μ-loop
 unfolding spread
 loop-again c = (omega arith, rw add-one (cc))
 
-returns : tie.Need-returns Inv-loop μ-loop
-returns c = let e : c .before .loop .i ≡ c .before .before .args .e = omega arith in cc
+returns-2 : tie.Need-returns-2 Inv-loop μ-loop
+returns-2 c = let e : c .before .loop .i ≡ c .before .before .before .args .e = omega arith in cc
 
 pub spread-spec : {M : Type 1} → statement M
-spread-spec = tie.close (tie.spec Inv-loop μ-loop loop-holds mul-wide add-wide element-copy-out-wide wide-requires place-requires add-i loop-less loop-again returns)
+spread-spec = tie.close (tie.spec Inv-loop μ-loop returns loop-holds mul-wide add-wide element-copy-out-wide wide-requires place-requires add-i loop-less loop-again returns-2)

@@ -39,7 +39,7 @@ loop-again c = more (c .before .before .before .before .loop .inv) (omega arith)
 
 returns : tie.Need-returns Inv-loop μ-loop
 unfolding stopWord
-returns c = search gathered
+returns c = gathered (c .before .loop .inv) (omega arith)
 
 pub stop-word-spec : {M : Type 1} → statement M
 stop-word-spec = tie.close (tie.spec Inv-loop μ-loop loop-holds mul-row array-copy-out-row may-stop-requires with-node-requires add-m loop-less loop-again returns)

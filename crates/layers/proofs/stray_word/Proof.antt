@@ -42,7 +42,7 @@ loop-again c = let l = c .before .before .before .loop in more (l .inv) (omega a
 
 returns : tie.Need-returns Inv-loop μ-loop
 unfolding strayWord
-returns c = search gathered
+returns c = gathered (c .before .loop .inv) (omega arith)
 
 pub stray-word-spec : {M : Type 1} → statement M
 stray-word-spec = tie.close (tie.spec Inv-loop μ-loop loop-holds mul-stray-events array-read-stray-events stray-events-requires with-node-requires add-m loop-less loop-again returns)

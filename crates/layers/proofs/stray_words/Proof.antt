@@ -38,10 +38,10 @@ loop-less c = omega arith
 
 loop-again : tie.Need-loop-again Inv-loop μ-loop
 unfolding strayWords
-loop-again c = search stored
+loop-again c = stored (c .before .before .loop .inv) (omega arith) (c .stray-word .ensures)
 
 returns : tie.Need-returns Inv-loop μ-loop
-returns c = search filled
+returns c = filled (c .before .loop .inv) (omega arith)
 
 pub stray-words-spec : {M : Type 1} → statement M
 stray-words-spec = tie.close (tie.spec Inv-loop μ-loop loop-holds mul-stray-word array-read-stray-word stray-word-requires mul-words array-write-words add-n loop-less loop-again returns)

@@ -2,8 +2,9 @@
 use mathlib.Core.Path.{refl}
 use native.Mathlib.Omega.{arith}
 use Rattle.lines_spec.specs.Lengths.{text-fits}
-use Rattle.lines_spec.specs.Program.{cutInput, compareText}
-use Rattle.lines.proofs.Adding.{kept-is}
+use Rattle.text_spec.specs.Input.{cutInput}
+use Rattle.lines_spec.specs.Program.{compareText}
+use Rattle.lines.proofs.Kept.{kept-is}
 use Rattle.lines.proofs.compare_text.Statement.{statement}
 use Rattle.lines.proofs.compare_text.Tie as tie
 

@@ -2,7 +2,7 @@
 use native.Mathlib.Omega.{arith}
 use borrow.Author.Tests.{eq-eqb, ne-eqb}
 use Rattle.lines_spec.specs.Program.{deviceLines}
-use Rattle.lines.proofs.Adding.{adds-then}
+use Rattle.text_spec.specs.AddsLaws.{adds-then}
 use Rattle.lines.proofs.put_device.Statement.{statement}
 use Rattle.lines.proofs.put_device.Tie as tie
 

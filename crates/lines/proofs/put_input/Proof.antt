@@ -4,7 +4,7 @@ use native.Mathlib.Omega.{arith}
 use lib.Seq.{length-take-le}
 use Rattle.sheet_spec.specs.Reading.{readSheet}
 use Rattle.lines_spec.specs.Program.{inputLines}
-use Rattle.lines.proofs.Parts.{first-is, second-is}
+use Rattle.text_spec.specs.InputLaws.{first-is, second-is}
 use Rattle.lines.proofs.put_input.Statement.{statement}
 use Rattle.lines.proofs.put_input.Tie as tie
 

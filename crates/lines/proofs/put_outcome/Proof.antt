@@ -1,7 +1,7 @@
 -- Each arm puts the lines of its case.
 use native.Mathlib.Omega.{arith}
 use Rattle.lines_spec.specs.Lines.{outcomeLines}
-use Rattle.lines.proofs.Adding.{adds-then}
+use Rattle.text_spec.specs.AddsLaws.{adds-then}
 use Rattle.lines.proofs.put_outcome.Statement.{statement}
 use Rattle.lines.proofs.put_outcome.Tie as tie
 

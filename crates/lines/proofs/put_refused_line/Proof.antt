@@ -1,7 +1,7 @@
 -- The pieces of the line, one after another.
 use native.Mathlib.Omega.{arith}
 use Rattle.lines_spec.specs.Lines.{refusedLine}
-use Rattle.lines.proofs.Adding.{adds-then}
+use Rattle.text_spec.specs.AddsLaws.{adds-then}
 use Rattle.lines.proofs.put_refused_line.Statement.{statement}
 use Rattle.lines.proofs.put_refused_line.Tie as tie
 

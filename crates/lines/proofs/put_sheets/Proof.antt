@@ -2,7 +2,7 @@
 use native.Mathlib.Omega.{arith}
 use borrow.Author.Tests.{eq-eqb, ne-eqb}
 use Rattle.lines_spec.specs.Program.{sheetsLines}
-use Rattle.lines.proofs.Adding.{adds-then}
+use Rattle.text_spec.specs.AddsLaws.{adds-then}
 use Rattle.lines.proofs.put_sheets.Statement.{statement}
 use Rattle.lines.proofs.put_sheets.Tie as tie
 

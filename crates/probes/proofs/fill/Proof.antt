@@ -86,7 +86,8 @@ returns : tie.Need-returns Inv-loop μ-loop
 returns c =
     let l = c .before in
     let a = l .before .before .before .before .args in
-    l .loop .inv .3 ∙ ap (front (now (a .out))) (seen-end (take (a .c) (a .sets)) (a .e) (l .loop .x) (l .loop .inv .1) (omega arith))
+    let q = seen-end (take (a .c) (a .sets)) (a .e) (l .loop .x) (l .loop .inv .1) (omega arith) in
+    (l .loop .inv .3 ∙ ap (front (now (a .out))) q, l .loop .inv .2 ∙ ap length q)
 
 pub fill-spec : {M : Type 1} → statement M
 fill-spec =

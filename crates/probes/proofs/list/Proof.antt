@@ -1,13 +1,14 @@
 -- `probes::list`: the refusals in their order, each before anything is written; then the probes of the node.
 use mathlib.Core.Path.{_≡_, sym, ap, _∙_}
-use Prim.Native.Nat.{_<_}
+use Prim.Native.Nat.{_≤_, _<_}
 use native.Mathlib.Omega.{arith}
 use denote.Ref.{now}
-use lib.ListN.{length}
+use lib.ListN.{length, replicate}
 use Rattle.sheet_spec.specs.Rules.{sheetFault}
 use Rattle.sheet_spec.specs.Form.{SheetForm}
 use Rattle.rows.proofs.Shape.{sheet-form}
-use Rattle.probes_spec.specs.Listing.{front}
+use Rattle.probes_spec.specs.Listing.{front, nodeProbes}
+use Rattle.probes.proofs.Turns.{front-taken}
 use Rattle.probes.proofs.Lists.{told-own, told-9, told-10, told-all, node-ranges, node-list, node-small, node-place}
 use Rattle.probes.proofs.list.Statement.{statement}
 use Rattle.probes.proofs.list.Tie as tie
@@ -56,49 +57,63 @@ element-copy-out-row c =
 wide-requires-3 : tie.Need-wide-requires-3
 wide-requires-3 c κs = tt
 
-count-requires : tie.Need-count-requires
-count-requires c κs =
-    let w = c .before .before .before in
-    let a = w .before .before .before .before .before .before .args in
-    node-ranges (a .t1) (sheet-good w) (a .node) (w .wide2 .result) (w .before .wide .result) (c .before .wide3 .result) (node-good w) (w .wide2 .ensures) (w .before .wide .ensures) (c .before .wide3 .ensures) (form w)
+slice-aggregate-fill : tie.Need-slice-aggregate-fill
+slice-aggregate-fill c = omega arith
 
-returns-3 : tie.Need-returns-3
-returns-3 c =
-    let w = c .before .before .before .before .before in
+-- what the widened numbers are: in their ranges, the node's probes, and at most 4,096 of them
+ranges : (c : tie.After-wide3) → (c .wide3 .result ≤ 16) × (c .before .before .before .wide .result ≤ 12)
+ranges c =
+    let w = c .before .before in
     let a = w .before .before .before .before .before .before .args in
-    let d = c .before .before .before in
-    let q = node-list (a .t1) (sheet-good w) (a .node) (w .wide2 .result) (w .before .wide .result) (d .wide3 .result) (node-good w) (w .wide2 .ensures) (w .before .wide .ensures) (d .wide3 .ensures) (form w) in
-    told-10 (a .t1) (a .node) (now (a .out)) (sheet-good w) (node-good w) (omega (arith, c .if3 .taken, c .before .count .ensures, ap length q))
+    node-ranges (a .t1) (sheet-good w) (a .node) (w .wide2 .result) (w .before .wide .result) (c .wide3 .result) (node-good w) (w .wide2 .ensures) (w .before .wide .ensures) (c .wide3 .ensures) (form w)
 
 fill-requires : tie.Need-fill-requires
 fill-requires c κs =
-    let w = c .before .before .before .before .before .before in
+    let d = c .before .before in
+    let w = d .before .before in
     let a = w .before .before .before .before .before .before .args in
-    let d = c .before .before .before .before in
-    let r = node-ranges (a .t1) (sheet-good w) (a .node) (w .wide2 .result) (w .before .wide .result) (d .wide3 .result) (node-good w) (w .wide2 .ensures) (w .before .wide .ensures) (d .wide3 .ensures) (form w) in
-    (r .0, r .1, omega (arith, c .before .if3 .left, c .before .before .count .ensures))
+    let r = ranges d in
+    (r .0, r .1, node-small (a .t1) (sheet-good w) (a .node) (w .wide2 .result) (w .before .wide .result) (d .wide3 .result) (node-good w) (w .wide2 .ensures) (w .before .wide .ensures) (d .wide3 .ensures) (form w))
 
-cast-t22 : tie.Need-cast-t22
-cast-t22 c =
-    let b = c .before .before .before .before .before in
-    let w = b .before .before .before .before in
+-- at most 4,096 are found
+few : (c : tie.After-fill) → c .fill .result ≤ 4096
+few c =
+    let d = c .before .before .before in
+    let w = d .before .before in
     let a = w .before .before .before .before .before .before .args in
-    let d = b .before .before in
-    let r = node-small (a .t1) (sheet-good w) (a .node) (w .wide2 .result) (w .before .wide .result) (d .wide3 .result) (node-good w) (w .wide2 .ensures) (w .before .wide .ensures) (d .wide3 .ensures) (form w) in
-    omega (arith, r, b .count .ensures)
+    omega (arith, c .fill .ensures .1, node-small (a .t1) (sheet-good w) (a .node) (w .wide2 .result) (w .before .wide .result) (d .wide3 .result) (node-good w) (w .wide2 .ensures) (w .before .wide .ensures) (d .wide3 .ensures) (form w))
+
+returns-3 : tie.Need-returns-3
+returns-3 c =
+    let d = c .before .before .before .before .before in
+    let w = d .before .before in
+    let a = w .before .before .before .before .before .before .args in
+    let q = node-list (a .t1) (sheet-good w) (a .node) (w .wide2 .result) (w .before .wide .result) (d .wide3 .result) (node-good w) (w .wide2 .ensures) (w .before .wide .ensures) (d .wide3 .ensures) (form w) in
+    told-10 (a .t1) (a .node) (now (a .out)) (sheet-good w) (node-good w) (omega (arith, c .if3 .taken, c .before .before .fill .ensures .1, ap length q))
+
+slice-aggregate-copy : tie.Need-slice-aggregate-copy
+slice-aggregate-copy c = omega arith
+
+copy-requires : tie.Need-copy-requires
+copy-requires c κs = let g = c .before .before .before .before in (few g, omega (arith, few g, g .fill .kept .1 .1 .1 .0), omega arith)
+
+cast-t27 : tie.Need-cast-t27
+cast-t27 c = omega (arith, few (c .before .before .before .before .before .before .before))
 
 same-length : tie.Need-same-length
 same-length c = omega arith
 
 returns-4 : tie.Need-returns-4
 returns-4 c =
-    let b = c .before .before .before .before .before in
-    let w = b .before .before .before .before in
+    let g = c .before .before .before .before .before .before .before in
+    let d = g .before .before .before in
+    let w = d .before .before in
     let a = w .before .before .before .before .before .before .args in
-    let d = b .before .before in
     let q = node-list (a .t1) (sheet-good w) (a .node) (w .wide2 .result) (w .before .wide .result) (d .wide3 .result) (node-good w) (w .wide2 .ensures) (w .before .wide .ensures) (d .wide3 .ensures) (form w) in
-    told-all (a .t1) (a .node) (now (a .out)) (sheet-good w) (node-good w) (omega (arith, c .before .before .before .before .if3 .left, b .count .ensures, ap length q))
-    (b .count .result) (c .before .before .fill .last .1 .1 .1 .0) (b .count .ensures ∙ ap length q) (c .before .before .fill .ensures ∙ ap (front (now (a .out))) q)
+    let out = now (a .out) in
+    let t = front-taken (replicate 4096 0) (nodeProbes (a .t1) (a .node)) (g .fill .ensures .0 ∙ ap (front (replicate 4096 0)) q) (g .fill .ensures .1 ∙ ap length q) in
+    told-all (a .t1) (a .node) out (sheet-good w) (node-good w) (omega (arith, c .before .before .before .before .before .if3 .left, g .fill .ensures .1, ap length q))
+    (g .fill .result) (c .before .before .copy .last .1 .1 .0) (g .fill .ensures .1 ∙ ap length q) (c .before .before .copy .ensures ∙ ap (front out) t)
 
 pub list-spec : {M : Type 1} → statement M
 list-spec =
@@ -112,9 +127,11 @@ list-spec =
     mul-row
     element-copy-out-row
     wide-requires-3
-    count-requires
-    returns-3
+    slice-aggregate-fill
     fill-requires
-    cast-t22
+    returns-3
+    slice-aggregate-copy
+    copy-requires
+    cast-t27
     same-length
     returns-4)

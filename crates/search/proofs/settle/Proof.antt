@@ -17,12 +17,13 @@ dist-at-requires c κs = (
 level-start-requires : tie.Need-level-start-requires
 level-start-requires c κs = c .before .before .before .before .before .before .pre .1 .level
 
-read-back-requires : tie.Need-read-back-requires
-read-back-requires c κs =
+write-trace-requires : tie.Need-write-trace-requires
+write-trace-requires c κs =
     let o = c .before .before .before .before .before .before .before .before .pre .1 in
     let l = c .before .before .before .before .if1 .taken in (
-      o .level .small,
+      o .entries,
       rw (c .before .before .dist-at .ensures, c .before .before .before .node-at .ensures) (o .links l),
+      rw (c .before .before .dist-at .ensures, c .before .before .before .node-at .ensures) (omega (arith, o .some l)),
       rw (c .before .before .dist-at .ensures, c .before .before .before .node-at .ensures) (o .fits l),
     )
 
@@ -33,13 +34,13 @@ rem-t14 : tie.Need-rem-t14
 rem-t14 c = omega (arith, c .before .before .before .before .before .before .before .before .before .before .before .pre .0)
 
 same-length : tie.Need-same-length
-same-length c = c .before .before .read-back .kept .1 .1 .1 .1 .0
+same-length c = c .before .before .write-trace .kept .1 .1 .1 .1 .1 .0
 
 returns : tie.Need-returns
 returns c =
     settle-bad _ _ _ _ _ _ _ _ _ _ (c .before .before .before .before .before .before .before .if1 .taken)
     (c .before .before .before .before .before .before .node-at .ensures) (c .before .before .before .before .before .dist-at .ensures)
-    (c .before .before .before .before .level-start .ensures) (c .before .before .read-back .ensures)
+    (c .before .before .before .before .level-start .ensures) (c .before .before .write-trace .ensures)
 
 returns-2 : tie.Need-returns-2
 returns-2 c = settle-clear _ _ _ _ _ _ (c .if1 .left)
@@ -51,7 +52,7 @@ settle-spec =
     node-at-requires
     dist-at-requires
     level-start-requires
-    read-back-requires
+    write-trace-requires
     div-t13
     rem-t14
     same-length

@@ -1,6 +1,5 @@
 -- The tests are those of the definition, in its order.
 use native.Mathlib.Omega.{arith}
-use Rattle.tests_spec.specs.Runs.{newRun}
 use Rattle.tests.proofs.Answers.{told, open-sheet, open-k, opened, fits, first-node}
 use Rattle.tests.proofs.open_test.Statement.{statement}
 use Rattle.tests.proofs.open_test.Tie as tie
@@ -20,6 +19,9 @@ not-opened-requires-2 c κs = tt
 returns-2 : tie.Need-returns-2
 returns-2 c = told (open-k _ _ _ _ (c .before .before .before .check .ensures) (c .before .before .if1 .left) (c .before .if2 .taken) (c .not-opened2 .ensures))
 
+flag-of-requires : tie.Need-flag-of-requires
+flag-of-requires c κs = tt
+
 element-copy-out-row : tie.Need-element-copy-out-row
 element-copy-out-row c = omega arith
 
@@ -27,11 +29,10 @@ wide-requires : tie.Need-wide-requires
 wide-requires c κs = tt
 
 offer-requires : tie.Need-offer-requires
-offer-requires c κs = fits _ (c .before .before .before .before .check .ensures) (c .before .before .before .if1 .left) (c .wide .ensures) (first-node _ (c .before .before .before .before .check .ensures) (c .before .before .before .if1 .left))
+offer-requires c κs = fits _ (c .before .before .before .before .before .check .ensures) (c .before .before .before .before .if1 .left) (c .wide .ensures) (first-node _ (c .before .before .before .before .before .check .ensures) (c .before .before .before .before .if1 .left))
 
 returns-3 : tie.Need-returns-3
-unfolding newRun
-returns-3 c = told (opened _ _ _ _ (c .before .before .before .before .before .check .ensures) (c .before .before .before .before .if1 .left) (c .before .before .before .if2 .left) (c .before .wide .ensures) (c .offer .ensures))
+returns-3 c = told (opened _ _ _ _ (c .before .before .before .before .before .before .check .ensures) (c .before .before .before .before .before .if1 .left) (c .before .before .before .before .if2 .left) (c .before .wide .ensures) (c .before .before .before .flag-of .ensures) (c .offer .ensures))
 
 pub open-test-spec : {M : Type 1} → statement M
-open-test-spec = tie.close (tie.spec check-requires not-opened-requires returns not-opened-requires-2 returns-2 element-copy-out-row wide-requires offer-requires returns-3)
+open-test-spec = tie.close (tie.spec check-requires not-opened-requires returns not-opened-requires-2 returns-2 flag-of-requires element-copy-out-row wide-requires offer-requires returns-3)

@@ -1,10 +1,11 @@
 -- The tests are those of the definition, in its order.
+use native.Mathlib.Omega.{arith}
 use Rattle.tests.proofs.Records.{by-ended, by-node, by-depth, by-k, by-none}
 use Rattle.tests.proofs.record_fault.Statement.{statement}
 use Rattle.tests.proofs.record_fault.Tie as tie
 
 returns : tie.Need-returns
-returns c = by-ended _ _ (c .if1 .taken)
+returns c = by-ended _ _ (λ e. omega (arith, c .if1 .taken))
 
 wide-requires : tie.Need-wide-requires
 wide-requires c κs = tt

@@ -6,12 +6,16 @@ use model::planted::comparisons::{compare_with, CompareFault};
 use model::random::{deep_pair, pair, random_sheet, small_pair, Rng};
 use model::sheet::{check, Sheet};
 
-use super::{bad_sheet, catch, flag, names, shown_sheet};
+use super::{bad_sheet, catch, count_sheets, flag, names, shown_sheet, KEPT};
 use crate::edge;
 use crate::findings::Findings;
 use crate::play::Part;
 
 const COMPARE: &str = "compare, 0 compared or the refusal";
+const MINE: &str = "compare, the refusals of the reference";
+const THEIRS: &str = "compare, the refusals of the device";
+const BOTH: &str = "compare, both sheets refused with different numbers";
+const PAIRS: &str = "pairs of accepted sheets with equal events";
 const REFINES: &str = "refines, 0 or trace-only 1";
 const STRAYS: &str = "strays at d 0 (0), 1 to 9 (1), 10 to 99 (2), 100 and more (3)";
 const REFUSALS: &str = "refusals at d 0 (0), 1 to 9 (1), 10 to 99 (2), 100 and more (3)";
@@ -30,6 +34,10 @@ pub const PART: Part = Part {
 fn findings() -> Findings {
     let groups = vec![
         (COMPARE, vec![0, 3, 5, 6, 7, 8, 11, 12, 13]),
+        (MINE, KEPT.to_vec()),
+        (THEIRS, KEPT.to_vec()),
+        (BOTH, vec![1]),
+        (PAIRS, vec![1]),
         (REFINES, vec![0, 1]),
         (STRAYS, vec![0, 1, 2, 3]),
         (REFUSALS, vec![0, 1, 2, 3]),
@@ -40,14 +48,15 @@ fn findings() -> Findings {
     Findings::new(groups, names(CompareFault::ALL))
 }
 
-/// One pair with lists that are long enough, and with one list around its limit; and now
-/// and then sheets that are refused.
+/// One pair with lists that are long enough, and with one list around its limit; and a pair
+/// of which a sheet is refused, or with other events.
 fn round(rng: &mut Rng, round: u64, findings: &mut Findings) {
     let (reference, device) = match round % 6 {
         0 | 1 => deep_pair(rng),
         2 => small_pair(rng),
         _ => pair(rng),
     };
+    findings.count(PAIRS, 1);
     let trace_only = rng.one_in(3);
     let pairs = reference.n as usize * device.n as usize;
     let (words, places) = (3 * pairs, pairs - 1);
@@ -66,17 +75,15 @@ fn round(rng: &mut Rng, round: u64, findings: &mut Findings) {
         _ => (words, places),
     };
     try_compare(rng, findings, (&reference, &device), trace_only, lengths);
-    if rng.one_in(2) {
-        let (mut first, mut second) = (reference, device);
-        match rng.below(5) {
-            0 => first = bad_sheet(rng),
-            1 => second = bad_sheet(rng),
-            2 => (first, second) = (bad_sheet(rng), bad_sheet(rng)),
-            _ => second = random_sheet(rng),
-        }
-        let lengths = rng.pick(&[(0, 0), (3_072, 1_023), (words, places)]);
-        try_compare(rng, findings, (&first, &second), trace_only, lengths);
+    let (mut first, mut second) = (reference, device);
+    match rng.below(5) {
+        0 => first = bad_sheet(rng),
+        1 => second = bad_sheet(rng),
+        2 => (first, second) = (bad_sheet(rng), bad_sheet(rng)),
+        _ => second = random_sheet(rng),
     }
+    let lengths = rng.pick(&[(0, 0), (3_072, 1_023), (words, places)]);
+    try_compare(rng, findings, (&first, &second), trace_only, lengths);
 }
 
 /// A length around a limit.
@@ -113,6 +120,8 @@ fn digits(d: u16) -> u64 {
 }
 
 fn demands(findings: &mut Findings) {
+    let pairs = findings.counted(PAIRS, 1);
+    findings.demand(pairs >= 5_000, "5,000 pairs");
     for group in [STRAYS, REFUSALS] {
         let far = findings.counted(group, 3);
         findings.demand(
@@ -149,6 +158,7 @@ fn try_compare(
         )
     });
     count(findings, &model, trace_only);
+    count_sheets(findings, [MINE, THEIRS, BOTH], reference, device);
     if check(reference) == 0 && check(device) == 0 && reference.e == device.e {
         let pairs = reference.n as usize * device.n as usize;
         findings.count(WORK, class(words, 3 * pairs));

@@ -4,24 +4,58 @@ mod comparisons;
 mod probes;
 mod runs;
 mod sheets;
+mod suites;
 mod text;
 mod verdicts;
 
 use model::random::{kept, kept_noise, kept_twice, Rng, AIMS_KEPT};
-use model::sheet::{Row, Sheet};
+use model::sheet::{check, Row, Sheet};
 
 use crate::findings::Findings;
 use crate::play::Part;
 
 /// Every part, in the order in which they are played.
-pub static ALL: [Part; 6] = [
+pub static ALL: [Part; 7] = [
     sheets::PART,
     probes::PART,
     runs::PART,
     verdicts::PART,
+    suites::PART,
     comparisons::PART,
     text::PART,
 ];
+
+/// 01's mistakes that a good bench hand makes: the name under which each is planted, in every
+/// part in which it can show, and the mistake in words.
+pub const MISTAKES: [(&str, &str); 6] = [
+    ("DepthSum", "stopping at depth p + q"),
+    ("DepthLarger", "stopping at the larger of the two"),
+    ("AcceptancesEqual", "comparing acceptances for equality"),
+    ("InitialsBelow", "offering only the initials below depth k"),
+    ("EveryHittingSet", "listing every hitting set"),
+    (
+        "EmptyIsNoRule",
+        "taking the empty acceptance as no rule here",
+    ),
+];
+
+/// The refusals of a kept sheet.
+const KEPT: [u64; 5] = [3, 5, 6, 7, 8];
+
+/// Counts whose sheet a call on two sheets refuses: the number in the group of the reference or
+/// of the device, and 1 in the third group if both are refused, with different numbers.
+fn count_sheets(findings: &mut Findings, groups: [&str; 3], reference: &Sheet, device: &Sheet) {
+    match (check(reference), check(device)) {
+        (0, 0) => {}
+        (0, number) => findings.count(groups[1], u64::from(number)),
+        (number, other) => {
+            findings.count(groups[0], u64::from(number));
+            if other != 0 && other != number {
+                findings.count(groups[2], 1);
+            }
+        }
+    }
+}
 
 /// Marks the faults, planted in the order of `faults`, that differ from the library on
 /// this input.

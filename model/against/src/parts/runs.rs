@@ -41,8 +41,9 @@ fn findings() -> Findings {
     Findings::new(groups, names(RunFault::ALL))
 }
 
-/// A whole run, some records and reports of any content, and sheets of any content.
-fn round(rng: &mut Rng, _round: u64, findings: &mut Findings) {
+/// A whole run, some records and reports of any content, sheets of any content, and flags
+/// of every byte.
+fn round(rng: &mut Rng, round: u64, findings: &mut Findings) {
     let (reference, device) = if rng.one_in(6) {
         deep_pair(rng)
     } else {
@@ -65,6 +66,26 @@ fn round(rng: &mut Rng, _round: u64, findings: &mut Findings) {
     try_open(findings, &bad, k, h, traces);
     let k = rng.pick(&[MAX_TEST, MAX_TEST + 1, MAX_TEST + 2, 65_535, 0, 1]);
     try_open(findings, &sheet, k, h, traces);
+    try_flags(rng, round, findings, &sheet);
+}
+
+/// Reports on a record with a byte as its flag of trace-only, and on one with it as its
+/// flag of ended: 256 rounds have every byte.
+fn try_flags(rng: &mut Rng, round: u64, findings: &mut Findings, sheet: &Sheet) {
+    let byte = (round % 256) as u8;
+    let traces = Record {
+        traces: byte,
+        ended: 0,
+        ..any_record(rng, sheet)
+    };
+    let ended = Record {
+        ended: byte,
+        ..any_record(rng, sheet)
+    };
+    for record in [traces, ended] {
+        let code = any_code(rng, sheet);
+        try_step(findings, sheet, &record, code);
+    }
 }
 
 /// A test number, at times too high.
@@ -191,21 +212,17 @@ fn try_open(findings: &mut Findings, sheet: &Sheet, k: u16, h: u16, traces: u8) 
     ours
 }
 
-/// One report by the library, by value and on both records in place, by the model, and by each fault that
-/// is not caught yet.
+/// One report by the library, by value and on the record in place, by the model, and by
+/// each fault that is not caught yet.
 fn try_step(findings: &mut Findings, sheet: &Sheet, record: &Record, code: u16) -> Stepped {
     let ours = edge::step(sheet, record, code);
     let model = step_numbers(sheet, record, code);
     let mut run = *record;
     let answer = edge::report(&mut run, sheet, code);
     let placed = Stepped { answer, run };
-    let mut taken = record.run();
-    let said = edge::take_report(&mut taken, sheet, code);
-    let equal = ours == model && placed == model;
-    let equal = equal && said == model.answer && taken == model.run.run();
-    findings.compared(equal, || {
+    findings.compared(ours == model && placed == model, || {
         format!(
-            "report {code} to {record:?} on {}: model {model:?}, library by value {ours:?}, in place {placed:?}, with bool {said:?} {taken:?}",
+            "report {code} to {record:?} on {}: model {model:?}, library by value {ours:?}, in place {placed:?}",
             shown_sheet(sheet)
         )
     });

@@ -129,6 +129,7 @@ fn valid(rng: &mut Rng, round: u64, findings: &mut Findings) -> Sheet {
 fn demands(findings: &mut Findings) {
     let large = findings.counted(LARGE, 1);
     let small = findings.counted(LARGE, 0);
+    findings.demand(large + small >= 20_000, "20,000 valid sheets");
     findings.demand(
         2 * large >= small,
         "a third of the valid sheets has 16 nodes or more",

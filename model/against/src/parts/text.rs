@@ -6,7 +6,7 @@ use std::path::PathBuf;
 use std::process::{Command, Stdio};
 
 use model::planted::text::{output_with, TextFault};
-use model::random::{deep_pair, program_input, Rng};
+use model::random::{damaged, deep_pair, pair, program_input, Rng, AIMS_READ};
 use model::sheet::encode;
 use model::text::output;
 
@@ -16,12 +16,15 @@ use crate::play::Part;
 
 const LINES: &str =
     "text, 0 refines, 1 stray, 2 refused, 3 reference refused, 4 device refused, 5 unequal events";
+const MINE: &str = "text, the refusals of the reference";
+const THEIRS: &str = "text, the refusals of the device";
 const LENGTH: &str = "input under 4 bytes (0), up to 4096 (1), longer (2)";
-const TRACE: &str = "text with an empty trace (0) or a longer one (1), 100 events and more (2)";
+const STRAYS: &str = "text, strays at d 0 (0), 1 to 9 (1), 10 to 99 (2), 100 and more (3)";
+const REFUSALS: &str = "text, refusals at d 0 (0), 1 to 9 (1), 10 to 99 (2), 100 and more (3)";
 
 pub const PART: Part = Part {
     name: "text",
-    rounds: 2_400,
+    rounds: 6_400,
     findings,
     round,
     demands: |_| {},
@@ -30,8 +33,11 @@ pub const PART: Part = Part {
 fn findings() -> Findings {
     let groups = vec![
         (LINES, (0..=5).collect()),
+        (MINE, (1..=8).collect()),
+        (THEIRS, (1..=8).collect()),
         (LENGTH, vec![0, 1, 2]),
-        (TRACE, vec![0, 1, 2]),
+        (STRAYS, vec![0, 1, 2, 3]),
+        (REFUSALS, vec![0, 1, 2, 3]),
     ];
     Findings::new(groups, names(TextFault::ALL))
 }
@@ -44,15 +50,27 @@ fn program() -> PathBuf {
     ))
 }
 
-fn round(rng: &mut Rng, round: u64, findings: &mut Findings) {
-    let input = match round % 8 {
-        0 => {
-            let (reference, device) = deep_pair(rng);
-            [encode(&reference), encode(&device)].concat()
-        }
-        1 => (0..rng.below(12)).map(|_| rng.byte()).collect(),
-        _ => program_input(rng),
+/// An input: a pair far apart, a few bytes of noise, each refusal of a sheet in turn as the
+/// reference's and as the device's, or any other.
+fn input_of(rng: &mut Rng, round: u64) -> Vec<u8> {
+    let aim = AIMS_READ[(round / 8) as usize % AIMS_READ.len()];
+    let (reference, device) = match round % 8 {
+        0 => deep_pair(rng),
+        1 => return (0..rng.below(12)).map(|_| rng.byte()).collect(),
+        2 | 3 => pair(rng),
+        _ => return program_input(rng),
     };
+    let (mut first, mut second) = (encode(&reference), encode(&device));
+    match round % 8 {
+        2 => first = damaged(rng, aim),
+        3 => second = damaged(rng, aim),
+        _ => {}
+    }
+    [first, second].concat()
+}
+
+fn round(rng: &mut Rng, round: u64, findings: &mut Findings) {
+    let input = input_of(rng, round);
     let ours = match written(&input, rng.one_in(8)) {
         Ok(text) => text,
         Err(error) => format!("no output: {error}"),
@@ -113,13 +131,29 @@ fn count(findings: &mut Findings, input: &[u8], text: &str) {
         _ => 2,
     };
     findings.count(LENGTH, length);
-    if let Some(line) = text.lines().find(|line| line.starts_with("trace")) {
-        let events = line.split(' ').count() - 1;
-        let class = match events {
-            0 => 0,
-            1..=99 => 1,
-            _ => 2,
-        };
-        findings.count(TRACE, class);
+    count_numbers(findings, text);
+}
+
+/// The number of a refusal, or the band of d.
+fn count_numbers(findings: &mut Findings, text: &str) {
+    let after = |words: &str| {
+        let rest = text.lines().find_map(|line| line.strip_prefix(words))?;
+        rest.split(' ').next()?.parse::<u64>().ok()
+    };
+    for (words, group) in [("reference refused ", MINE), ("device refused ", THEIRS)] {
+        if let Some(number) = after(words) {
+            findings.count(group, number);
+        }
     }
+    let Some(d) = after("violates after ") else {
+        return;
+    };
+    let class = match d {
+        0 => 0,
+        1..=9 => 1,
+        10..=99 => 2,
+        _ => 3,
+    };
+    let stray = after("stray ").is_some();
+    findings.count(if stray { STRAYS } else { REFUSALS }, class);
 }

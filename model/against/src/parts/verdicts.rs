@@ -9,12 +9,15 @@ use model::sheet::Sheet;
 use model::tests::MAX_TEST;
 use model::verdict::verdicts;
 
-use super::{bad_sheet, catch, flag, names, shown_sheet};
+use super::{bad_sheet, catch, count_sheets, flag, names, shown_sheet, KEPT};
 use crate::edge;
 use crate::findings::Findings;
 use crate::play::Part;
 
 const JUDGE: &str = "judge, 0 judged or the refusal";
+const MINE: &str = "judge, the refusals of the reference";
+const THEIRS: &str = "judge, the refusals of the device";
+const BOTH: &str = "judge, both sheets refused with different numbers";
 const VERDICT: &str = "judged, 1 passes, 2 fails, 3 and 4 the same of trace-only tests";
 const NUMBER: &str =
     "judged tests 0 (0), 1 to 9 (1), 10 to 99 (2), 100 to 999 (3), 1000 and more (4)";
@@ -32,6 +35,9 @@ pub const PART: Part = Part {
 fn findings() -> Findings {
     let groups = vec![
         (JUDGE, vec![0, 3, 5, 6, 7, 8, 11, 14]),
+        (MINE, KEPT.to_vec()),
+        (THEIRS, KEPT.to_vec()),
+        (BOTH, vec![1]),
         (VERDICT, vec![1, 2, 3, 4]),
         (NUMBER, vec![0, 1, 2, 3, 4]),
         (SMALL, vec![1]),
@@ -56,7 +62,9 @@ fn round(rng: &mut Rng, round: u64, findings: &mut Findings) {
     };
     let numbers = chosen(rng, &reference, &device, trace_only);
     judge_all(rng, findings, (&reference, &device), &numbers, trace_only);
-    refused(rng, findings, &reference, &device);
+    for _ in 0..4 {
+        refused(rng, findings, &reference, &device);
+    }
 }
 
 /// Tests around the distance of the nearest violation, the wrong bounds and the right one.
@@ -136,6 +144,7 @@ fn refused(rng: &mut Rng, findings: &mut Findings, reference: &Sheet, device: &S
         )
     });
     findings.count(JUDGE, u64::from(model.refusal));
+    count_sheets(findings, [MINE, THEIRS, BOTH], &first, &second);
     catch(findings, VerdictFault::ALL, |fault| {
         judged(verdict_with(fault, &first, &second, k, trace_only)) != ours
     });

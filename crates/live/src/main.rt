@@ -1,0 +1,242 @@
+// The program `live`, a live run of test k at the bench (01, "Test k and a live run"):
+//   live REF K H [traces]
+// REF names a file with the reference's bytes, of which no more than 4,096 are kept; later bytes count as absent. K and H are numbers in
+// base ten, and `traces` makes the run trace-only. Other counts of words are refused with 14 before the file is opened. It prints the
+// first offer, or a refusal; then it reads one report a line from standard input, `event e` or `blocked`, and prints the answer to
+// each, until the run ends. A line that is no report is refused with 15, and the offer stands.
+use libc::STDIN_FILENO;
+use libc::STDOUT_FILENO;
+use live_lines_spec::Asked;
+use sheet_spec::Sheet;
+use tests_spec::Answer;
+use tests_spec::Run;
+
+// After so many lines the program ends.
+const LINES: u32 = 1000000;
+
+// So many bytes of one line are read, or of the file; what follows in a longer line counts as another line.
+const LONGEST: u32 = 1000000;
+
+// ---- reading
+
+// What was read into a list: how many bytes it holds, and what came after them: the byte that was waited for, 256 for the end of the
+// input, or 257 for a read that failed.
+struct Got {
+    len: usize,
+    end: u16,
+}
+
+// A byte as a 16-bit number.
+fn short(x: u8) -> u16 {
+    x as u16
+}
+
+// The next byte; 256 at the end of the input, 257 where the read fails.
+fn read_byte(fd: i32) -> u16 {
+    let mut one = [0u8; 1];
+    let view: &mut [u8] = &mut one;
+    let got = libc::read(fd, view);
+    if got < 0 {
+        return 257;
+    }
+    if got == 0 {
+        return 256;
+    }
+    short(one[0])
+}
+
+// Reads bytes into the front of a list, up to the byte `stop`; bytes that have no room are dropped.
+fn read_to(fd: i32, stop: u16, list: &mut [u8]) -> Got {
+    let mut len = 0;
+    let mut left = LONGEST;
+    while left > 0 {
+        let b = read_byte(fd);
+        if b == stop {
+            break;
+        }
+        if b > 255 {
+            return Got { len: len, end: b };
+        }
+        len = text::put_byte(list, len, b as u8);
+        left -= 1;
+    }
+    Got {
+        len: len,
+        end: stop,
+    }
+}
+
+// Says on standard error why the file cannot be read.
+fn unread() -> Got {
+    os::fail(b"live");
+    Got { len: 0, end: 257 }
+}
+
+// Reads the file that the first word names.
+fn read_file(list: &mut [u8]) -> Got {
+    let mut name = io::buffer();
+    let n = os::arg(1, &mut name);
+    if os::errno() != 0 {
+        return unread();
+    }
+    let fd = os::open_read(&name[..n]);
+    if fd < 0 {
+        return unread();
+    }
+    let got = read_to(fd, 256, list);
+    if got.end > 256 {
+        return unread();
+    }
+    libc::close(fd);
+    got
+}
+
+// The test that the words ask for, where `four` says whether there is a fourth.
+fn asked_for(four: bool) -> Asked {
+    let mut k = [0u8; 64];
+    let mut h = [0u8; 64];
+    let mut word = [0u8; 64];
+    let a = os::arg(2, &mut k);
+    let b = os::arg(3, &mut h);
+    let c = os::arg(4, &mut word);
+    live_lines::asked_of(
+        text::front(&k, a),
+        text::front(&h, b),
+        four,
+        text::front(&word, c),
+    )
+}
+
+// ---- writing
+
+// Writes the answer to an opening; `fault` is the reference's own refusal.
+fn say_opening(fault: u8, a: Answer) {
+    let mut out = [0u8; 128];
+    let n = live_lines::put_opening(&mut out, fault, a);
+    io::write_all(STDOUT_FILENO, text::front(&out, n));
+}
+
+// Writes the answer to a report.
+fn say_answer(a: Answer) {
+    let mut out = [0u8; 128];
+    let n = live_lines::put_answer(&mut out, a);
+    io::write_all(STDOUT_FILENO, text::front(&out, n));
+}
+
+// Writes that the lines were too many, or that the input ended.
+fn say_stop(many: bool) {
+    let mut out = [0u8; 128];
+    let n = live_lines::put_stop(&mut out, many);
+    io::write_all(STDOUT_FILENO, text::front(&out, n));
+}
+
+// ---- the run
+
+// The run after a line, and whether it goes on.
+struct Turn {
+    going: bool,
+    run: Run,
+}
+
+// Whether the run has begun.
+fn has_begun(a: Answer) -> bool {
+    match a {
+        Answer::Going(set) => true,
+        Answer::Stray(event) => false,
+        Answer::Refused(set) => false,
+        Answer::Passed => false,
+        Answer::Denied(number) => false,
+    }
+}
+
+// Whether the run goes on after an answer: with the next offer, or with the same one after a refused report.
+fn goes_on(a: Answer) -> bool {
+    match a {
+        Answer::Going(set) => true,
+        Answer::Stray(event) => false,
+        Answer::Refused(set) => false,
+        Answer::Passed => false,
+        Answer::Denied(number) => true,
+    }
+}
+
+// Whether the input ended before a line began.
+fn has_ended(got: Got) -> bool {
+    if got.len > 0 {
+        return false;
+    }
+    got.end > 255
+}
+
+// One turn: hears a line, steps the run and writes the answer.
+fn take_turn(sheet: Sheet, run: Run, line: &[u8]) -> Turn {
+    let stepped = tests::step(sheet, run, live_lines::heard(line));
+    let a = stepped.answer;
+    let after = stepped.run;
+    say_answer(a);
+    Turn {
+        going: goes_on(a),
+        run: after,
+    }
+}
+
+// Reads a line and answers it; of a longer line the first 64 bytes are kept, which are no report.
+fn next_line(sheet: Sheet, run: Run) -> Turn {
+    let mut line = [0u8; 64];
+    let got = read_to(STDIN_FILENO, 10, &mut line);
+    if has_ended(got) {
+        say_stop(false);
+        return Turn {
+            going: false,
+            run: run,
+        };
+    }
+    take_turn(sheet, run, text::front(&line, got.len))
+}
+
+// Answers line after line until the run ends.
+fn answer_lines(sheet: Sheet, first: Run) {
+    let mut run = first;
+    let mut left = LINES;
+    while left > 0 {
+        let next = next_line(sheet, run);
+        if !next.going {
+            return;
+        }
+        run = next.run;
+        left -= 1;
+    }
+    say_stop(true);
+}
+
+// Opens the test that is asked for, and answers its lines. Bytes that are refused give a sheet of zeros, which opens no test.
+fn run_test(bytes: &[u8], asked: Asked) {
+    let reference = sheet::read(bytes);
+    let s = reference.sheet;
+    let opened = tests::open_test(s, asked.k, asked.h, asked.traces);
+    let a = opened.answer;
+    let run = opened.run;
+    say_opening(reference.refusal, a);
+    if has_begun(a) {
+        answer_lines(s, run);
+    }
+}
+
+// Reads the file and the words, and runs the test. The program's own name counts as a word.
+fn main() {
+    let words = os::arg_count();
+    if words < 4 {
+        say_opening(0, Answer::Denied(14));
+        return;
+    }
+    if words > 5 {
+        say_opening(0, Answer::Denied(14));
+        return;
+    }
+    let mut space = io::buffer();
+    let got = read_file(&mut space);
+    if got.end > 256 {
+        return;
+    }
+    run_test(text::front(&space, got.len), asked_for(words == 5));
+}

@@ -1,0 +1,106 @@
+-- Numbers and reports, case by case.
+use mathlib.Core.Path.{_≡_, sym, ap, _∙_}
+use mathlib.Core.Bool.{Bool, true, false}
+use mathlib.Core.List.{List}
+use Prim.Native.Nat.{ℕ, _+_, _-_, _≤_, _<_}
+use native.Mathlib.Omega.{arith}
+use lib.ListN.{length, take, drop, length-take, length-drop}
+use lib.Seq.{take-all}
+use borrow.Author.Tests.{le-leb, lt-leb}
+use Rattle.text_spec.specs.Lines.{ascii}
+use Rattle.text_spec.specs.DecimalLaws.{valueFrom}
+use Rattle.tests_spec.specs.declared.Report.the-variants.{Event, Blocked}
+use Rattle.live_lines_spec.specs.Numbers.{allDigits, fewDigits, numberIn, numberOf, Digits}
+use Rattle.live_lines_spec.specs.NumberLaws.{digits→, number-most}
+use Rattle.live_lines_spec.specs.Words.{sameText, eventNamed, heard, lastOk, wordsOk, askedOf}
+use Rattle.live_lines_spec.specs.WordLaws.{same→}
+
+-- no byte, too many, or as many as there may be
+module _ (most : ℕ) (w : List ℕ) where
+  pub few-none : length w ≡ 0 → false ≡ fewDigits most w
+  unfolding fewDigits
+  few-none e = rw (lt-leb 1 (length w) (omega arith))
+
+  pub few-many : (length w ≡ 0 → ⊥) → most < length w → false ≡ fewDigits most w
+  unfolding fewDigits
+  few-many n l = rw (le-leb 1 (length w) (omega (arith, n)), lt-leb (length w) most l)
+
+  pub few-some : {d : Bool} → (length w ≡ 0 → ⊥) → length w ≤ most → d ≡ allDigits w → d ≡ fewDigits most w
+  unfolding fewDigits
+  few-some n l e = rw (le-leb 1 (length w) (omega (arith, n)), le-leb (length w) most l) e
+
+  -- digits that are few enough are at most five
+  pub few-five : {d : Bool} → most ≤ 5 → d ≡ fewDigits most w → d ≡ true → Digits 5 w
+  few-five l e t = let s = digits→ most w (sym e ∙ t) in record { some = s .some; few = omega (arith, s .few); each = s .each }
+
+  module _ (top : ℕ) where
+    pub in-not : {d : Bool} → d ≡ fewDigits most w → d ≡ false → top + 1 ≡ numberIn most top w
+    unfolding numberIn
+    in-not e f = rw (sym e ∙ f)
+
+    pub in-over : {d : Bool} {v : ℕ} → d ≡ fewDigits most w → d ≡ true → v ≡ valueFrom 0 w → top < v → top + 1 ≡ numberIn most top w
+    unfolding numberIn
+    in-over e t x l = rw (sym e ∙ t, lt-leb (valueFrom 0 w) top (omega (arith, x, l)))
+
+    pub in-is : {d : Bool} {v : ℕ} → d ≡ fewDigits most w → d ≡ true → v ≡ valueFrom 0 w → v ≤ top → v ≡ numberIn most top w
+    unfolding numberIn
+    in-is e t x l = rw (sym e ∙ t, le-leb (valueFrom 0 w) top (omega (arith, x, l))) x
+
+-- a line that begins with `event `
+module _ (line : List ℕ) {f : List ℕ} (p : f ≡ take 6 line) {d : Bool} (e : d ≡ sameText f (ascii "event ")) where
+  begins : sameText (take 6 line) (ascii "event ") ≡ d
+  begins = ap (λ (t : List ℕ). sameText t (ascii "event ")) (sym p) ∙ sym e
+
+  pub named-not : d ≡ false → 255 ≡ eventNamed line
+  unfolding eventNamed
+  named-not t = rw (begins ∙ t)
+
+  -- it has six bytes or more
+  pub named-long : d ≡ true → 6 ≤ length line
+  named-long t = omega (arith, length-take 6 line, ap length (same→ (take 6 line) (ascii "event ") (begins ∙ t)))
+
+  pub named-is : {n : ℕ} → d ≡ true → n ≡ numberIn 3 254 (take (length line - 6) (drop 6 line)) → n ≡ eventNamed line
+  unfolding eventNamed
+  named-is t q = rw (begins ∙ t) (q ∙ ap (numberIn 3 254) (take-all (length line - 6) (drop 6 line) (omega (arith, length-drop 6 line))))
+
+-- what is named fits a byte
+pub named-byte : {n : ℕ} (w : List ℕ) → n ≡ numberIn 3 254 w → n < 256
+named-byte w e = omega (arith, e, number-most 3 w 254)
+
+-- the two kinds of report
+module _ (line : List ℕ) {d : Bool} (e : d ≡ sameText line (ascii "blocked")) where
+  pub is-blocked : d ≡ true → Blocked ≡ heard line
+  unfolding heard
+  is-blocked t = rw (sym e ∙ t)
+
+  pub is-event : {n : ℕ} → d ≡ false → n ≡ eventNamed line → Event n ≡ heard line
+  unfolding heard
+  is-event f q = rw (sym e ∙ f) (ap Event q)
+
+-- the last word
+pub last-none : (there : Bool) (word : List ℕ) → there ≡ false → true ≡ lastOk there word
+unfolding lastOk
+last-none there word f = rw f
+
+pub last-some : {d : Bool} (there : Bool) (word : List ℕ) → there ≡ true → d ≡ sameText word (ascii "traces") → d ≡ lastOk there word
+unfolding lastOk
+last-some there word t e = rw t e
+
+-- the words: one that is bad, or none
+module _ (k h : List ℕ) (there : Bool) (word : List ℕ) {a b : ℕ} (p : a ≡ numberOf k) (q : b ≡ numberOf h) where
+  pub asked-k : 65535 < a → record { k = 65535; h = 0; traces = false } ≡ askedOf k h there word
+  unfolding askedOf wordsOk
+  asked-k l = rw (lt-leb (numberOf k) 65535 (omega (arith, p, l)))
+
+  pub asked-h : a ≤ 65535 → 65535 < b → record { k = 65535; h = 0; traces = false } ≡ askedOf k h there word
+  unfolding askedOf wordsOk
+  asked-h m l = rw (le-leb (numberOf k) 65535 (omega (arith, p, m)), lt-leb (numberOf h) 65535 (omega (arith, q, l)))
+
+  module _ {d : Bool} (e : d ≡ lastOk there word) where
+    pub asked-last : a ≤ 65535 → b ≤ 65535 → d ≡ false → record { k = 65535; h = 0; traces = false } ≡ askedOf k h there word
+    unfolding askedOf wordsOk
+    asked-last m l f = rw (le-leb (numberOf k) 65535 (omega (arith, p, m)), le-leb (numberOf h) 65535 (omega (arith, q, l)), sym e ∙ f)
+
+    pub asked-all : a ≤ 65535 → b ≤ 65535 → d ≡ true → record { k = a; h = b; traces = there } ≡ askedOf k h there word
+    unfolding askedOf wordsOk
+    asked-all m l t = rw (le-leb (numberOf k) 65535 (omega (arith, p, m)), le-leb (numberOf h) 65535 (omega (arith, q, l)), sym e ∙ t, p, q)

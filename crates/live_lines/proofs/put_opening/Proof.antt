@@ -1,0 +1,46 @@
+-- The reference's refusal, or the answer.
+use native.Mathlib.Omega.{arith}
+use borrow.Author.Tests.{eq-eqb, ne-eqb}
+use Rattle.text_spec.specs.AddsLaws.{adds-all}
+use Rattle.live_lines_spec.specs.Answers.{openingLine}
+use Rattle.live_lines.proofs.put_opening.Statement.{statement}
+use Rattle.live_lines.proofs.put_opening.Tie as tie
+
+slice-aggregate-put-number-line : tie.Need-slice-aggregate-put-number-line
+slice-aggregate-put-number-line c = omega arith
+
+put-number-line-requires : tie.Need-put-number-line-requires
+put-number-line-requires c κs = tt
+
+same-length : tie.Need-same-length
+same-length c = omega arith
+
+returns : tie.Need-returns
+unfolding openingLine
+returns c = rw (ne-eqb (c .before .before .before .before .before .before .before .args .fault) 0 (c .before .before .before .before .before .if1 .taken)) (adds-all (c .before .before .put-number-line .ensures))
+
+slice-aggregate-put-with : tie.Need-slice-aggregate-put-with
+slice-aggregate-put-with c = omega arith
+
+put-with-requires : tie.Need-put-with-requires
+put-with-requires c κs = tt
+
+same-length-2 : tie.Need-same-length-2
+same-length-2 c = omega arith
+
+returns-2 : tie.Need-returns-2
+unfolding openingLine
+returns-2 c = rw (eq-eqb (c .before .before .before .before .before .before .before .args .fault) 0 (c .before .before .before .before .before .if1 .left)) (adds-all (c .before .before .put-with .ensures))
+
+pub put-opening-spec : {M : Type 1} → statement M
+put-opening-spec =
+    tie.close
+    (tie.spec
+    slice-aggregate-put-number-line
+    put-number-line-requires
+    same-length
+    returns
+    slice-aggregate-put-with
+    put-with-requires
+    same-length-2
+    returns-2)

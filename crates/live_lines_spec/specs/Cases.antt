@@ -1,0 +1,63 @@
+-- Lines that are reports and lines that are not, words that are numbers and words that are not, and every kind of line that is
+-- printed.
+use mathlib.Core.Path.{_≡_, refl}
+use mathlib.Core.Bool.{true, false}
+use mathlib.Core.List.{List, [], _∷_, _++_, map}
+use Prim.Native.Nat.{ℕ}
+use Rattle.base.specs.Range.{all}
+use Rattle.events.specs.Bit.{bit}
+use Rattle.events.specs.Sets.{has}
+use Rattle.text_spec.specs.Lines.{ascii, decimalIn, decimal, numberLine, eventList}
+use Rattle.text_spec.specs.Sets.{eventsIn, members, setWords}
+use Rattle.text_spec.specs.DecimalLaws.{valueFrom}
+use Rattle.tests_spec.specs.declared.Report.the-variants.{Event, Blocked}
+use Rattle.tests_spec.specs.declared.Answer.the-variants.{Going, Stray, Refused, Passed, Denied}
+use Rattle.live_lines_spec.specs.Numbers.{isDigit, digitAt, allDigits, fewDigits, numberIn, numberOf}
+use Rattle.live_lines_spec.specs.Words.{agreeAt, sameText, eventNamed, heard, lastOk, wordsOk, askedOf}
+use Rattle.live_lines_spec.specs.Answers.{offerLine, refusedLine, lineWith, answerLine, openingLine, stopLine}
+
+-- reports
+pub reports-hold : map heard (ascii "blocked" ∷ ascii "event 0" ∷ ascii "event 11" ∷ ascii "event 007" ∷ ascii "event 254" ∷ [])
+    ≡ (Blocked ∷ Event 0 ∷ Event 11 ∷ Event 7 ∷ Event 254 ∷ [])
+unfolding heard sameText agreeAt eventNamed numberIn fewDigits allDigits digitAt isDigit valueFrom all
+reports-hold = refl
+
+-- lines that are none: no text, half a word, a blank too many or too few, a carriage return, a large letter, no digit (the codes beside
+-- the digits among them), a sign, and numbers that are too large or have too many digits
+unfoldable pub noReports : List (List ℕ)
+noReports =
+    ascii "" ∷ ascii "block" ∷ ascii "blocked " ∷ ascii "event" ∷ ascii "event " ∷ ascii "event3" ∷ ascii "event  3" ∷ ascii "event 3 " ∷ (ascii "event 3" ++ (13 ∷ []))
+    ∷ ascii "Event 3" ∷ ascii "event x" ∷ ascii "event /" ∷ ascii "event :" ∷ ascii "event +3" ∷ ascii "event 255" ∷ ascii "event 256" ∷ ascii "event 999" ∷ ascii "event 0003" ∷ []
+
+pub others-hold : map heard noReports ≡ map (λ (line : List ℕ). Event 255) noReports
+unfolding noReports heard sameText agreeAt eventNamed numberIn fewDigits allDigits digitAt isDigit valueFrom all
+others-hold = refl
+
+-- words as numbers
+pub words-hold : map numberOf (ascii "0" ∷ ascii "1023" ∷ ascii "01024" ∷ ascii "65535" ∷ ascii "65536" ∷ ascii "000001" ∷ ascii "" ∷ ascii "1a" ∷ ascii "-1" ∷ [])
+    ≡ (0 ∷ 1023 ∷ 1024 ∷ 65535 ∷ 65536 ∷ 65536 ∷ 65536 ∷ 65536 ∷ 65536 ∷ [])
+unfolding numberOf numberIn fewDigits allDigits digitAt isDigit valueFrom all
+words-hold = refl
+
+-- tests that are asked for: with two words, with `traces`, with another word, and with an empty one
+pub asked-hold : (askedOf (ascii "5") (ascii "7") false [] ∷ askedOf (ascii "5") (ascii "7") true (ascii "traces") ∷ askedOf (ascii "5") (ascii "7") true (ascii "trace") ∷ askedOf (ascii "5") (ascii "7") true [] ∷ [])
+    ≡ (record { k = 5; h = 7; traces = false } ∷ record { k = 5; h = 7; traces = true } ∷ record { k = 65535; h = 0; traces = false } ∷ record { k = 65535; h = 0; traces = false } ∷ [])
+unfolding askedOf wordsOk lastOk numberOf numberIn fewDigits allDigits digitAt isDigit valueFrom all sameText agreeAt
+asked-hold = refl
+
+-- answers to a report
+pub answers-hold : map answerLine (Going 19 ∷ Going 0 ∷ Stray 3 ∷ Refused 5 ∷ Passed ∷ Denied 15 ∷ [])
+    ≡ (ascii "offer 0 1 4\n" ∷ ascii "offer\n" ∷ ascii "stray 3\n" ∷ ascii "refused 5 ( 0 2 )\n" ∷ ascii "passed\n" ∷ ascii "report refused 15\n" ∷ [])
+unfolding answerLine lineWith offerLine refusedLine numberLine setWords members eventsIn eventList decimal decimalIn has bit
+answers-hold = refl
+
+-- answers to an opening
+pub openings-hold : (openingLine 0 (Going 3) ∷ openingLine 0 (Denied 14) ∷ openingLine 3 (Denied 3) ∷ openingLine 1 (Denied 14) ∷ [])
+    ≡ (ascii "offer 0 1\n" ∷ ascii "test refused 14\n" ∷ ascii "reference refused 3\n" ∷ ascii "reference refused 1\n" ∷ [])
+unfolding openingLine lineWith offerLine numberLine members eventsIn eventList decimal decimalIn has bit
+openings-hold = refl
+
+-- and where the run has not ended
+pub stops-hold : map stopLine (true ∷ false ∷ []) ≡ (ascii "lines ended\n" ∷ ascii "input ended\n" ∷ [])
+unfolding stopLine
+stops-hold = refl

@@ -1,0 +1,42 @@
+-- Which report a line of `live` is, and which test its words ask for. A line comes without its newline.
+use mathlib.Core.Bool.{Bool, false, not, _&&_, _||_, cond}
+use mathlib.Core.List.{List}
+use Prim.Native.Nat.{ℕ}
+use lib.Dec.{eqb, leb}
+use lib.ListN.{length, getD, take, drop}
+use Rattle.base.specs.Range.{all}
+use Rattle.text_spec.specs.Lines.{ascii}
+use Rattle.tests_spec.specs.declared.Report.{Report}
+use Rattle.tests_spec.specs.declared.Report.the-variants.{Event, Blocked}
+use Rattle.live_lines_spec.specs.declared.Asked.{Asked}
+use Rattle.live_lines_spec.specs.Numbers.{numberIn, numberOf}
+
+-- whether two texts agree in byte i
+unfoldable pub agreeAt : List ℕ → List ℕ → ℕ → Bool
+agreeAt a b i = eqb (getD a i 0) (getD b i 0)
+
+-- whether two texts are the same
+unfoldable pub sameText : List ℕ → List ℕ → Bool
+sameText a b = eqb (length a) (length b) && all (agreeAt a b) (length a)
+
+-- the event that a line names: `event ` and one to three digits; every other line names 255, an event that no sheet has
+unfoldable pub eventNamed : List ℕ → ℕ
+eventNamed line = cond (sameText (take 6 line) (ascii "event ")) (numberIn 3 254 (drop 6 line)) 255
+
+-- the report that a line is
+unfoldable pub heard : List ℕ → Report
+heard line = cond (sameText line (ascii "blocked")) Blocked (Event (eventNamed line))
+
+-- whether the word after k and h, if there is one, is `traces`
+unfoldable pub lastOk : Bool → List ℕ → Bool
+lastOk there word = not there || sameText word (ascii "traces")
+
+-- whether the words ask for a test at all: k and h are numbers, and the last word is right
+unfoldable pub wordsOk : List ℕ → List ℕ → Bool → List ℕ → Bool
+wordsOk k h there word = leb (numberOf k) 65535 && (leb (numberOf h) 65535 && lastOk there word)
+
+-- the test that the words ask for; the word `traces` makes it trace-only. Bad words ask for test 65,535, which is none, so that its
+-- opening is refused with 14
+unfoldable pub askedOf : List ℕ → List ℕ → Bool → List ℕ → Asked
+askedOf k h there word =
+    cond (wordsOk k h there word) (record { k = numberOf k; h = numberOf h; traces = there }) (record { k = 65535; h = 0; traces = false })

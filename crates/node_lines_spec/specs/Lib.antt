@@ -1,0 +1,10 @@
+pub mod Joined
+pub mod Head
+pub mod Show
+pub mod Node
+pub mod JoinedLaws
+pub mod HoldsLaws
+pub mod ShowLaws
+pub mod NodeLaws
+pub mod Lengths
+pub mod Cases

@@ -1,0 +1,33 @@
+-- The text of an input from the sheet that was read of it: the first line alone, or with the lines of the nodes.
+use mathlib.Core.Path.{_≡_, sym, ap}
+use mathlib.Core.Logic.{_≢_}
+use mathlib.Core.List.{List}
+use Prim.Native.Nat.{ℕ, _≤_}
+use lib.ListN.{take}
+use Rattle.sheet_spec.specs.declared.ReadSheet.{ReadSheet}
+use Rattle.sheet_spec.specs.Reading.{readSheet}
+use Rattle.text_spec.specs.Input.{cutInput}
+use Rattle.text_spec.specs.Adds.{Holds, Adds}
+use Rattle.text_spec.specs.AddsLaws.{adds-then, adds-all}
+use Rattle.node_lines_spec.specs.Joined.{joined}
+use Rattle.node_lines_spec.specs.Head.{headLine}
+use Rattle.node_lines_spec.specs.Show.{nodeLines, showLines, showText}
+use Rattle.node_lines_spec.specs.ShowLaws.{show-accepted, show-refused, accepted-nodes}
+
+module _ (input : List ℕ) {a : ReadSheet} (e : a ≡ readSheet (take 4096 input)) where
+  shown : showLines a ≡ showText input
+  unfolding showText cutInput
+  shown = ap showLines e
+
+  -- a refused sheet
+  pub refused-shown : {out out′ : List ℕ} {r : ℕ} → a .refusal ≢ 0 → Adds (headLine a) out 0 out′ r → Holds out (showText input) out′ r
+  refused-shown n p = rw (← shown, show-refused a n) (adds-all p)
+
+  -- an accepted one
+  pub nodes-shown : {out b out′ : List ℕ} {k r : ℕ} → a .refusal ≡ 0 → Adds (headLine a) out 0 b k
+      → Adds (joined (nodeLines (a .sheet)) (a .sheet .n)) b k out′ r → Holds out (showText input) out′ r
+  nodes-shown z p q = rw (← shown, show-accepted a z) (adds-all (adds-then p q))
+
+  -- has at most 32 nodes
+  pub nodes-few : a .refusal ≡ 0 → a .sheet .n ≤ 32
+  nodes-few z = rw (sym e) at (accepted-nodes (take 4096 input) (rw e at z))

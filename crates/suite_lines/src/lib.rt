@@ -1,0 +1,160 @@
+// The text of the program `suite`: every byte that it prints, from the bytes that it reads, put over the front of a lent list.
+ghost use mathlib.Core.Path.{_≡_};
+ghost use mathlib.Core.Bool.{cond};
+ghost use Prim.Native.Nat.{_+_, _*_, _≤_, _<_};
+ghost use lib.Dec.{eqb};
+ghost use lib.ListN.{length};
+ghost use Rattle.text_spec.specs.Adds.{Adds, Holds};
+ghost use Rattle.suite_lines_spec.specs.Lines.{testLine, testLines, passedOf, lastWords, lastLine, suiteLines};
+ghost use Rattle.suite_lines_spec.specs.Program.{judgedLines, deviceLines, sheetsLines, inputLines, suiteText};
+ghost use Rattle.suite_lines.specs.Shapes.{Room};
+use sheet_spec::ReadSheet;
+use sheet_spec::Sheet;
+use verdicts_spec::Suite;
+
+// ---- lines
+
+// Puts the line of test `k`.
+fn put_test_line(out: &mut [u8], at: usize, k: u16, verdict: u8) -> usize
+    ensures { λ r. ⌜ Adds (testLine k verdict) (now (out .entry)) at (now (out .exit)) r ⌝ }
+{
+    let a = text::put(out, at, b"test ");
+    let b = text::put_number(out, a, k);
+    if verdict == 1 {
+        return text::put(out, b, b" passes\n");
+    }
+    text::put(out, b, b" fails\n")
+}
+
+// Puts the lines of the first `n` tests.
+fn put_test_lines(out: &mut [u8], at: usize, verdicts: &[u8], n: u16) -> usize
+    requires { ⌜ n ≤ length (now verdicts) ⌝ }
+    ensures { λ r. ⌜ Adds (testLines (now (verdicts .entry)) n) (now (out .entry)) at (now (out .exit)) r ⌝ }
+{
+    let mut next = at;
+    for k in 0..n {
+        next = put_test_line(out, next, k, verdicts[k as usize]);
+    }
+    next
+}
+
+// A count with one more test, if it passes.
+fn counted(passed: u16, verdict: u8) -> u16
+    requires { ⌜ passed < 65535 ⌝ }
+    ensures { λ r. ⌜ r ≡ passed + cond (eqb verdict 1) 1 0 ⌝ }
+{
+    if verdict == 1 {
+        return passed + 1;
+    }
+    passed
+}
+
+// How many of the first `n` tests pass.
+fn count_passed(verdicts: &[u8], n: u16) -> u16
+    requires { ⌜ n ≤ length (now verdicts) ⌝ }
+    ensures { λ r. ⌜ r ≡ passedOf (now (verdicts .entry)) n ⌝ }
+{
+    let mut passed: u16 = 0;
+    for k in 0..n {
+        passed = counted(passed, verdicts[k as usize]);
+    }
+    passed
+}
+
+// Puts the end of the last line: "all pass" only if as many passed as there are tests.
+fn put_last_words(out: &mut [u8], at: usize, tests: u16, run: u16, passed: u16) -> usize
+    requires { ⌜ passed ≤ run ⌝ }
+    ensures { λ r. ⌜ Adds (lastWords tests run passed) (now (out .entry)) at (now (out .exit)) r ⌝ }
+{
+    if passed == tests {
+        return text::put(out, at, b" all pass\n");
+    }
+    text::put_number_line(out, at, b" failed ", run - passed)
+}
+
+// Puts the last line: how many tests there are, how many were run, whether all passed.
+fn put_last_line(out: &mut [u8], at: usize, tests: u16, run: u16, passed: u16) -> usize
+    requires { ⌜ passed ≤ run ⌝ }
+    ensures { λ r. ⌜ Adds (lastLine tests run passed) (now (out .entry)) at (now (out .exit)) r ⌝ }
+{
+    let a = text::put(out, at, b"tests ");
+    let b = text::put_number(out, a, tests);
+    let c = text::put(out, b, b" run ");
+    let d = text::put_number(out, c, run);
+    put_last_words(out, d, tests, run, passed)
+}
+
+// Puts the lines of an answer, where there are so many tests; the verdicts are at the front of their list.
+fn put_suite(out: &mut [u8], at: usize, tests: u16, s: Suite, verdicts: &[u8]) -> usize
+    requires { ⌜ Room s (now verdicts) ⌝ }
+    ensures { λ r. ⌜ Adds (suiteLines tests s (now (verdicts .entry))) (now (out .entry)) at (now (out .exit)) r ⌝ }
+{
+    match s {
+        Suite::Judged(n) => {
+            let a = put_test_lines(out, at, verdicts, n);
+            put_last_line(out, a, tests, n, count_passed(verdicts, n))
+        }
+        Suite::Denied(k) => text::put_number_line(out, at, b"suite refused ", k as u16),
+    }
+}
+
+// ---- the whole text
+
+// How many tests there are for p and q nodes.
+fn tests_of(p: u8, q: u8) -> u16
+    ensures { λ r. ⌜ r ≡ p * q ⌝ }
+{
+    (p as u16) * (q as u16)
+}
+
+// Judges all tests of two sheets and puts the lines of the answer.
+fn put_judged(out: &mut [u8], at: usize, p: Sheet, q: Sheet) -> usize
+    ensures { λ r. ⌜ Adds (judgedLines p q) (now (out .entry)) at (now (out .exit)) r ⌝ }
+{
+    let mut verdicts = [0u8; 1024];
+    let s = verdicts::judge_all(p, q, false, &mut verdicts);
+    put_suite(out, at, tests_of(p.n, q.n), s, &verdicts)
+}
+
+// Puts the lines from the device's on, after an accepted reference.
+fn put_device(out: &mut [u8], at: usize, p: Sheet, b: ReadSheet) -> usize
+    ensures { λ r. ⌜ Adds (deviceLines p b) (now (out .entry)) at (now (out .exit)) r ⌝ }
+{
+    let k = b.refusal;
+    if k != 0 {
+        return text::put_number_line(out, at, b"device refused ", k as u16);
+    }
+    let q = b.sheet;
+    let next = text::put_sheet_line(out, at, b"device ", q.n as u16, q.e as u16);
+    put_judged(out, next, p, q)
+}
+
+// Puts all lines of two sheets as they were read.
+fn put_sheets(out: &mut [u8], a: ReadSheet, b: ReadSheet) -> usize
+    ensures { λ r. ⌜ Adds (sheetsLines a b) (now (out .entry)) 0 (now (out .exit)) r ⌝ }
+{
+    let k = a.refusal;
+    if k != 0 {
+        return text::put_number_line(out, 0, b"reference refused ", k as u16);
+    }
+    let p = a.sheet;
+    let next = text::put_sheet_line(out, 0, b"reference ", p.n as u16, p.e as u16);
+    put_device(out, next, p, b)
+}
+
+// Puts all lines of an input that is not too long.
+fn put_input(out: &mut [u8], input: &[u8]) -> usize
+    ensures { λ r. ⌜ Adds (inputLines (now (input .entry))) (now (out .entry)) 0 (now (out .exit)) r ⌝ }
+{
+    let end = text::first_end(input);
+    let a = sheet::read(&input[..end]);
+    let b = sheet::read(&input[end..]);
+    put_sheets(out, a, b)
+}
+
+// Puts the program's text for an input over the front of the lent list, and answers how many bytes of it stand there.
+pub fn suite_text(input: &[u8], out: &mut [u8]) -> usize
+    ensures { λ r. ⌜ Holds (now (out .entry)) (suiteText (now (input .entry))) (now (out .exit)) r ⌝ }
+{
+    put_input(out, text::front(input, 4096))
+}

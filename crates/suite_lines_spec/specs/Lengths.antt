@@ -1,0 +1,133 @@
+-- How long the text can be: at most 17,495 bytes.
+use mathlib.Core.Path.{_≡_, refl, sym, _∙_}
+use mathlib.Core.Bool.{Bool, true, false, cond}
+use mathlib.Core.List.{List, _++_}
+use Prim.Native.Nat.{ℕ, zero, suc, _+_, _-_, _*_, _≤_, _<_}
+use native.Mathlib.Omega.{arith}
+use native.Mathlib.Decide.{ℕ-discrete}
+use lib.Dec.{eqb}
+use lib.ListN.{length, getD, length-append}
+use borrow.Author.Tests.{eqb-true, eq-eqb}
+use Rattle.sheet_spec.specs.declared.Sheet.{Sheet}
+use Rattle.sheet_spec.specs.Rules.{sheetFault}
+use Rattle.sheet_spec.specs.Reading.{bytesFault, answer, readSheet}
+use Rattle.sheet_spec.specs.Accepted.{read-accepted}
+use Rattle.sheet_spec.specs.AnswerLaws.{read-refusal}
+use Rattle.sheet_spec.specs.ReadLaws.{read-numbers}
+use Rattle.sheet_spec.specs.Sound.{check-sound}
+use Rattle.text_spec.specs.Lines.{ascii, decimal, numberLine, sheetLine}
+use Rattle.text_spec.specs.DecimalLaws.{decimal-few}
+use Rattle.text_spec.specs.LengthLaws.{number-length, sheet-length}
+use Rattle.text_spec.specs.Input.{cutInput, firstSheet, secondSheet}
+use Rattle.verdicts_spec.specs.Suites.{tests, verdictsAfter}
+use Rattle.verdicts_spec.specs.Complete.{tests-few}
+use Rattle.suite_lines_spec.specs.Lines.{testLine, testLines, passedOf, lastWords, lastLine}
+use Rattle.suite_lines_spec.specs.Program.{verdictList, judgedLines, deviceLines, sheetsLines, inputLines, suiteText}
+use Rattle.suite_lines_spec.specs.ProgramLaws.{passed-few, unequal-lines, equal-lines}
+
+-- the line of a test
+test-length : (k v : ℕ) → k < 10000 → length (testLine k v) ≤ 17
+unfolding testLine
+test-length k v h = go (eqb v 1)
+  where
+    end : (t : List ℕ) → length t ≤ 8 → length (ascii "test " ++ (decimal k ++ t)) ≤ 17
+    end t l = omega (arith, length-append (ascii "test ") (decimal k ++ t), length-append (decimal k) t, decimal-few 3 k h)
+
+    go : (b : Bool) → length (ascii "test " ++ (decimal k ++ cond b (ascii " passes\n") (ascii " fails\n"))) ≤ 17
+    go true = end (ascii " passes\n") (omega arith)
+    go false = end (ascii " fails\n") (omega arith)
+
+-- the lines of n tests
+pub tests-length : (vs : List ℕ) (n : ℕ) → n ≤ 1024 → length (testLines vs n) ≤ 17 * n
+unfolding testLines
+tests-length vs zero h = omega arith
+tests-length vs (suc n) h =
+    omega (arith, length-append (testLines vs n) (testLine n (getD vs n 0)), tests-length vs n (omega arith), test-length n (getD vs n 0) (omega arith))
+
+-- the last line
+pub last-length : (n m f : ℕ) → n ≤ 1024 → m ≤ 1024 → f ≤ 1024 → length (lastLine n m f) ≤ 32
+unfolding lastLine lastWords
+last-length n m f a b c = go (eqb f n)
+  where
+    end : (t : List ℕ) → length t ≤ 13 → length (ascii "tests " ++ (decimal n ++ (ascii " run " ++ (decimal m ++ t)))) ≤ 32
+    end t l =
+        omega (
+          arith,
+          length-append (ascii "tests ") (decimal n ++ (ascii " run " ++ (decimal m ++ t))),
+          length-append (decimal n) (ascii " run " ++ (decimal m ++ t)),
+          length-append (ascii " run ") (decimal m ++ t),
+          length-append (decimal m) t,
+          decimal-few 3 n (omega arith),
+          decimal-few 3 m (omega arith),
+        )
+
+    go : (x : Bool) → length (ascii "tests " ++ (decimal n ++ (ascii " run " ++ (decimal m ++ cond x (ascii " all pass\n") (numberLine (ascii " failed ") (m - f)))))) ≤ 32
+    go true = end (ascii " all pass\n") (omega arith)
+    go false = end (numberLine (ascii " failed ") (m - f)) (omega (arith, number-length (ascii " failed ") 3 (m - f) (omega arith)))
+
+module _ (P Q : Sheet) (accP : sheetFault P ≡ 0) (accQ : sheetFault Q ≡ 0) where
+  -- after two accepted sheets: at most 1,024 tests and the last line, or a refusal
+  judged-length : length (judgedLines P Q) ≤ 17440
+  judged-length = go (ℕ-discrete (P .e) (Q .e))
+    where
+      go : Dec (P .e ≡ Q .e) → length (judgedLines P Q) ≤ 17440
+      go (yes e) =
+          let few = tests-few P Q accP accQ e in
+          rw (equal-lines P Q accP accQ e, length-append (testLines vs (tests P Q)) (lastLine (tests P Q) (tests P Q) (passedOf vs (tests P Q))))
+          (omega (arith, tests-length vs (tests P Q) few, few, last-length (tests P Q) (tests P Q) (passedOf vs (tests P Q)) few few (omega (arith, few, passed-few vs (tests P Q)))))
+        where
+          vs : List ℕ
+          vs = verdictsAfter false P Q verdictList
+      go (no n) = rw (unequal-lines P Q accP accQ n) (omega (arith, number-length (ascii "suite refused ") 1 11 (omega arith)))
+
+module _ (b : List ℕ) (h : bytesFault b ≡ 0) where
+  -- what an accepted reading holds, and its line
+  accepted : sheetFault (readSheet b .sheet) ≡ 0
+  unfolding readSheet answer
+  accepted = rw (eq-eqb (bytesFault b) 0 h) (read-accepted b h)
+
+  line-length : (who : List ℕ) → length (sheetLine who (readSheet b .sheet .n) (readSheet b .sheet .e)) ≤ length who + 19
+  line-length who =
+      let s = check-sound (readSheet b .sheet) accepted .ranges in
+      sheet-length who (readSheet b .sheet .n) (readSheet b .sheet .e) (omega (arith, s .n-high)) (omega (arith, s .e-high))
+
+-- the line of a refused sheet
+refused-length : (who : List ℕ) (b : List ℕ) → length (numberLine who (readSheet b .refusal)) ≤ length who + 2
+refused-length who b = omega (arith, number-length who 0 (readSheet b .refusal) (omega (arith, read-refusal b, read-numbers b)))
+
+device-length : (P : Sheet) → sheetFault P ≡ 0 → (b : List ℕ) → length (deviceLines P (readSheet b)) ≤ 17466
+unfolding deviceLines
+device-length P accP b = go (eqb (readSheet b .refusal) 0) refl
+  where
+    go : (x : Bool) → eqb (readSheet b .refusal) 0 ≡ x
+        → length (cond x (sheetLine (ascii "device ") (readSheet b .sheet .n) (readSheet b .sheet .e) ++ judgedLines P (readSheet b .sheet)) (numberLine (ascii "device refused ") (readSheet b .refusal))) ≤ 17466
+    go true e =
+        let h = sym (read-refusal b) ∙ eqb-true (readSheet b .refusal) 0 e in
+        omega (
+          arith,
+          length-append (sheetLine (ascii "device ") (readSheet b .sheet .n) (readSheet b .sheet .e)) (judgedLines P (readSheet b .sheet)),
+          line-length b h (ascii "device "),
+          judged-length P (readSheet b .sheet) accP (accepted b h),
+        )
+    go false e = omega (arith, refused-length (ascii "device refused ") b)
+
+sheets-length : (a b : List ℕ) → length (sheetsLines (readSheet a) (readSheet b)) ≤ 17495
+unfolding sheetsLines
+sheets-length a b = go (eqb (readSheet a .refusal) 0) refl
+  where
+    go : (x : Bool) → eqb (readSheet a .refusal) 0 ≡ x
+        → length (cond x (sheetLine (ascii "reference ") (readSheet a .sheet .n) (readSheet a .sheet .e) ++ deviceLines (readSheet a .sheet) (readSheet b)) (numberLine (ascii "reference refused ") (readSheet a .refusal))) ≤ 17495
+    go true e =
+        let h = sym (read-refusal a) ∙ eqb-true (readSheet a .refusal) 0 e in
+        omega (
+          arith,
+          length-append (sheetLine (ascii "reference ") (readSheet a .sheet .n) (readSheet a .sheet .e)) (deviceLines (readSheet a .sheet) (readSheet b)),
+          line-length a h (ascii "reference "),
+          device-length (readSheet a .sheet) (accepted a h) b,
+        )
+    go false e = omega (arith, refused-length (ascii "reference refused ") a)
+
+-- every text has at most 17,495 bytes
+pub text-length : (input : List ℕ) → length (suiteText input) ≤ 17495
+unfolding suiteText inputLines
+text-length input = sheets-length (firstSheet (cutInput input)) (secondSheet (cutInput input))

@@ -1,0 +1,164 @@
+// Text into a lent list, piece by piece, and the parts of an input of two sheets. A function that puts a piece takes the list and the place
+// where the piece begins and answers the place after it; what has no room is left out. Every function takes every argument.
+ghost use mathlib.Core.Path.{_≡_};
+ghost use mathlib.Core.List.{[], _∷_};
+ghost use Prim.Native.Nat.{_≤_, _<_};
+ghost use lib.ListN.{length, take};
+ghost use Rattle.sheet_spec.specs.Reading.{lengthField};
+ghost use Rattle.text_spec.specs.Lines.{decimal, numberLine, sheetLine, eventList};
+ghost use Rattle.text_spec.specs.Sets.{members, setWords};
+ghost use Rattle.text_spec.specs.Input.{firstEnd};
+ghost use Rattle.text_spec.specs.Adds.{Adds};
+ghost use Rattle.text.specs.Shapes.{memberWords};
+
+// ---- pieces
+
+// A byte as a 16-bit number.
+fn short(x: u8) -> u16
+    ensures { λ r. ⌜ r ≡ x ⌝ }
+{
+    x as u16
+}
+
+// Puts a byte at a place of out, if there is room, and answers the next place.
+pub fn put_byte(out: &mut [u8], at: usize, b: u8) -> usize
+    ensures { λ r. ⌜ Adds (b ∷ []) (now (out .entry)) at (now (out .exit)) r ⌝ }
+{
+    if at < out.len() {
+        out[at] = b;
+        return at + 1;
+    }
+    at
+}
+
+// Puts some words.
+pub fn put(out: &mut [u8], at: usize, words: &[u8]) -> usize
+    ensures { λ r. ⌜ Adds (now (words .entry)) (now (out .entry)) at (now (out .exit)) r ⌝ }
+{
+    let mut next = at;
+    let mut i = 0;
+    while i < words.len() {
+        next = put_byte(out, next, words[i]);
+        i += 1;
+    }
+    next
+}
+
+// Puts a number in base ten.
+pub fn put_number(out: &mut [u8], at: usize, n: u16) -> usize
+    ensures { λ r. ⌜ Adds (decimal n) (now (out .entry)) at (now (out .exit)) r ⌝ }
+{
+    if n < 10 {
+        return put_byte(out, at, 48 + n as u8);
+    }
+    let next = put_number(out, at, n / 10);
+    put_byte(out, next, 48 + (n % 10) as u8)
+}
+
+// Puts the events of a list in order, a blank before each.
+pub fn put_events(out: &mut [u8], at: usize, trace: &[u8]) -> usize
+    ensures { λ r. ⌜ Adds (eventList (now (trace .entry))) (now (out .entry)) at (now (out .exit)) r ⌝ }
+{
+    let mut next = at;
+    let mut i = 0;
+    while i < trace.len() {
+        next = put(out, next, b" ");
+        next = put_number(out, next, short(trace[i]));
+        i += 1;
+    }
+    next
+}
+
+// Puts event i with a blank before it, if it is in the set.
+fn put_member(out: &mut [u8], at: usize, set: u16, i: usize) -> usize
+    requires { ⌜ i < 16 ⌝ }
+    ensures { λ r. ⌜ Adds (memberWords set i) (now (out .entry)) at (now (out .exit)) r ⌝ }
+{
+    if events::contains(set, i) {
+        let a = put(out, at, b" ");
+        return put_number(out, a, i as u16);
+    }
+    at
+}
+
+// Puts the events of a set in order, a blank before each.
+pub fn put_members(out: &mut [u8], at: usize, set: u16) -> usize
+    ensures { λ r. ⌜ Adds (members set) (now (out .entry)) at (now (out .exit)) r ⌝ }
+{
+    let mut next = at;
+    for i in 0..16 {
+        next = put_member(out, next, set, i);
+    }
+    next
+}
+
+// Puts a set: its number, and its events between parentheses.
+pub fn put_set(out: &mut [u8], at: usize, set: u16) -> usize
+    ensures { λ r. ⌜ Adds (setWords set) (now (out .entry)) at (now (out .exit)) r ⌝ }
+{
+    let a = put_number(out, at, set);
+    let b = put(out, a, b" (");
+    let c = put_members(out, b, set);
+    put(out, c, b" )")
+}
+
+// ---- lines
+
+// Puts a line of some words and a number.
+pub fn put_number_line(out: &mut [u8], at: usize, words: &[u8], k: u16) -> usize
+    ensures { λ r. ⌜ Adds (numberLine (now (words .entry)) k) (now (out .entry)) at (now (out .exit)) r ⌝ }
+{
+    let a = put(out, at, words);
+    let b = put_number(out, a, k);
+    put(out, b, b"\n")
+}
+
+// Puts the line of an accepted sheet.
+pub fn put_sheet_line(out: &mut [u8], at: usize, who: &[u8], n: u16, e: u16) -> usize
+    ensures { λ r. ⌜ Adds (sheetLine (now (who .entry)) n e) (now (out .entry)) at (now (out .exit)) r ⌝ }
+{
+    let a = put(out, at, who);
+    let b = put_number(out, a, n);
+    let c = put(out, b, b" nodes ");
+    let d = put_number(out, c, e);
+    put(out, d, b" events\n")
+}
+
+// ---- parts of an input
+
+// The first n bytes, or all where there are fewer.
+pub fn front(bytes: &[u8], n: usize) -> &[u8]
+    ensures { λ r. ⌜ now r ≡ take n (now (bytes .entry)) ⌝ }
+{
+    let mut k = bytes.len();
+    if n < k {
+        k = n;
+    }
+    &bytes[..k]
+}
+
+// The first length field.
+fn length_field(input: &[u8]) -> usize
+    requires { ⌜ 4 ≤ length (now input) ⌝ }
+    ensures { λ r. ⌜ (r ≡ lengthField (now (input .entry))) × (r < 4294967296) ⌝ }
+{
+    let a = base::wide(input[0]);
+    let b = base::wide(input[1]);
+    let c = base::wide(input[2]);
+    let d = base::wide(input[3]);
+    (a * 256 + b) * 65536 + (c * 256 + d)
+}
+
+// Where the first sheet ends.
+pub fn first_end(input: &[u8]) -> usize
+    ensures { λ r. ⌜ (r ≡ firstEnd (now (input .entry))) × (r ≤ length (now (input .entry))) ⌝ }
+{
+    if input.len() < 4 {
+        return input.len();
+    }
+    let n = length_field(input) + 4;
+    if input.len() < n {
+        return input.len();
+    }
+    n
+}

@@ -1,0 +1,10 @@
+pub mod Lines
+pub mod Sets
+pub mod Input
+pub mod Adds
+pub mod DecimalLaws
+pub mod SetLaws
+pub mod InputLaws
+pub mod AddsLaws
+pub mod LengthLaws
+pub mod Cases

@@ -1,0 +1,35 @@
+-- The lines that programs print, as the codes of their characters (01, "The program `compare`"). Each line ends with one newline, words stand one
+-- blank apart, and numbers are in base ten.
+use mathlib.Core.Bool.{cond}
+use mathlib.Core.List.{List, [], _∷_, _++_}
+use Prim.Native.Nat.{ℕ, zero, suc, _+_, _/_, _%_}
+use Prim.Native.Char.{code}
+use Prim.Native.String.{String, [] as []ˢ, _∷_ as _∷ˢ_}
+use lib.Dec.{ltb}
+
+-- the codes of a text's characters
+abbrev pub ascii : String → List ℕ
+ascii []ˢ = []
+ascii (c ∷ˢ s) = code c ∷ ascii s
+
+-- n in base ten, with at most `most` digits
+unfoldable pub decimalIn : ℕ → ℕ → List ℕ
+decimalIn zero n = []
+decimalIn (suc most) n = cond (ltb n 10) ((48 + n) ∷ []) (decimalIn most (n / 10) ++ ((48 + n % 10) ∷ []))
+
+-- n in base ten, without leading zeros (n + 1 digits are always enough)
+unfoldable pub decimal : ℕ → List ℕ
+decimal n = decimalIn (suc n) n
+
+-- some words and a number: `reference refused k`, `device refused k`, `comparison refused k`, `refines cleared c`, `stray e`
+unfoldable pub numberLine : List ℕ → ℕ → List ℕ
+numberLine words k = words ++ (decimal k ++ ascii "\n")
+
+-- `reference p nodes e events`, `device q nodes e events`
+unfoldable pub sheetLine : List ℕ → ℕ → ℕ → List ℕ
+sheetLine who n e = who ++ (decimal n ++ (ascii " nodes " ++ (decimal e ++ ascii " events\n")))
+
+-- the events in order, a blank before each
+unfoldable pub eventList : List ℕ → List ℕ
+eventList [] = []
+eventList (e ∷ t) = (ascii " " ++ decimal e) ++ eventList t

@@ -1,0 +1,115 @@
+-- What is answered and left at each return of the call, in the order of the code.
+use mathlib.Core.Path.{_≡_, refl, sym, ap, _∙_}
+use mathlib.Core.Bool.{Bool, true, false, cond}
+use mathlib.Core.List.{List, _++_}
+use Prim.Native.Nat.{ℕ, _*_, _≤_, _<_}
+use native.Mathlib.Omega.{arith}
+use native.Mathlib.Nat.{mul-le-mul}
+use lib.ListN.{length, drop}
+use Rattle.base.specs.Table.{upTo, upTo-ext}
+use Rattle.sheet_spec.specs.declared.Sheet.{Sheet}
+use Rattle.sheet_spec.specs.Rules.{sheetFault}
+use Rattle.sheet_spec.specs.Sound.{Sound, check-sound}
+use Rattle.tests_spec.specs.declared.Verdict.{Verdict}
+use Rattle.tests_spec.specs.declared.Verdict.the-variants.{Passes, Fails}
+use Rattle.tests_spec.specs.Verdicts.{failsFrom}
+use Rattle.tests_spec.specs.Numbers.{judged}
+use Rattle.tests_spec.specs.VerdictLaws.{verdict-given}
+use Rattle.layers.specs.Shapes.{sheetWith, kindOf}
+use Rattle.verdicts_spec.specs.declared.Suite.{Suite}
+use Rattle.verdicts_spec.specs.declared.Suite.the-variants.{Judged, Denied}
+use Rattle.verdicts_spec.specs.Suites.{tests, verdictNumber, suiteFault, suiteOf, verdictsAfter}
+use Rattle.verdicts_spec.specs.Numbers.{suited}
+use Rattle.verdicts_spec.specs.SuiteLaws.{suite-reference, suite-device, suite-11, suite-10, suite-fits, denied-suite, denied-verdicts, given-suite, given-verdicts}
+use Rattle.verdicts_spec.specs.Complete.{none-refused}
+
+-- a verdict's number is that of its test
+number-of : (b : Bool) → judged (cond b Fails Passes) .kind ≡ kindOf b
+unfolding judged kindOf
+number-of true = refl
+number-of false = refl
+
+-- the sizes of sheets that are not refused, as the layers need them
+module _ (P Q : Sheet) {f g e p′ q′ : ℕ} (p : f ≡ sheetFault P) (z : f ≡ 0) (q : g ≡ sheetFault Q) (y : g ≡ 0) (de : e ≡ P .e) (dp : p′ ≡ P .n) (dq : q′ ≡ Q .n) where
+  sound-P : Sound P
+  sound-P = check-sound P (sym p ∙ z)
+
+  sound-Q : Sound Q
+  sound-Q = check-sound Q (sym q ∙ y)
+
+  pub sizes : (0 < p′) × (p′ ≤ 32) × (0 < q′) × (q′ ≤ 32) × (e ≤ 12)
+  sizes = (
+    omega (arith, sound-P .ranges .n-low),
+    omega (arith, sound-P .ranges .n-high),
+    omega (arith, sound-Q .ranges .n-low),
+    omega (arith, sound-Q .ranges .n-high),
+    omega (arith, sound-P .ranges .e-high),
+  )
+
+  pub few : p′ * q′ ≤ 1024
+  few = mul-le-mul (sizes .1) (sizes .3)
+
+module _ (P Q : Sheet) (to : Bool) (o : List ℕ) where
+  -- what the contract says of an answer and the list at exit
+  abbrev pub Says : Suite → List ℕ → Type 0
+  Says r after = (r ≡ suiteOf P Q o) × (suited r ≡ suited (suiteOf P Q o)) × (after ≡ verdictsAfter to P Q o)
+
+  refused : {m : ℕ} → suiteFault P Q o ≡ m → (m ≡ 0 → ⊥) → Says (Denied m) o
+  refused {m} p n =
+      let z : suiteFault P Q o ≡ 0 → ⊥ = λ e. n (sym p ∙ e) in
+      let d : Denied m ≡ suiteOf P Q o = sym (denied-suite P Q o z ∙ ap Denied p) in
+      (d, ap suited d, sym (denied-verdicts P Q o z to))
+
+  module _ {f : ℕ} (p : f ≡ sheetFault P) where
+    pub by-reference : (f ≡ 0 → ⊥) → Says (Denied f) o
+    by-reference n = refused (suite-reference P Q o (λ e. n (p ∙ e)) ∙ sym p) n
+
+    module _ (z : f ≡ 0) {g : ℕ} (q : g ≡ sheetFault Q) where
+      accP : sheetFault P ≡ 0
+      accP = sym p ∙ z
+
+      pub by-device : (g ≡ 0 → ⊥) → Says (Denied g) o
+      by-device n = refused (suite-device P Q o accP (λ e. n (q ∙ e)) ∙ sym q) n
+
+      module _ (y : g ≡ 0) {e d : ℕ} (de : e ≡ P .e) (dd : d ≡ Q .e) where
+        accQ : sheetFault Q ≡ 0
+        accQ = sym q ∙ y
+
+        pub by-events : (e ≡ d → ⊥) → Says (Denied 11) o
+        by-events n = refused (suite-11 P Q o .1 ((accP, accQ), λ h. n (de ∙ h ∙ sym dd))) (λ h. omega arith)
+
+        module _ (s : e ≡ d) {p′ q′ : ℕ} (dp : p′ ≡ P .n) (dq : q′ ≡ Q .n) where
+          same : P .e ≡ Q .e
+          same = sym de ∙ s ∙ dd
+
+          count : p′ * q′ ≡ tests P Q
+          unfolding tests
+          count = rw (dp, dq)
+
+          pub by-room : length o < p′ * q′ → Says (Denied 10) o
+          by-room l = refused (suite-10 P Q o .1 (((accP, accQ), λ n. n same), omega (arith, count))) (λ h. omega arith)
+
+          module _ (l : p′ * q′ ≤ length o) where
+            fits : suiteFault P Q o ≡ 0
+            fits = suite-fits P Q o accP accQ same (omega (arith, count))
+
+            -- the test over the rows is the test over the sheets, and so is its number
+            number : (k : ℕ) → k < p′ * q′ → kindOf (failsFrom to (sheetWith (P .rows) e p′) (sheetWith (Q .rows) e q′) k 0 0) ≡ verdictNumber to P Q k
+            unfolding verdictNumber
+            number k h =
+                ap kindOf test ∙ sym (number-of (failsFrom to P Q k 0 0))
+                ∙ ap (λ (v : Verdict). judged v .kind) (sym (verdict-given P Q k to (none-refused P Q accP accQ same k (omega (arith, count)))))
+              where
+                test : failsFrom to (sheetWith (P .rows) e p′) (sheetWith (Q .rows) e q′) k 0 0 ≡ failsFrom to P Q k 0 0
+                test =
+                    rw (dp, dq)
+                    (ap (λ (x : ℕ). failsFrom to (sheetWith (P .rows) x (P .n)) (sheetWith (Q .rows) e (Q .n)) k 0 0) de
+                    ∙ ap (λ (x : ℕ). failsFrom to P (sheetWith (Q .rows) x (Q .n)) k 0 0) (s ∙ dd))
+
+            pub by-pass : {after : List ℕ}
+                → after ≡ upTo (λ k. kindOf (failsFrom to (sheetWith (P .rows) e p′) (sheetWith (Q .rows) e q′) k 0 0)) (p′ * q′) ++ drop (p′ * q′) o
+                → Says (Judged (p′ * q′)) after
+            by-pass {after} h =
+                let d : Judged (p′ * q′) ≡ suiteOf P Q o = ap Judged count ∙ sym (given-suite P Q o fits) in
+                let t = upTo-ext (λ k. kindOf (failsFrom to (sheetWith (P .rows) e p′) (sheetWith (Q .rows) e q′) k 0 0)) (verdictNumber to P Q) (p′ * q′) number in
+                (d, ap suited d, h ∙ ap (λ (x : List ℕ). x ++ drop (p′ * q′) o) t ∙ ap (λ (n : ℕ). upTo (verdictNumber to P Q) n ++ drop n o) count ∙ sym (given-verdicts P Q o fits to))

@@ -1,0 +1,48 @@
+-- 01's example pair: of its six tests the first five pass and the last fails; trace-only all pass; a list of five places is too short,
+-- and sheets with different E are refused first.
+use mathlib.Core.Path.{_≡_, refl}
+use mathlib.Core.Bool.{Bool, true, false}
+use mathlib.Core.List.{List, [], _∷_}
+use Prim.Native.Nat.{ℕ}
+use lib.ListN.{replicate}
+use Rattle.base.specs.Range.{all, any}
+use Rattle.base.specs.Table.{upTo}
+use Rattle.events.specs.Bit.{bit, setOf}
+use Rattle.events.specs.Sets.{has, inside, meets}
+use Rattle.walks.specs.Reach.{nearer, leads}
+use Rattle.sheet_spec.specs.Kept.{successor, acceptance, acceptances, initials, mayStop, step}
+use Rattle.sheet_spec.specs.Rules.{rangesOk, countOk, countsOk, successorsOk, rowSuccessorsOk, successorOk, setsOk, rowSetsOk, setOk, ascends, apart, blank, unusedOk, blanksOk, reachedOk, sheetFault}
+use Rattle.sheet_spec.specs.Reading.{readSheet, answer, bytesFault, headFault, lengthField, layoutFault, nextAt, startOf, succOf, setsOf, rowAt, rowOf, sheetOf, graphFault}
+use Rattle.refinement.specs.PairTests.{strays, hasStray, covers, hasRefusal, violates, violating}
+use Rattle.tests_spec.specs.Verdicts.{failsFrom, verdictFault, verdictOf}
+use Rattle.tests_spec.specs.Numbers.{judged}
+use Rattle.tests_spec.specs.Cases.{exampleDevice, sheet}
+use Rattle.verdicts_spec.specs.Suites.{tests, verdictNumber, suiteFault, suiteOf, verdictsAfter}
+use Rattle.verdicts_spec.specs.Numbers.{suited}
+
+-- the reference of the program's example
+unfoldable pub exampleReference : List ℕ
+exampleReference =
+    0 ∷ 0 ∷ 0 ∷ 15 ∷ 1 ∷ 2 ∷ 2 ∷
+    1 ∷ 1 ∷ 2 ∷ 0 ∷ 1 ∷ 0 ∷ 2 ∷
+    0 ∷ 0 ∷ 1 ∷ 0 ∷ 3 ∷ []
+
+-- one node with one event, stopped
+unfoldable pub stopped : List ℕ
+stopped = 0 ∷ 0 ∷ 0 ∷ 7 ∷ 1 ∷ 1 ∷ 1 ∷ 255 ∷ 1 ∷ 0 ∷ 0 ∷ []
+
+-- the example's reference against a device, with a list of some places that hold 9: the refusal, how many tests, and the list at exit
+unfoldable pub numbers : Bool → List ℕ → ℕ → List ℕ
+numbers to Q places =
+    let r = suited (suiteOf (sheet exampleReference) (sheet Q) (replicate places 9)) in
+    r .refusal ∷ r .count ∷ verdictsAfter to (sheet exampleReference) (sheet Q) (replicate places 9)
+
+pub example-suite :
+    (numbers false exampleDevice 8 ≡ 0 ∷ 6 ∷ 1 ∷ 1 ∷ 1 ∷ 1 ∷ 1 ∷ 2 ∷ 9 ∷ 9 ∷ [])
+    × (numbers false exampleDevice 6 ≡ 0 ∷ 6 ∷ 1 ∷ 1 ∷ 1 ∷ 1 ∷ 1 ∷ 2 ∷ [])
+    × (numbers true exampleDevice 6 ≡ 0 ∷ 6 ∷ 1 ∷ 1 ∷ 1 ∷ 1 ∷ 1 ∷ 1 ∷ [])
+    × (numbers false exampleReference 5 ≡ 0 ∷ 4 ∷ 1 ∷ 1 ∷ 1 ∷ 1 ∷ 9 ∷ [])
+    × (numbers false exampleDevice 5 ≡ 10 ∷ 0 ∷ 9 ∷ 9 ∷ 9 ∷ 9 ∷ 9 ∷ [])
+    × (numbers false stopped 1 ≡ 11 ∷ 0 ∷ 9 ∷ [])
+unfolding numbers tests verdictNumber suiteFault suiteOf verdictsAfter suited sheet exampleReference exampleDevice stopped readSheet answer bytesFault headFault lengthField layoutFault nextAt startOf succOf setsOf rowAt rowOf sheetOf graphFault rangesOk countOk countsOk successorsOk rowSuccessorsOk successorOk setsOk rowSetsOk setOk ascends apart blank unusedOk blanksOk reachedOk sheetFault successor acceptance acceptances initials mayStop step bit has inside meets setOf nearer leads all any upTo strays hasStray covers hasRefusal violates violating failsFrom verdictFault verdictOf judged
+example-suite = (refl, refl, refl, refl, refl, refl)

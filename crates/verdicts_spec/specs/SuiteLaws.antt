@@ -1,0 +1,159 @@
+-- The call that judges all tests: when each refusal is given, what is then answered, and what stands in the list.
+use mathlib.Core.Path.{_≡_, refl, sym, ap, _∙_}
+use mathlib.Core.Logic.{_⊎_, inl, inr, _≢_, _↔_}
+use mathlib.Core.Bool.{Bool, true, false, cond}
+use mathlib.Core.List.{List, _++_}
+use Prim.Native.Nat.{ℕ, zero, suc, _+_, _-_, _*_, _≤_, _<_}
+use native.Mathlib.Omega.{arith}
+use lib.Dec.{eqb, leb}
+use lib.ListN.{length, getD, drop, length-append, length-drop, List·getD-append}
+use lib.Seq.{getD-append-add, getD-drop}
+use borrow.Author.Tests.{eqb-true, eq-eqb, ne-eqb}
+use Rattle.base.specs.Truth.{lt-or-ge}
+use Rattle.base.specs.Finds.{finds-eq, finds-le}
+use Rattle.base.specs.Refusal.{unless, orElse, unless-hit, unless-pass, unless-none, unless-other, orElse-some, orElse-first, orElse-then}
+use Rattle.base.specs.Table.{upTo, length-upTo, getD-upTo}
+use Rattle.sheet_spec.specs.declared.Sheet.{Sheet}
+use Rattle.sheet_spec.specs.Rules.{sheetFault}
+use Rattle.sheet_spec.specs.CheckLaws.{check-below, further, finally}
+use Rattle.verdicts_spec.specs.declared.Suite.the-variants.{Judged, Denied}
+use Rattle.verdicts_spec.specs.Suites.{tests, verdictNumber, suiteFault, suiteOf, verdictsAfter}
+use Rattle.verdicts_spec.specs.Numbers.{suited}
+
+-- behind what a table fills, a list is as it was
+past : (f : ℕ → ℕ) (n : ℕ) (o : List ℕ) (x : ℕ) → n ≤ x → getD (upTo f n ++ drop n o) x 0 ≡ getD o x 0
+past f n o x l =
+    let e : x ≡ length (upTo f n) + (x - n) = omega (arith, length-upTo f n) in
+    let d : n + (x - n) ≡ x = omega arith in
+    ap (λ (y : ℕ). getD (upTo f n ++ drop n o) y 0) e ∙ getD-append-add (upTo f n) (drop n o) (x - n) 0 ∙ getD-drop n o (x - n) 0 ∙ ap (λ (y : ℕ). getD o y 0) d
+
+module _ (P Q : Sheet) (out : List ℕ) where
+  -- neither sheet is refused
+  abbrev pub Accepted : Type 0
+  Accepted = (sheetFault P ≡ 0) × (sheetFault Q ≡ 0)
+
+  -- what is tested after 11, and after the sheets
+  abbrev after11 : ℕ
+  after11 = unless (leb (tests P Q) (length out)) 10 0
+
+  abbrev afterSheets : ℕ
+  afterSheets = unless (eqb (P .e) (Q .e)) 11 after11
+
+  -- the reference's own refusal comes first, then the device's
+  pub suite-reference : sheetFault P ≢ 0 → suiteFault P Q out ≡ sheetFault P
+  unfolding suiteFault
+  suite-reference n = orElse-some (sheetFault P) _ (omega (arith, n))
+
+  pub suite-device : sheetFault P ≡ 0 → sheetFault Q ≢ 0 → suiteFault P Q out ≡ sheetFault Q
+  unfolding suiteFault
+  suite-device z n = rw z (orElse-some (sheetFault Q) _ (omega (arith, n)))
+
+  -- a number above 8, or none, comes from what is tested after the sheets
+  past-sheets : (m : ℕ) → (8 < m) ⊎ (m ≡ 0) → (suiteFault P Q out ≡ m) ↔ (Accepted × (afterSheets ≡ m))
+  unfolding suiteFault
+  past-sheets m h =
+      further (orElse-then (sheetFault P) (orElse (sheetFault Q) afterSheets) m (own (sheetFault P) (check-below P) h))
+      (λ z. orElse-then (sheetFault Q) afterSheets m (own (sheetFault Q) (check-below Q) h))
+    where
+      own : (k : ℕ) → k ≤ 8 → (8 < m) ⊎ (m ≡ 0) → (k ≢ m) ⊎ (m ≡ 0)
+      own k l (inl p) = inl (λ e. omega arith)
+      own k l (inr p) = inr p
+
+  -- 11: of sheets that are not refused, E differs
+  pub suite-11 : (suiteFault P Q out ≡ 11) ↔ (Accepted × (P .e ≢ Q .e))
+  suite-11 =
+      finally (past-sheets 11 (inl (omega arith)))
+      (λ f. unless-hit 11 after11 (finds-eq (P .e) (Q .e)) (unless-other (leb (tests P Q) (length out)) (λ p. omega arith) (λ p. omega arith)))
+
+  -- 10: .. E does not differ, and the list is shorter than the tests
+  pub suite-10 : (suiteFault P Q out ≡ 10) ↔ ((Accepted × (¬ (P .e ≢ Q .e))) × (length out < tests P Q))
+  suite-10 =
+      finally (further (past-sheets 10 (inl (omega arith))) (λ f. unless-pass 11 after11 10 (finds-eq (P .e) (Q .e)) (λ p. omega arith)))
+      (λ f. unless-hit 10 0 (finds-le (tests P Q) (length out)) (λ p. omega arith))
+
+  -- none: .. and it is long enough
+  pub suite-0 : (suiteFault P Q out ≡ 0) ↔ ((Accepted × (¬ (P .e ≢ Q .e))) × (¬ (length out < tests P Q)))
+  suite-0 =
+      finally (further (past-sheets 0 (inr refl)) (λ f. unless-pass 11 after11 0 (finds-eq (P .e) (Q .e)) (λ p. omega arith)))
+      (λ f. unless-none 10 (finds-le (tests P Q) (length out)) (λ p. omega arith))
+
+  -- a sheet's own number is given exactly for that sheet, the reference before the device
+  pub suite-sheet : (m : ℕ) → 0 < m → m ≤ 8 → (suiteFault P Q out ≡ m) ↔ ((sheetFault P ≡ m) ⊎ ((sheetFault P ≡ 0) × (sheetFault Q ≡ m)))
+  unfolding suiteFault
+  suite-sheet m z l = (λ e. forth (sheetFault P) refl e, back)
+    where
+      own : (orElse (sheetFault Q) afterSheets ≡ m) ↔ (sheetFault Q ≡ m)
+      own =
+          orElse-first (sheetFault Q) afterSheets m (λ e. omega arith)
+          (unless-other (eqb (P .e) (Q .e)) (λ e. omega arith) (unless-other (leb (tests P Q) (length out)) (λ e. omega arith) (λ e. omega arith)))
+
+      forth : (p : ℕ) → sheetFault P ≡ p → orElse p (orElse (sheetFault Q) afterSheets) ≡ m → (sheetFault P ≡ m) ⊎ ((sheetFault P ≡ 0) × (sheetFault Q ≡ m))
+      forth zero q e = inr (q, own .0 e)
+      forth (suc p) q e = inl (q ∙ e)
+
+      back : (sheetFault P ≡ m) ⊎ ((sheetFault P ≡ 0) × (sheetFault Q ≡ m)) → orElse (sheetFault P) (orElse (sheetFault Q) afterSheets) ≡ m
+      back (inl e) = rw e (orElse-some m (orElse (sheetFault Q) afterSheets) z)
+      back (inr (a, b)) = rw a (own .1 b)
+
+  -- two sheets that are not refused, with equal event counts and a list that is long enough
+  pub suite-fits : sheetFault P ≡ 0 → sheetFault Q ≡ 0 → P .e ≡ Q .e → tests P Q ≤ length out → suiteFault P Q out ≡ 0
+  suite-fits p q e l = suite-0 .1 (((p, q), λ n. n e), λ h. omega arith)
+
+  module _ (n : suiteFault P Q out ≢ 0) where
+    -- a refusal answers its number, with no other part, and alters nothing
+    pub denied-suite : suiteOf P Q out ≡ Denied (suiteFault P Q out)
+    unfolding suiteOf
+    denied-suite = rw (ne-eqb (suiteFault P Q out) 0 n)
+
+    pub denied-suited : suited (suiteOf P Q out) ≡ record { refusal = suiteFault P Q out; count = 0 }
+    unfolding suited
+    denied-suited = rw denied-suite
+
+    pub denied-verdicts : (to : Bool) → verdictsAfter to P Q out ≡ out
+    unfolding verdictsAfter
+    denied-verdicts to = rw (ne-eqb (suiteFault P Q out) 0 n)
+
+  module _ (z : suiteFault P Q out ≡ 0) where
+    -- without one the number of tests is answered
+    pub given-suite : suiteOf P Q out ≡ Judged (tests P Q)
+    unfolding suiteOf
+    given-suite = rw (eq-eqb (suiteFault P Q out) 0 z)
+
+    pub given-suited : suited (suiteOf P Q out) ≡ record { refusal = 0; count = tests P Q }
+    unfolding suited
+    given-suited = rw given-suite
+
+    -- there is room for every verdict
+    pub given-room : tests P Q ≤ length out
+    given-room = go (lt-or-ge (length out) (tests P Q))
+      where
+        go : (length out < tests P Q) ⊎ (tests P Q ≤ length out) → tests P Q ≤ length out
+        go (inl l) = absurd (suite-0 .0 z .1 l)
+        go (inr l) = l
+
+    module _ (to : Bool) where
+      -- the verdicts stand at the front of the list
+      pub given-verdicts : verdictsAfter to P Q out ≡ upTo (verdictNumber to P Q) (tests P Q) ++ drop (tests P Q) out
+      unfolding verdictsAfter
+      given-verdicts = rw (eq-eqb (suiteFault P Q out) 0 z)
+
+      -- .. place by place, and behind them the list is as it was
+      pub verdict-place : (k : ℕ) → k < tests P Q → getD (verdictsAfter to P Q out) k 0 ≡ verdictNumber to P Q k
+      verdict-place k l =
+          rw given-verdicts
+          (List·getD-append (upTo (verdictNumber to P Q) (tests P Q)) (drop (tests P Q) out) 0 k (omega (arith, length-upTo (verdictNumber to P Q) (tests P Q)))
+          ∙ getD-upTo (verdictNumber to P Q) (tests P Q) k 0 l)
+
+      pub verdict-rest : (x : ℕ) → tests P Q ≤ x → getD (verdictsAfter to P Q out) x 0 ≡ getD out x 0
+      verdict-rest x l = rw given-verdicts (past (verdictNumber to P Q) (tests P Q) out x l)
+
+  -- the list keeps its length
+  pub verdicts-length : (to : Bool) → length (verdictsAfter to P Q out) ≡ length out
+  unfolding verdictsAfter
+  verdicts-length to = go (eqb (suiteFault P Q out) 0) refl
+    where
+      go : (b : Bool) → eqb (suiteFault P Q out) 0 ≡ b → length (cond b (upTo (verdictNumber to P Q) (tests P Q) ++ drop (tests P Q) out) out) ≡ length out
+      go true e =
+          let room = given-room (eqb-true (suiteFault P Q out) 0 e) in
+          simp (length-append, length-drop) (omega (arith, room, length-upTo (verdictNumber to P Q) (tests P Q)))
+      go false e = refl

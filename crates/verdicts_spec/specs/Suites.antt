@@ -1,0 +1,36 @@
+-- All verdicts at once: what the call answers, and what the lent list then holds. P is the reference, of p nodes, and Q the device,
+-- of q nodes; `traceOnly` is true for trace-only tests. The verdict of test k is `verdictOf`, the same that a single verdict gives.
+use mathlib.Core.Bool.{Bool, cond}
+use mathlib.Core.List.{List, _++_}
+use Prim.Native.Nat.{ℕ, _*_}
+use lib.Dec.{eqb, leb}
+use lib.ListN.{length, drop}
+use Rattle.base.specs.Refusal.{unless, orElse}
+use Rattle.base.specs.Table.{upTo}
+use Rattle.sheet_spec.specs.declared.Sheet.{Sheet}
+use Rattle.sheet_spec.specs.Rules.{sheetFault}
+use Rattle.tests_spec.specs.Verdicts.{verdictOf}
+use Rattle.tests_spec.specs.Numbers.{judged}
+use Rattle.verdicts_spec.specs.declared.Suite.{Suite}
+use Rattle.verdicts_spec.specs.declared.Suite.the-variants.{Judged, Denied}
+
+-- how many tests there are: p times q
+unfoldable pub tests : Sheet → Sheet → ℕ
+tests P Q = P .n * Q .n
+
+-- the number of the verdict on test k: 1 for "passes", 2 for "fails"
+unfoldable pub verdictNumber : Bool → Sheet → Sheet → ℕ → ℕ
+verdictNumber traceOnly P Q k = judged (verdictOf P Q k traceOnly) .kind
+
+-- the refusal, 0 for none: the reference's own, the device's own; 11: E differs; 10: a list shorter than the tests
+unfoldable pub suiteFault : Sheet → Sheet → List ℕ → ℕ
+suiteFault P Q out = orElse (sheetFault P) (orElse (sheetFault Q) (unless (eqb (P .e) (Q .e)) 11 (unless (leb (tests P Q) (length out)) 10 0)))
+
+-- the answer: how many tests were judged, or the refusal
+unfoldable pub suiteOf : Sheet → Sheet → List ℕ → Suite
+suiteOf P Q out = cond (eqb (suiteFault P Q out) 0) (Judged (tests P Q)) (Denied (suiteFault P Q out))
+
+-- the list at exit: the verdicts of tests 0 to p q - 1 at its front and the rest untouched; after a refusal as it was
+unfoldable pub verdictsAfter : Bool → Sheet → Sheet → List ℕ → List ℕ
+verdictsAfter traceOnly P Q out =
+    cond (eqb (suiteFault P Q out) 0) (upTo (verdictNumber traceOnly P Q) (tests P Q) ++ drop (tests P Q) out) out

@@ -1,0 +1,199 @@
+//! The cases that are measured: each call on its worst case, and the growth of the two calls
+//! on pairs. The two sides are held together on a case before it is measured.
+
+use std::hint::black_box;
+
+use model::numbers::Record;
+use model::sheet::{encode, Sheet, MAX_BYTES};
+use model::tests::MAX_TEST;
+
+use super::inputs::{crowded, dense, longest};
+use super::tables::Tables;
+use super::{pairs, runs, same, tables};
+use crate::edge;
+
+/// One side of a case: a call whose answer nobody needs.
+type Call = Box<dyn FnMut()>;
+
+/// A case: the call and the case in words, and both sides.
+pub struct Case {
+    pub call: &'static str,
+    pub case: String,
+    pub ours: Call,
+    pub plain: Call,
+}
+
+/// A call whose answer counts as used.
+fn used<T>(mut call: impl FnMut() -> T + 'static) -> Call {
+    Box::new(move || {
+        black_box(call());
+    })
+}
+
+/// Each call on its worst case.
+pub fn worst() -> Vec<Case> {
+    let sheet = crowded();
+    let mut cases = sheets(sheet);
+    cases.push(listing(sheet));
+    cases.extend(reports(sheet));
+    let (reference, device) = dense(32);
+    cases.push(verdict(
+        "refining, full layers",
+        reference,
+        device,
+        MAX_TEST,
+    ));
+    cases.push(comparison("refining", reference, device));
+    let (reference, device) = longest(32);
+    cases.push(verdict("violating, d 1023", reference, device, MAX_TEST));
+    let last = same::compare((&reference, &device), 0, (3_072, 1_023));
+    assert_eq!((last.kind, last.d, last.cleared), (2, 1_023, 1_023));
+    cases.push(comparison("violating, d 1023", reference, device));
+    cases
+}
+
+/// Reading and checking the largest sheet.
+fn sheets(sheet: Sheet) -> Vec<Case> {
+    let bytes = encode(&sheet);
+    assert_eq!(bytes.len(), MAX_BYTES);
+    same::read(&bytes);
+    same::check(&sheet);
+    let copy = bytes.clone();
+    let tables = Tables::of(&sheet);
+    let case = || "1447 bytes".to_string();
+    vec![
+        Case {
+            call: "read",
+            case: case(),
+            ours: used(move || edge::read(black_box(&bytes))),
+            plain: used(move || tables::read(black_box(&copy))),
+        },
+        Case {
+            call: "check",
+            case: case(),
+            ours: used(move || edge::check(black_box(&sheet))),
+            plain: used(move || tables::check(black_box(&tables))),
+        },
+    ]
+}
+
+/// The probe list of a node with 12 events and 16 acceptances.
+fn listing(sheet: Sheet) -> Case {
+    let count = same::list(&sheet, 31, 4_096);
+    let tables = Tables::of(&sheet);
+    let (mut out, mut other) = (vec![0; 4_096], vec![0; 4_096]);
+    Case {
+        call: "list",
+        case: format!("12 events, 16 sets, {count} probes"),
+        ours: used(move || edge::list(black_box(&sheet), 31, &mut out)),
+        plain: used(move || runs::list(black_box(&tables), 31, &mut other)),
+    }
+}
+
+/// An opening and reports that offer the last probe of such a node: the opening of test 0,
+/// an event that leads to depth k, by value and in place, and "blocked" at depth k.
+fn reports(sheet: Sheet) -> Vec<Case> {
+    let h = same::list(&sheet, 31, 4_096) - 1;
+    same::open(&sheet, 0, h, 0);
+    let tables = Tables::of(&sheet);
+    let again = tables.clone();
+    let before = Record {
+        k: MAX_TEST,
+        h,
+        node: 30,
+        depth: MAX_TEST - 1,
+        ..Record::ZERO
+    };
+    let last = Record {
+        node: 31,
+        depth: MAX_TEST,
+        ..before
+    };
+    same::step(&sheet, &before, 0);
+    same::step(&sheet, &last, 256);
+    vec![
+        Case {
+            call: "open",
+            case: "k 0, the last probe".to_string(),
+            ours: used(move || edge::open(black_box(&sheet), 0, h, 0)),
+            plain: used(move || runs::open(black_box(&again), 0, h, 0)),
+        },
+        stepping("an event to depth 1023", sheet, tables.clone(), before, 0),
+        stepping("blocked at depth 1023", sheet, tables.clone(), last, 256),
+        in_place("an event to depth 1023", sheet, tables, before, 0),
+    ]
+}
+
+/// A report on a record by value.
+fn stepping(case: &str, sheet: Sheet, tables: Tables, run: Record, code: u16) -> Case {
+    Case {
+        call: "step",
+        case: case.to_string(),
+        ours: used(move || edge::step(black_box(&sheet), &run, code)),
+        plain: used(move || runs::step(black_box(&tables), &run, code)),
+    }
+}
+
+/// A report on a record in place.
+fn in_place(case: &str, sheet: Sheet, tables: Tables, run: Record, code: u16) -> Case {
+    let ours = move || {
+        let mut run = run;
+        (edge::report(&mut run, black_box(&sheet), code), run)
+    };
+    let plain = move || {
+        let mut run = run;
+        (runs::report(&mut run, black_box(&tables), code), run)
+    };
+    Case {
+        call: "report",
+        case: case.to_string(),
+        ours: used(ours),
+        plain: used(plain),
+    }
+}
+
+/// A verdict on two sheets.
+fn verdict(case: &str, reference: Sheet, device: Sheet, k: u16) -> Case {
+    same::judge(&reference, &device, k, 0);
+    let (mine, theirs) = (Tables::of(&reference), Tables::of(&device));
+    let (p, q) = (reference.n, device.n);
+    Case {
+        call: "judge",
+        case: format!("k {k}, {p} x {q} {case}"),
+        ours: used(move || edge::judge(black_box(&reference), &device, k, 0)),
+        plain: used(move || pairs::judge(black_box(&mine), &theirs, k, 0)),
+    }
+}
+
+/// A comparison of two sheets, with lists that are just long enough.
+fn comparison(case: &str, reference: Sheet, device: Sheet) -> Case {
+    let (p, q) = (reference.n, device.n);
+    let pairs = p as usize * q as usize;
+    same::compare((&reference, &device), 0, (3 * pairs, pairs - 1));
+    let (mine, theirs) = (Tables::of(&reference), Tables::of(&device));
+    let (mut work, mut trace) = (vec![0; 3 * pairs], vec![0; pairs - 1]);
+    let (mut other_work, mut other_trace) = (work.clone(), trace.clone());
+    let ours = move || edge::compare(black_box(&reference), &device, 0, &mut work, &mut trace);
+    let plain = move || {
+        let lists = (&mut other_work, &mut other_trace);
+        pairs::compare(black_box(&mine), &theirs, 0, lists.0, lists.1)
+    };
+    Case {
+        call: "compare",
+        case: format!("{p} x {q} {case}"),
+        ours: used(ours),
+        plain: used(plain),
+    }
+}
+
+/// The growth over p q: for each of some sizes the pairs, the comparison and the verdict on
+/// test p q - 1 of a pair that refines.
+pub fn growth() -> Vec<(usize, Case, Case)> {
+    let case = |n: u8| {
+        let (reference, device) = dense(n);
+        let pairs = n as usize * n as usize;
+        let verdict = verdict("refining", reference, device, pairs as u16 - 1);
+        (pairs, comparison("refining", reference, device), verdict)
+    };
+    [4, 8, 16, 32].into_iter().map(case).collect()
+}

@@ -1,0 +1,73 @@
+//! The worst case of each call.
+
+use model::random::Rng;
+use model::sheet::{Sheet, MAX_EVENTS, MAX_NODES, MAX_SETS, NO_NODE};
+
+use super::runs::probe_count;
+
+/// The successors and the sets of one node.
+type Node = ([u8; MAX_EVENTS], Vec<u16>);
+
+/// The largest sheet: 32 nodes in a ring on all 12 events, each with the same 16 sets, those
+/// with the most probes of many that were drawn.
+pub fn crowded() -> Sheet {
+    let sets = many_probes();
+    let node = |v: u8| ([(v + 1) % MAX_NODES as u8; MAX_EVENTS], sets.clone());
+    let nodes: Vec<Node> = (0..MAX_NODES as u8).map(node).collect();
+    Sheet::build(MAX_EVENTS as u8, &nodes)
+}
+
+/// Sixteen sets of 12 events with many probes: the best of some random choices, each with
+/// sets of one size.
+fn many_probes() -> Vec<u16> {
+    let mut rng = Rng::new(1);
+    let choice = |round: usize| {
+        let size = 2 + round as u32 % 7;
+        let level = (0..1u16 << MAX_EVENTS).filter(|set| set.count_ones() == size);
+        let mut level: Vec<u16> = level.collect();
+        rng.shuffle(&mut level);
+        level.truncate(MAX_SETS);
+        level.sort_unstable();
+        level
+    };
+    let choices = (0..700).map(choice);
+    let most = choices.max_by_key(|sets| probe_count(sets, MAX_EVENTS as u8));
+    most.unwrap_or_default()
+}
+
+/// A reference and a device that refines it, each of `n` nodes with 12 events and 16 sets. All
+/// pairs are reached, and from some depth on every layer has all of them. Of the reference's
+/// sets only the last is inside a set of the device.
+pub fn dense(n: u8) -> (Sheet, Sheet) {
+    let below = |e: u32, size: u32| (0..1u16 << e).filter(move |set| set.count_ones() == size);
+    let top = 1u16 << (MAX_EVENTS - 1);
+    let mut mine: Vec<u16> = below(11, 5).take(MAX_SETS - 1).collect();
+    mine.push(top);
+    let theirs: Vec<u16> = below(11, 2).take(MAX_SETS).map(|set| set | top).collect();
+    let ring = |bit: usize, sets: &Vec<u16>| {
+        let node = |v: u8| {
+            let step = |event: usize| (v + (event >> bit & 1) as u8) % n;
+            (std::array::from_fn(step), sets.clone())
+        };
+        let nodes: Vec<Node> = (0..n).map(node).collect();
+        Sheet::build(MAX_EVENTS as u8, &nodes)
+    };
+    (ring(0, &mine), ring(1, &theirs))
+}
+
+/// A reference and a device of `n` nodes each whose nearest violation, a stray, comes after
+/// n n - 1 events: the device climbs on event 0 and goes from its last node back to its first
+/// on event 1; the reference stays on 0 and climbs on 1, and its last node knows only 0.
+pub fn longest(n: u8) -> (Sheet, Sheet) {
+    let mine = |v: u8| match v + 1 {
+        next if next == n => ([v, NO_NODE], vec![1]),
+        next => ([v, next], vec![1, 2]),
+    };
+    let theirs = |w: u8| match w + 1 {
+        next if next == n => ([NO_NODE, 0], vec![2]),
+        next => ([next, NO_NODE], vec![1]),
+    };
+    let mine: Vec<_> = (0..n).map(mine).collect();
+    let theirs: Vec<_> = (0..n).map(theirs).collect();
+    (Sheet::build(2, &mine), Sheet::build(2, &theirs))
+}

@@ -1,0 +1,127 @@
+//! The library and plain Rust on the same inputs: each answer and the contents of each lent
+//! list must be equal. A difference ends the program.
+
+use model::numbers::{Compared, Record};
+use model::random::{
+    damaged, deep_pair, kept, kept_twice, pair, random_record, random_sheet, Rng, AIMS_KEPT,
+    AIMS_READ,
+};
+use model::sheet::{encode, Sheet};
+
+use super::tables::Tables;
+use super::{pairs, runs, tables};
+use crate::edge;
+
+/// One reading.
+pub fn read(bytes: &[u8]) {
+    let ours = edge::read(bytes);
+    let (number, plain) = tables::read(bytes);
+    assert_eq!((ours.number, Tables::of(&ours.sheet)), (number, plain));
+}
+
+/// One check.
+pub fn check(sheet: &Sheet) {
+    assert_eq!(edge::check(sheet), tables::check(&Tables::of(sheet)));
+}
+
+/// One probe list; how many probes it has.
+pub fn list(sheet: &Sheet, node: u8, length: usize) -> u16 {
+    let (mut ours, mut plain) = (vec![7; length], vec![7; length]);
+    let answer = edge::list(sheet, node, &mut ours);
+    let other = runs::list(&Tables::of(sheet), node, &mut plain);
+    assert_eq!((answer, ours), (other, plain));
+    answer.count
+}
+
+/// One opening; its record.
+pub fn open(sheet: &Sheet, k: u16, h: u16, traces: u8) -> Record {
+    let ours = edge::open(sheet, k, h, traces);
+    assert_eq!(ours, runs::open(&Tables::of(sheet), k, h, traces));
+    ours.run
+}
+
+/// One report, by value and in place.
+pub fn step(sheet: &Sheet, record: &Record, code: u16) {
+    let tables = Tables::of(sheet);
+    let ours = edge::step(sheet, record, code);
+    assert_eq!(ours, runs::step(&tables, record, code));
+    let (mut run, mut other) = (*record, *record);
+    let answer = edge::report(&mut run, sheet, code);
+    assert_eq!(answer, runs::report(&mut other, &tables, code));
+    assert_eq!(run, other);
+}
+
+/// One verdict; its kind.
+pub fn judge(reference: &Sheet, device: &Sheet, k: u16, traces: u8) -> u8 {
+    let ours = edge::judge(reference, device, k, traces);
+    let (mine, theirs) = (Tables::of(reference), Tables::of(device));
+    assert_eq!(ours, pairs::judge(&mine, &theirs, k, traces));
+    ours.kind
+}
+
+/// One comparison with lists of these lengths.
+pub fn compare(
+    (reference, device): (&Sheet, &Sheet),
+    traces: u8,
+    (words, places): (usize, usize),
+) -> Compared {
+    let (mut work, mut trace) = (vec![9; words], vec![9; places]);
+    let (mut other_work, mut other_trace) = (work.clone(), trace.clone());
+    let ours = edge::compare(reference, device, traces, &mut work, &mut trace);
+    let plain = pairs::compare(
+        &Tables::of(reference),
+        &Tables::of(device),
+        traces,
+        &mut other_work,
+        &mut other_trace,
+    );
+    assert_eq!(ours, plain);
+    assert_eq!((work, trace), (other_work, other_trace));
+    ours
+}
+
+/// Some random inputs of every call, refused ones among them.
+pub fn random(rounds: usize) {
+    let mut rng = Rng::new(1);
+    for round in 0..rounds {
+        let good = random_sheet(&mut rng);
+        let aim = AIMS_KEPT[round % AIMS_KEPT.len()];
+        let bad = kept(&mut rng, aim);
+        let worse = kept_twice(&mut rng);
+        read(&encode(&good));
+        read(&damaged(&mut rng, AIMS_READ[round % AIMS_READ.len()]));
+        for sheet in [&good, &bad, &worse] {
+            one_sheet(&mut rng, sheet);
+        }
+        let pair = if round % 3 == 0 { deep_pair } else { pair };
+        let (reference, device) = pair(&mut rng);
+        two_sheets(&mut rng, &reference, &device);
+        let other = rng.pick(&[bad, worse, good]);
+        two_sheets(&mut rng, &reference, &other);
+        two_sheets(&mut rng, &other, &device);
+    }
+}
+
+/// The calls on one sheet.
+fn one_sheet(rng: &mut Rng, sheet: &Sheet) {
+    check(sheet);
+    let node = rng.below((sheet.n as usize).clamp(1, 33)) as u8;
+    list(sheet, node, rng.pick(&[0, 1, 5, 924]));
+    let k = rng.pick(&[0, 1, 1_023, 1_024]);
+    let traces = u8::from(rng.one_in(3));
+    open(sheet, k, rng.word(), traces);
+    let run = random_record(rng, sheet);
+    let record = Record::ZERO.after(&run);
+    step(sheet, &record, rng.pick(&[0, 1, 2, 3, 11, 12, 255, 256]));
+}
+
+/// The calls on two sheets.
+fn two_sheets(rng: &mut Rng, reference: &Sheet, device: &Sheet) {
+    let traces = u8::from(rng.one_in(3));
+    let pairs = reference.n as usize * device.n as usize;
+    let k = rng.pick(&[0, 1, 2, 7, pairs.saturating_sub(1), 1_024]);
+    judge(reference, device, k.min(65_535) as u16, traces);
+    let words = rng.pick(&[3 * pairs, 3 * pairs + 1, (3 * pairs).saturating_sub(1)]);
+    let places = rng.pick(&[pairs, pairs.saturating_sub(1), pairs.saturating_sub(2)]);
+    compare((reference, device), traces, (words, places));
+}

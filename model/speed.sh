@@ -1,0 +1,23 @@
+#!/bin/sh
+# The speed of each call of the proved library against plain Rust over flat tables, on its worst case, in one run: a table of ratios
+# and the growth over p q. It prints and judges no time; times depend on the machine. With --check nothing is measured: both sides
+# only answer, and a difference is an error.
+#
+#     model/speed.sh [--check]
+set -eu
+cd "$(dirname "$0")/.."
+
+if [ ! -f target/staticlib/libedge.a ]; then
+    echo "speed: rt staticlib edge"
+    mkdir -p target/speed
+    rt staticlib edge > target/speed/staticlib.out 2>&1 || {
+        cat target/speed/staticlib.out
+        exit 1
+    }
+fi
+
+# cargo writes only here, whoever runs it.
+export CARGO_HOME="$PWD/target/cargo" CARGO_TARGET_DIR="$PWD/model/target"
+mkdir -p "$CARGO_HOME"
+cargo build --profile speed --bin speed --offline --locked --quiet --manifest-path model/against/Cargo.toml
+exec model/target/speed/speed "$@"

@@ -1,0 +1,118 @@
+//! The call on all tests at once, with a fault planted or none.
+
+use super::faults;
+use crate::numbers::{judged, Suited};
+use crate::sheet::{accept, Sheet};
+use crate::verdict::{admit_pair, verdicts, Verdict};
+
+faults! {
+    /// One planted fault of the call, or none.
+    SuiteFault {
+        /// The last test is left out.
+        OneShort,
+        /// Tests from p + q on are written as passed.
+        DepthSum,
+        /// Tests from the larger number of nodes on are written as passed.
+        DepthLarger,
+        /// After a test that fails all are written as failed.
+        Nested,
+        /// Fails for passes and passes for fails.
+        Exchanged,
+        /// A trace-only call is judged as another.
+        TracesIgnored,
+        /// The rest of the list is cleared.
+        RestCleared,
+        /// Nothing is written.
+        NothingWritten,
+        /// 10: a list one place too short is accepted.
+        ListOneShort,
+        /// 10 is looked for before 11.
+        TenFirst,
+        /// The device is checked before the reference.
+        DeviceFirst,
+        /// A refused call clears the list.
+        RefusedClears,
+    }
+}
+
+/// The checks of the call: the reference, the device, 11, 10.
+fn admit(fault: SuiteFault, reference: &Sheet, device: &Sheet, places: usize) -> Result<(), u8> {
+    let tests = usize::from(reference.n) * usize::from(device.n);
+    let room = places + usize::from(fault == SuiteFault::ListOneShort);
+    if fault == SuiteFault::DeviceFirst {
+        accept(device)?;
+    }
+    if fault == SuiteFault::TenFirst {
+        accept(reference)?;
+        accept(device)?;
+        if room < tests {
+            return Err(10);
+        }
+    }
+    admit_pair(reference, device)?;
+    if room < tests {
+        return Err(10);
+    }
+    Ok(())
+}
+
+/// What a verdict is written as.
+fn written(fault: SuiteFault, verdict: Verdict) -> u8 {
+    let kind = judged(Ok(verdict)).kind;
+    if fault == SuiteFault::Exchanged {
+        3 - kind
+    } else {
+        kind
+    }
+}
+
+/// The numbers of all tests.
+fn kinds(fault: SuiteFault, reference: &Sheet, device: &Sheet, trace_only: bool) -> Vec<u8> {
+    let (p, q) = (usize::from(reference.n), usize::from(device.n));
+    let trace_only = trace_only && fault != SuiteFault::TracesIgnored;
+    let all = verdicts(reference, device, (p * q) as u16, trace_only).unwrap_or_default();
+    let mut kinds: Vec<u8> = all.iter().map(|&verdict| written(fault, verdict)).collect();
+    let bound = match fault {
+        SuiteFault::DepthSum => p + q,
+        SuiteFault::DepthLarger => p.max(q),
+        _ => p * q,
+    };
+    for kind in kinds.iter_mut().skip(bound) {
+        *kind = 1;
+    }
+    if fault == SuiteFault::Nested {
+        let first = kinds.iter().position(|&kind| kind == 2).unwrap_or(p * q);
+        kinds[first..].fill(2);
+    }
+    if fault == SuiteFault::OneShort {
+        kinds.pop();
+    }
+    kinds
+}
+
+/// Judges tests 0 to p·q − 1 into a lent list, or refuses.
+pub fn suite_with(
+    fault: SuiteFault,
+    reference: &Sheet,
+    device: &Sheet,
+    trace_only: bool,
+    out: &mut [u8],
+) -> Suited {
+    if let Err(refusal) = admit(fault, reference, device, out.len()) {
+        if fault == SuiteFault::RefusedClears {
+            out.fill(0);
+        }
+        return Suited { refusal, count: 0 };
+    }
+    let kinds = kinds(fault, reference, device, trace_only);
+    let count = kinds.len() as u16;
+    if fault != SuiteFault::NothingWritten {
+        for (place, kind) in out.iter_mut().zip(&kinds) {
+            *place = *kind;
+        }
+    }
+    if fault == SuiteFault::RestCleared && out.len() > kinds.len() {
+        out[kinds.len()..].fill(0);
+    }
+    Suited { refusal: 0, count }
+}
