@@ -4,3 +4,4 @@ pub mod Count
 pub mod Table
 pub mod Finds
 pub mod Refusal
+pub mod Loops

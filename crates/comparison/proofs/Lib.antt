@@ -1,5 +1,4 @@
 pub mod Faults
 pub mod Names
 pub mod Pairs
-pub mod Rows
 pub mod Tells

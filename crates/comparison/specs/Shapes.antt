@@ -5,13 +5,13 @@ use Prim.Native.Nat.{ℕ, zero, suc, _+_, _-_, _*_, _/_, _%_, _≤_, _<_}
 use lib.Dec.{eqb, leb}
 use lib.ListN.{getD, set, replicate}
 use Rattle.base.specs.Range.{any}
-use Rattle.base.specs.Refusal.{unless, orElse}
+use Rattle.base.specs.Refusal.{unless}
 use Rattle.base.specs.Table.{upTo}
 use Rattle.events.specs.Sets.{inside}
 use Rattle.sheet_spec.specs.declared.Row.{Row}
 use Rattle.sheet_spec.specs.declared.Sheet.{Sheet}
 use Rattle.sheet_spec.specs.Kept.{row, successor, initials}
-use Rattle.sheet_spec.specs.Rules.{sheetFault}
+use Rattle.sheet_spec.specs.Rules.{pairFault}
 use Rattle.refinement.specs.PairTests.{strays, hasRefusal, violating}
 use Rattle.comparison_spec.specs.declared.Outcome.{Outcome}
 use Rattle.comparison_spec.specs.declared.Outcome.the-variants.{Refines}
@@ -22,20 +22,9 @@ use Rattle.search_spec.specs.declared.Found.the-variants.{Clear, Bad}
 -- the refusal, by the lengths of the two lists
 unfoldable pub faultOn : Sheet → Sheet → ℕ → ℕ → ℕ
 faultOn P Q words places =
-    orElse (sheetFault P)
-    (orElse (sheetFault Q)
-    (unless (eqb (P .e) (Q .e)) 11
+    pairFault P Q
     (unless (leb (3 * (P .n * Q .n)) words) 12
-    (unless (leb (P .n * Q .n - 1) places) 13 0))))
-
--- what stands at place k of a sheet's table of successors
-unfoldable pub flatAt : Sheet → ℕ → ℕ
-flatAt s k = successor (row s (k / 12)) (k % 12)
-
--- a table in which the first j successors of a row were stored from a place on
-unfoldable pub withRow : Row → ℕ → ℕ → List ℕ → List ℕ
-withRow r at zero t = t
-withRow r at (suc j) t = set (withRow r at j t) (at + j) (successor r j)
+    (unless (leb (P .n * Q .n - 1) places) 13 0))
 
 -- the initials of node v
 unfoldable pub initialsAt : ℕ → Sheet → ℕ → ℕ

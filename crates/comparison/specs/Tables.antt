@@ -32,23 +32,23 @@ use Rattle.search_spec.specs.declared.Found.{Found}
 use Rattle.search_spec.specs.Tables.{tableNext, tableGraph, badIn}
 use Rattle.search_spec.specs.Found.{foundOf, Searched, traceAfter as searchTrace, workAfter as searchWork}
 use Rattle.search_spec.specs.Read.{SearchOk}
-use Rattle.comparison.specs.Shapes.{faultOn, flatAt, badAt, badTable, told, Fits}
+use Rattle.rows.specs.Flat.{flatAt, flat-holds}
+use Rattle.comparison.specs.Shapes.{faultOn, badAt, badTable, told, Fits}
 use Rattle.comparison_spec.specs.Contract.{Compares}
 use Rattle.comparison.specs.Agree.{Agree, distance-same, trace-same}
 
 -- ---- the tables
 
 -- what a sheet's table holds for node v and event i
-flat-at : (s : Sheet) (v i : ℕ) → v < 32 → i < 12 → getD (upTo (flatAt s) 384) (v * 12 + i) 0 ≡ successor (row s v) i
-unfolding flatAt
-flat-at s v i h k = getD-upTo (flatAt s) 384 (v * 12 + i) 0 (omega arith) ∙ rw (digits-div v k, digits-mod v k)
+flat-at : (s : Sheet) (v i : ℕ) → v < 32 → i < 12 → getD (upTo (flatAt (s .rows)) 384) (v * 12 + i) 0 ≡ successor (row s v) i
+flat-at s v i h k = flat-holds (s .rows) v i h k
 
 -- the graph that a sheet's table draws is the sheet's
-pub flat-graph : (s : Sheet) → s .n ≤ 32 → s .e ≤ 12 → tableGraph (upTo (flatAt s) 384) (s .n) (s .e) ≡ graph s
+pub flat-graph : (s : Sheet) → s .n ≤ 32 → s .e ≤ 12 → tableGraph (upTo (flatAt (s .rows)) 384) (s .n) (s .e) ≡ graph s
 unfolding tableGraph tableNext step
 flat-graph s n e = ap (λ (f : ℕ → ℕ → ℕ). record { events = s .e; size = s .n; next = f }) (fun-ext (λ v. fun-ext (λ i. at v i (lt-or-ge v (s .n)) (lt-or-ge i (s .e)))))
   where
-    at : (v i : ℕ) → (v < s .n) ⊎ (s .n ≤ v) → (i < s .e) ⊎ (s .e ≤ i) → tableNext (upTo (flatAt s) 384) (s .n) (s .e) v i ≡ step s v i
+    at : (v i : ℕ) → (v < s .n) ⊎ (s .n ≤ v) → (i < s .e) ⊎ (s .e ≤ i) → tableNext (upTo (flatAt (s .rows)) 384) (s .n) (s .e) v i ≡ step s v i
     at v i (inl h) (inl k) = rw (lt-ltb v (s .n) h, lt-ltb i (s .e) k) (flat-at s v i (omega arith) (omega arith))
     at v i (inl h) (inr k) = rw (lt-ltb v (s .n) h, le-ltb i (s .e) k)
     at v i (inr h) k = rw (le-ltb v (s .n) h)
@@ -169,15 +169,15 @@ module _ (P Q : Sheet) (work trace : List ℕ) where
           })
 
       -- and what it answers and leaves is the comparison's
-      module _ (traceOnly : Bool) {a b : List ℕ} {bad : List Bool} {work′ trace′ : List ℕ} {found : Found} (ea : a ≡ upTo (flatAt P) 384)
-          (eb : b ≡ upTo (flatAt Q) 384) (et : bad ≡ badTable traceOnly P Q) (s : Searched a b p q e bad work trace work′ trace′ found) where
-        searched : Searched (upTo (flatAt P) 384) (upTo (flatAt Q) 384) (P .n) (Q .n) (P .e) (badTable traceOnly P Q) work trace work′ trace′ found
+      module _ (traceOnly : Bool) {a b : List ℕ} {bad : List Bool} {work′ trace′ : List ℕ} {found : Found} (ea : a ≡ upTo (flatAt (P .rows)) 384)
+          (eb : b ≡ upTo (flatAt (Q .rows)) 384) (et : bad ≡ badTable traceOnly P Q) (s : Searched a b p q e bad work trace work′ trace′ found) where
+        searched : Searched (upTo (flatAt (P .rows)) 384) (upTo (flatAt (Q .rows)) 384) (P .n) (Q .n) (P .e) (badTable traceOnly P Q) work trace work′ trace′ found
         searched = rw (ea, eb, et, ep, eq, ee) at s
 
-        graph-P : tableGraph (upTo (flatAt P) 384) (P .n) (P .e) ≡ graph P
+        graph-P : tableGraph (upTo (flatAt (P .rows)) 384) (P .n) (P .e) ≡ graph P
         graph-P = flat-graph P (sound-P .ranges .n-high) (sound-P .ranges .e-high)
 
-        graph-Q : tableGraph (upTo (flatAt Q) 384) (Q .n) (P .e) ≡ graph Q
+        graph-Q : tableGraph (upTo (flatAt (Q .rows)) 384) (Q .n) (P .e) ≡ graph Q
         graph-Q = rw same-events (flat-graph Q (sound-Q .ranges .n-high) (sound-Q .ranges .e-high))
 
         found-is : found ≡ foundOf (graph P) (graph Q) (table traceOnly P Q sound-P sound-Q)

@@ -8,7 +8,7 @@ ghost use Rattle.base.specs.Table.{upTo};
 ghost use Rattle.events.specs.Sets.{has};
 ghost use Rattle.sheet_spec.specs.Rules.{sheetFault};
 ghost use Rattle.comparison_spec.specs.Comparison.{compareFault, named};
-ghost use Rattle.comparison.specs.Shapes.{faultOn, flatAt, withRow, initialsAt, covering, refusing, violatesBy, badTable, told, Fits};
+ghost use Rattle.comparison.specs.Shapes.{faultOn, initialsAt, covering, refusing, violatesBy, badTable, told, Fits};
 ghost use Rattle.comparison_spec.specs.Contract.{Compares};
 use comparison_spec::Outcome;
 use probes_spec::Missed;
@@ -45,29 +45,6 @@ fn fault_on(reference: Sheet, device: Sheet, words: usize, places: usize) -> u8
 }
 
 // ---- tables
-
-// Stores the twelve successors of a row from a place on.
-fn put_row(table: &mut [u8; 384], at: usize, row: Row)
-    requires { ⌜ at + 12 ≤ 384 ⌝ }
-    ensures { λ _. ⌜ now (table .exit) ≡ withRow row at 12 (now (table .entry)) ⌝ }
-{
-    for i in 0..12 {
-        let x = rows::successor_of(row, i);
-        table[at + i] = x;
-    }
-}
-
-// The successors of a sheet: node v's on event i stands at place 12 v + i.
-fn flatten(sheet: Sheet) -> [u8; 384]
-    ensures { λ r. ⌜ r ≡ upTo (flatAt sheet) 384 ⌝ }
-{
-    let mut table = [0u8; 384];
-    for v in 0..32 {
-        let row = sheet.rows[v];
-        put_row(&mut table, 12 * v, row);
-    }
-    table
-}
 
 // The initials of each node.
 fn initials(sheet: Sheet, e: usize) -> [u16; 32]
@@ -222,8 +199,10 @@ fn judge(
     let e = base::wide(reference.e);
     let p = base::wide(reference.n);
     let q = base::wide(device.n);
-    let a = flatten(reference);
-    let b = flatten(device);
+    let mine = reference.rows;
+    let theirs = device.rows;
+    let a = rows::flat(mine);
+    let b = rows::flat(theirs);
     let bad = bad_pairs(reference, device, trace_only);
     let found = search::search(&a, &b, p, q, e, &bad, work, trace);
     tell(reference, device, found)

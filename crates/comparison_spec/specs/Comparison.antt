@@ -6,13 +6,13 @@ use mathlib.Core.List.{List, _++_}
 use Prim.Native.Nat.{ℕ, _-_, _*_}
 use lib.Dec.{eqb, ltb, leb}
 use lib.ListN.{length, drop, replicate}
-use Rattle.base.specs.Refusal.{unless, orElse}
+use Rattle.base.specs.Refusal.{unless}
 use Rattle.walks.specs.Graph.{walk}
 use Rattle.walks.specs.Pairs.{pairDistance, pairTrace, pairCleared}
 use Rattle.sheet_spec.specs.declared.Row.{Row}
 use Rattle.sheet_spec.specs.declared.Sheet.{Sheet}
 use Rattle.sheet_spec.specs.Kept.{row, graph, acceptances}
-use Rattle.sheet_spec.specs.Rules.{sheetFault}
+use Rattle.sheet_spec.specs.Rules.{pairFault}
 use Rattle.probes_spec.specs.declared.Missed.{Missed}
 use Rattle.probes_spec.specs.declared.Missed.the-variants.{Nothing, Found}
 use Rattle.probes_spec.specs.FirstMissed.{firstMissed}
@@ -62,11 +62,9 @@ judged traceOnly P Q =
 -- trace list below p q - 1 bytes
 unfoldable pub compareFault : Sheet → Sheet → List ℕ → List ℕ → ℕ
 compareFault P Q work trace =
-    orElse (sheetFault P)
-    (orElse (sheetFault Q)
-    (unless (eqb (P .e) (Q .e)) 11
+    pairFault P Q
     (unless (leb (3 * pairs P Q) (length work)) 12
-    (unless (leb (pairs P Q - 1) (length trace)) 13 0))))
+    (unless (leb (pairs P Q - 1) (length trace)) 13 0))
 
 -- the answer
 unfoldable pub outcomeOf : Bool → Sheet → Sheet → List ℕ → List ℕ → Outcome

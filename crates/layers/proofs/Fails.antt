@@ -19,7 +19,8 @@ use Rattle.sheet_spec.specs.Kept.{mayStop, step}
 use Rattle.refinement.specs.PairTests.{hasStray, violating}
 use Rattle.tests_spec.specs.Verdicts.{failsFrom}
 use Rattle.layers.specs.declared.Tables.{Tables}
-use Rattle.layers.specs.Shapes.{sheetWith, rowIn, flatAt, leadsTo, bitAt, leadsInto, initialsIn, stopWord, strayWords, earlyWords, lateWords, image, next, hits, failsOn, start, earlyTable, lateTable, tablesOf, kindOf}
+use Rattle.rows.specs.Flat.{flatAt}
+use Rattle.layers.specs.Shapes.{sheetWith, rowIn, leadsTo, bitAt, leadsInto, initialsIn, stopWord, strayWords, earlyWords, lateWords, image, next, hits, failsOn, start, earlyTable, lateTable, tablesOf, kindOf}
 use Rattle.layers.proofs.Words.{has-zero, has-one}
 use Rattle.layers.proofs.Images.{into-is, image-has}
 use Rattle.layers.proofs.Moves.{zeros, leads-is, moves, next-has}

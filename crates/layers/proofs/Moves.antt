@@ -13,39 +13,19 @@ use lib.Bits.{bitOr, or-zero-r}
 use lib.ListN.{length, getD, set, replicate, length-set, length-replicate}
 use lib.Seq.{getD-set-same, getD-set-other, set-getD}
 use borrow.Author.Tests.{ltb-true, eq-eqb, ne-eqb}
-use Rattle.sheet.proofs.Loops.{Filling, stored}
 use Rattle.base.specs.Range.{any}
 use Rattle.base.specs.Table.{upTo, getD-upTo}
 use Rattle.events.specs.Sets.{has}
 use Rattle.sheet_spec.specs.declared.Row.{Row}
 use Rattle.sheet_spec.specs.Kept.{successor}
-use Rattle.layers.specs.Shapes.{rowIn, rowPut, flatAt, leadsTo, image, placed, spread, next}
+use Rattle.rows.specs.Flat.{flatAt, flat-holds}
+use Rattle.layers.specs.Shapes.{rowIn, leadsTo, image, placed, spread, next}
 use Rattle.layers.proofs.Words.{has-or, has-zero}
 use Rattle.layers.proofs.Images.{image-none}
 
 -- the table of a sheet's successors holds them
 pub leads-is : (rows : List Row) (v i : ℕ) → v < 32 → i < 12 → leadsTo (upTo (flatAt rows) 384) v i ≡ successor (rowIn rows v) i
-unfolding flatAt
-leads-is rows v i l k = getD-upTo (flatAt rows) 384 (v * 12 + i) 0 (omega arith) ∙ rw (digits-div v k, digits-mod v k)
-
--- one successor more of a node is put in its place
-pub row-more : (t : List ℕ) (row : Row) (v i : ℕ) {x : ℕ} {out : List ℕ} → out ≡ rowPut t row v i → x ≡ successor row i
-    → set out (v * 12 + i) x ≡ rowPut t row v (i + 1)
-unfolding rowPut
-row-more t row v i h e = rw (add-one i, e, h)
-
--- the places of one node more are filled
-row-filled : (rows : List Row) (v : ℕ) {t : List ℕ} (i : ℕ) → v < 32 → i ≤ 12 → Filling (flatAt rows) 255 384 (v * 12) t
-    → Filling (flatAt rows) 255 384 (v * 12 + i) (rowPut t (rowIn rows v) v i)
-unfolding rowPut flatAt
-row-filled rows v zero l k h = rw (add-zero (v * 12)) h
-row-filled rows v (suc i) l k h =
-    let e : v * 12 + suc i ≡ v * 12 + i + 1 = omega arith in
-    rw e (stored (row-filled rows v i l (omega arith) h) (omega arith) (rw (digits-div v {m = 12} k, digits-mod v {m = 12} k)))
-
-pub row-stored : (rows : List Row) {v : ℕ} {t out : List ℕ} → Filling (flatAt rows) 255 384 (v * 12) t → v < 32 → out ≡ rowPut t (rowIn rows v) v 12
-    → Filling (flatAt rows) 255 384 ((v + 1) * 12) out
-row-stored rows {v} h l p = let e : (v + 1) * 12 ≡ v * 12 + 12 = omega arith in rw (e, p) (row-filled rows v 12 l (omega arith) h)
+leads-is = flat-holds
 
 pub zeros : (k v : ℕ) → _≡_ {A = ℕ} (getD (replicate k 0) v 0) 0
 zeros zero v = refl

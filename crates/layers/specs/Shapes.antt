@@ -13,6 +13,7 @@ use Rattle.events.specs.Sets.{has, meets}
 use Rattle.sheet_spec.specs.declared.Row.{Row}
 use Rattle.sheet_spec.specs.declared.Sheet.{Sheet}
 use Rattle.sheet_spec.specs.Kept.{noRow, successor, initials, mayStop}
+use Rattle.rows.specs.Flat.{flatAt}
 use Rattle.refinement.specs.PairTests.{strays, hasRefusal}
 use Rattle.layers.specs.declared.Tables.{Tables}
 
@@ -28,15 +29,7 @@ rowIn rows v = getD rows v noRow
 unfoldable pub nodeIf : ℕ → ℕ → Bool → ℕ
 nodeIf x v t = cond t (bitOr x (2 ^ v)) x
 
--- the first i successors of node v are put in their places
-unfoldable pub rowPut : List ℕ → Row → ℕ → ℕ → List ℕ
-rowPut t row v zero = t
-rowPut t row v (suc i) = set (rowPut t row v i) (v * 12 + i) (successor row i)
-
--- the successors of all nodes in one list, twelve to a node: what stands at place j, and the successor of node v on event i
-unfoldable pub flatAt : List Row → ℕ → ℕ
-flatAt rows j = successor (rowIn rows (j / 12)) (j % 12)
-
+-- the successor of node v on event i in a table of successors
 abbrev pub leadsTo : List ℕ → ℕ → ℕ → ℕ
 leadsTo t v i = getD t (v * 12 + i) 0
 

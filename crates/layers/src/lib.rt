@@ -7,7 +7,7 @@ ghost use Prim.Native.Nat.{_-_, _^_, _≤_, _<_};
 ghost use lib.ListN.{length, drop};
 ghost use Rattle.base.specs.Table.{upTo};
 ghost use Rattle.tests_spec.specs.Verdicts.{failsFrom};
-ghost use Rattle.layers.specs.Shapes.{sheetWith, nodeIf, rowPut, flatAt, initialsIn, strayWord, stopWord, refusalWord, earlyWord, lateWord, strayWords, earlyWords, lateWords, bitAt, leastNode, image, placed, spread, next, hits, failsOn, start, tablesOf, kindOf};
+ghost use Rattle.layers.specs.Shapes.{sheetWith, nodeIf, initialsIn, strayWord, stopWord, refusalWord, earlyWord, lateWord, strayWords, earlyWords, lateWords, bitAt, leastNode, image, placed, spread, next, hits, failsOn, start, tablesOf, kindOf};
 use sheet_spec::Row;
 
 // ---- words
@@ -21,28 +21,6 @@ fn with_node(set: u32, v: usize, is_in: bool) -> u32
 }
 
 // ---- tables, each filled once
-
-// The successors of node `v` are put in its twelve places.
-fn put_row(table: &mut [u8; 384], row: Row, v: usize)
-    requires { ⌜ v < 32 ⌝ }
-    ensures { λ _. ⌜ now (table .exit) ≡ rowPut (now (table .entry)) row v 12 ⌝ }
-{
-    for i in 0..12 {
-        table[v * 12 + i] = row.succ[i];
-    }
-}
-
-// The successors of all nodes, twelve to a node.
-fn flat(rows: [Row; 32]) -> [u8; 384]
-    ensures { λ r. ⌜ r ≡ upTo (flatAt rows) 384 ⌝ }
-{
-    let mut table = [255u8; 384];
-    for v in 0..32 {
-        let row = rows[v];
-        put_row(&mut table, row, v);
-    }
-    table
-}
 
 // Where event j / 32 leads from node j % 32, as a set: of one node or, where it leads to none of the first `q`, of none. From `q`
 // on there is no node.
@@ -382,9 +360,9 @@ fn tables_of(mine: [Row; 32], theirs: [Row; 32], q: usize, e: usize, trace_only:
 {
     let strays = stray_words(all_initials(mine, e), all_initials(theirs, e), q);
     let stops = stop_word(theirs, q);
-    let device = flat(theirs);
+    let device = rows::flat(theirs);
     Tables {
-        mine: flat(mine),
+        mine: rows::flat(mine),
         theirs: bits_of(&device, q),
         early: early_words(strays, mine, stops, trace_only),
         late: late_words(strays, mine, theirs, q, trace_only),

@@ -7,6 +7,8 @@ ghost use lib.Dec.{ltb};
 ghost use lib.ListN.{getD};
 ghost use Rattle.sheet_spec.specs.Kept.{successor, acceptance, initials, mayStop};
 ghost use Rattle.sheet_spec.specs.Rules.{countOk, successorOk, rowSuccessorsOk, ascends, apart, setOk, rowSetsOk, blank, unusedOk};
+ghost use Rattle.base.specs.Table.{upTo};
+ghost use Rattle.rows.specs.Flat.{rowPut, flatAt};
 ghost use Rattle.rows.specs.Shapes.{setsAlone, initialAdded, blankSuccs, blankSets, nodeAdded, targets};
 use sheet_spec::Row;
 
@@ -225,4 +227,28 @@ pub fn targets_of(row: Row, e: usize) -> u32
         set = with_node(set, base::wide(succ_at(&row.succ, i)));
     }
     set
+}
+
+// ---- a table of all rows
+
+// The successors of node `v` are put in its twelve places.
+fn put_row(table: &mut [u8; 384], row: Row, v: usize)
+    requires { ⌜ v < 32 ⌝ }
+    ensures { λ _. ⌜ now (table .exit) ≡ rowPut (now (table .entry)) row v 12 ⌝ }
+{
+    for i in 0..12 {
+        table[v * 12 + i] = row.succ[i];
+    }
+}
+
+// The successors of all nodes, twelve to a node.
+pub fn flat(rows: [Row; 32]) -> [u8; 384]
+    ensures { λ r. ⌜ r ≡ upTo (flatAt rows) 384 ⌝ }
+{
+    let mut table = [255u8; 384];
+    for v in 0..32 {
+        let row = rows[v];
+        put_row(&mut table, row, v);
+    }
+    table
 }

@@ -1,4 +1,3 @@
-pub mod Loops
 pub mod Head
 pub mod Nodes
 pub mod Rounds

@@ -4,7 +4,7 @@ use mathlib.Core.Bool.{Bool, not, _&&_, _||_, cond}
 use Prim.Native.Nat.{ℕ, _-_}
 use lib.Dec.{eqb, ltb, leb}
 use Rattle.base.specs.Range.{all}
-use Rattle.base.specs.Refusal.{unless}
+use Rattle.base.specs.Refusal.{unless, orElse}
 use Rattle.events.specs.Sets.{inside}
 use Rattle.walks.specs.Reach.{nearer}
 use Rattle.sheet_spec.specs.declared.Row.{Row}
@@ -77,3 +77,8 @@ sheetFault s =
     (unless (successorsOk s) 6
     (unless (setsOk s && blanksOk s) 7
     (unless (reachedOk s) 8 0))))
+
+-- the refusal of two sheets that are handed together, the reference first: its own, the device's own, 11: E differs; `rest` is what
+-- else the call looks for
+abbrev pub pairFault : Sheet → Sheet → ℕ → ℕ
+pairFault P Q rest = orElse (sheetFault P) (orElse (sheetFault Q) (unless (eqb (P .e) (Q .e)) 11 rest))

@@ -7,12 +7,12 @@ use mathlib.Core.List.{List, [], _∷_}
 use Prim.Native.Nat.{ℕ, zero, suc, _<_}
 use lib.Dec.{eqb, ltb, leb}
 use Rattle.base.specs.Range.{any}
-use Rattle.base.specs.Refusal.{unless, orElse}
+use Rattle.base.specs.Refusal.{unless}
 use Rattle.events.specs.Bit.{bit}
 use Rattle.sheet_spec.specs.declared.Sheet.{Sheet}
 use Rattle.sheet_spec.specs.Kept.{row, successor, mayStop, step}
 use Rattle.sheet_spec.specs.Faults.{Initial}
-use Rattle.sheet_spec.specs.Rules.{sheetFault}
+use Rattle.sheet_spec.specs.Rules.{pairFault}
 use Rattle.refinement.specs.Refinement.{MayRefuse}
 use Rattle.refinement.specs.PairTests.{hasStray, violating}
 use Rattle.tests_spec.specs.declared.Run.{Run}
@@ -69,7 +69,7 @@ failsFrom traceOnly P Q (suc k) n m =
 
 -- the refusal of a verdict: the reference's own, the device's own; 11: E differs; 14: k above 1,023
 unfoldable pub verdictFault : Sheet → Sheet → ℕ → ℕ
-verdictFault P Q k = orElse (sheetFault P) (orElse (sheetFault Q) (unless (eqb (P .e) (Q .e)) 11 (unless (leb k 1023) 14 0)))
+verdictFault P Q k = pairFault P Q (unless (leb k 1023) 14 0)
 
 -- the verdict of reference P on device Q for test k
 unfoldable pub verdictOf : Sheet → Sheet → ℕ → Bool → Verdict

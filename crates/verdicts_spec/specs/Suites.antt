@@ -5,10 +5,10 @@ use mathlib.Core.List.{List, _++_}
 use Prim.Native.Nat.{ℕ, _*_}
 use lib.Dec.{eqb, leb}
 use lib.ListN.{length, drop}
-use Rattle.base.specs.Refusal.{unless, orElse}
+use Rattle.base.specs.Refusal.{unless}
 use Rattle.base.specs.Table.{upTo}
 use Rattle.sheet_spec.specs.declared.Sheet.{Sheet}
-use Rattle.sheet_spec.specs.Rules.{sheetFault}
+use Rattle.sheet_spec.specs.Rules.{pairFault}
 use Rattle.tests_spec.specs.Verdicts.{verdictOf}
 use Rattle.tests_spec.specs.Numbers.{judged}
 use Rattle.verdicts_spec.specs.declared.Suite.{Suite}
@@ -24,7 +24,7 @@ verdictNumber traceOnly P Q k = judged (verdictOf P Q k traceOnly) .kind
 
 -- the refusal, 0 for none: the reference's own, the device's own; 11: E differs; 10: a list shorter than the tests
 unfoldable pub suiteFault : Sheet → Sheet → List ℕ → ℕ
-suiteFault P Q out = orElse (sheetFault P) (orElse (sheetFault Q) (unless (eqb (P .e) (Q .e)) 11 (unless (leb (tests P Q) (length out)) 10 0)))
+suiteFault P Q out = pairFault P Q (unless (leb (tests P Q) (length out)) 10 0)
 
 -- the answer: how many tests were judged, or the refusal
 unfoldable pub suiteOf : Sheet → Sheet → List ℕ → Suite

@@ -3,7 +3,7 @@ use mathlib.Core.Path.{_∙_}
 use mathlib.Core.Bool.{false}
 use Prim.Native.Nat.{_-_, _≤_}
 use native.Mathlib.Omega.{arith}
-use Rattle.sheet.proofs.Loops.{Filling, empty, stored}
+use Rattle.base.specs.Loops.{Filling, empty, stored}
 use Rattle.comparison.specs.Shapes.{badAt}
 use Rattle.comparison.proofs.Pairs.{q-some, pairs-most, first-node, second-node, both-counts, bad-is, bad-all}
 use Rattle.comparison.proofs.bad_pairs.Statement.{statement}

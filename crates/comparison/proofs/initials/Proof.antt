@@ -1,7 +1,7 @@
 -- After v turns the initials of the first v nodes are filled in.
 use Prim.Native.Nat.{_-_}
 use native.Mathlib.Omega.{arith}
-use Rattle.sheet.proofs.Loops.{Filling, empty, stored, filled}
+use Rattle.base.specs.Loops.{Filling, empty, stored, filled}
 use Rattle.comparison.specs.Shapes.{initialsAt}
 use Rattle.comparison.proofs.initials.Statement.{statement}
 use Rattle.comparison.proofs.initials.Tie as tie

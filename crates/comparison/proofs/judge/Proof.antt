@@ -14,21 +14,21 @@ wide-requires-2 c κs = tt
 wide-requires-3 : tie.Need-wide-requires-3
 wide-requires-3 c κs = tt
 
-flatten-requires : tie.Need-flatten-requires
-flatten-requires c κs = tt
+flat-requires : tie.Need-flat-requires
+flat-requires c κs = tt
 
-flatten-requires-2 : tie.Need-flatten-requires-2
-flatten-requires-2 c κs = tt
+flat-requires-2 : tie.Need-flat-requires-2
+flat-requires-2 c κs = tt
 
 bad-pairs-requires : tie.Need-bad-pairs-requires
 bad-pairs-requires c κs =
-    let s = c .before .before .before .before .before .before .before in
+    let s = c .before .before .before .before .before .before .before .before .before in
     let a = s .args in
     both-accepted (a .reference) (a .device) (now (a .work)) (now (a .trace)) (s .pre)
 
 search-requires : tie.Need-search-requires
 search-requires c κs =
-    let w = c .before .before .before .before .before .before .before .before in
+    let w = c .before .before .before .before .before .before .before .before .before .before in
     let s = w .before .before .before .before .before in
     let a = s .args in
     search-fits (a .reference) (a .device) (now (a .work)) (now (a .trace)) (s .pre) (w .before .wide2 .ensures) (w .wide3 .ensures) (w .before .before .wide .ensures)
@@ -36,11 +36,11 @@ search-requires c κs =
 tell-requires : tie.Need-tell-requires
 tell-requires c κs =
     let b = c .before .before .before .before .before .before .before .before .before .before in
-    let w = b .before .before .before in
+    let w = b .before .before .before .before .before in
     let s = w .before .before .before .before .before in
     let a = s .args in
     let z = both-accepted (a .reference) (a .device) (now (a .work)) (now (a .trace)) (s .pre) in
-    (z .0, z .1, answer-fits (a .reference) (a .device) (now (a .work)) (now (a .trace)) (s .pre) (w .before .wide2 .ensures) (w .wide3 .ensures) (w .before .before .wide .ensures) (a .trace-only) (b .before .before .flatten .ensures) (b .before .flatten2 .ensures) (b .bad-pairs .ensures) (c .before .before .before .before .search .ensures))
+    (z .0, z .1, answer-fits (a .reference) (a .device) (now (a .work)) (now (a .trace)) (s .pre) (w .before .wide2 .ensures) (w .wide3 .ensures) (w .before .before .wide .ensures) (a .trace-only) (b .before .before .flat .ensures) (b .before .flat2 .ensures) (b .bad-pairs .ensures) (c .before .before .before .before .search .ensures))
 
 same-length : tie.Need-same-length
 same-length c = omega arith
@@ -51,10 +51,10 @@ same-length-2 c = omega arith
 returns : tie.Need-returns
 returns c =
     let b = c .before .before .before .before .before .before .before .before .before .before .before in
-    let w = b .before .before .before in
+    let w = b .before .before .before .before .before in
     let s = w .before .before .before .before .before in
     let a = s .args in
-    compares-found (a .reference) (a .device) (now (a .work)) (now (a .trace)) (s .pre) (w .before .wide2 .ensures) (w .wide3 .ensures) (w .before .before .wide .ensures) (a .trace-only) (b .before .before .flatten .ensures) (b .before .flatten2 .ensures) (b .bad-pairs .ensures) (c .before .before .before .before .before .search .ensures) _ (c .tell .ensures)
+    compares-found (a .reference) (a .device) (now (a .work)) (now (a .trace)) (s .pre) (w .before .wide2 .ensures) (w .wide3 .ensures) (w .before .before .wide .ensures) (a .trace-only) (b .before .before .flat .ensures) (b .before .flat2 .ensures) (b .bad-pairs .ensures) (c .before .before .before .before .before .search .ensures) _ (c .tell .ensures)
 
 pub judge-spec : {M : Type 1} → statement M
 judge-spec =
@@ -63,8 +63,8 @@ judge-spec =
     wide-requires
     wide-requires-2
     wide-requires-3
-    flatten-requires
-    flatten-requires-2
+    flat-requires
+    flat-requires-2
     bad-pairs-requires
     search-requires
     tell-requires

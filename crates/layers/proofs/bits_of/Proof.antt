@@ -1,7 +1,7 @@
 -- After j turns the first j places are filled.
 use Prim.Native.Nat.{_-_}
 use native.Mathlib.Omega.{arith}
-use Rattle.sheet.proofs.Loops.{Filling, empty, stored, filled}
+use Rattle.base.specs.Loops.{Filling, empty, stored, filled}
 use Rattle.layers.specs.Shapes.{bitAt}
 use Rattle.layers.proofs.bits_of.Statement.{statement}
 use Rattle.layers.proofs.bits_of.Tie as tie

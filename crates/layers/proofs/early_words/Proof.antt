@@ -1,7 +1,7 @@
 -- After n turns the words of the first n nodes are filled in.
 use Prim.Native.Nat.{_-_}
 use native.Mathlib.Omega.{arith}
-use Rattle.sheet.proofs.Loops.{Filling, empty, stored, filled}
+use Rattle.base.specs.Loops.{Filling, empty, stored, filled}
 use Rattle.layers.specs.Shapes.{earlyWords}
 use Rattle.layers.proofs.early_words.Statement.{statement}
 use Rattle.layers.proofs.early_words.Tie as tie

@@ -3,7 +3,7 @@ use Prim.Native.Nat.{_-_}
 use native.Mathlib.Omega.{arith}
 use Rattle.sheet_spec.specs.Rules.{unusedOk, blanksOk}
 use Rattle.sheet_spec.specs.Kept.{row}
-use Rattle.sheet.proofs.Loops.{Passing, starts, stops, goes-on, ends}
+use Rattle.base.specs.Loops.{Passing, starts, stops, goes-on, ends}
 use Rattle.sheet.proofs.blanks_ok.Statement.{statement}
 use Rattle.sheet.proofs.blanks_ok.Tie as tie
 

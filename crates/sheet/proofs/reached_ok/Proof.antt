@@ -2,7 +2,7 @@
 use Prim.Native.Nat.{_-_}
 use native.Mathlib.Omega.{arith}
 use Rattle.events.specs.Sets.{has}
-use Rattle.sheet.proofs.Loops.{Passing, starts, stops, goes-on, ends}
+use Rattle.base.specs.Loops.{Passing, starts, stops, goes-on, ends}
 use Rattle.sheet.proofs.Rounds.{reached-is}
 use Rattle.sheet.proofs.reached_ok.Statement.{statement}
 use Rattle.sheet.proofs.reached_ok.Tie as tie

@@ -4,7 +4,7 @@ use Prim.Native.Nat.{_+_, _-_, _*_, _≤_}
 use native.Mathlib.Omega.{arith}
 use native.Mathlib.Numerals.{add-one}
 use Rattle.sheet_spec.specs.Reading.{unusedRow, rowOf, startOf}
-use Rattle.sheet.proofs.Loops.{Filling, empty, stored, filled}
+use Rattle.base.specs.Loops.{Filling, empty, stored, filled}
 use Rattle.sheet.proofs.rows_of.Statement.{statement}
 use Rattle.sheet.proofs.rows_of.Tie as tie
 

@@ -2,7 +2,7 @@
 use Prim.Native.Nat.{_-_}
 use native.Mathlib.Omega.{arith}
 use Rattle.sheet_spec.specs.Reading.{succOf}
-use Rattle.sheet.proofs.Loops.{Filling, empty, stored, filled}
+use Rattle.base.specs.Loops.{Filling, empty, stored, filled}
 use Rattle.sheet.proofs.succs_of.Statement.{statement}
 use Rattle.sheet.proofs.succs_of.Tie as tie
 

@@ -2,7 +2,7 @@
 use Prim.Native.Nat.{_-_}
 use native.Mathlib.Omega.{arith}
 use Rattle.sheet.specs.Shapes.{targetsOf}
-use Rattle.sheet.proofs.Loops.{Filling, empty, stored, filled}
+use Rattle.base.specs.Loops.{Filling, empty, stored, filled}
 use Rattle.sheet.proofs.targets.Statement.{statement}
 use Rattle.sheet.proofs.targets.Tie as tie
 

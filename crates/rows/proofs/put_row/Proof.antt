@@ -2,11 +2,11 @@
 use mathlib.Core.Path.{_≡_, refl}
 use Prim.Native.Nat.{_-_, _≤_}
 use native.Mathlib.Omega.{arith}
 use Rattle.rows.proofs.Shape.{succ-in}
-use Rattle.layers.specs.Shapes.{rowPut}
-use Rattle.layers.proofs.Moves.{row-more}
-use Rattle.layers.proofs.put_row.Statement.{statement}
-use Rattle.layers.proofs.put_row.Tie as tie
+use Rattle.rows.specs.Flat.{rowPut}
+use Rattle.rows.proofs.Tables.{row-more}
+use Rattle.rows.proofs.put_row.Statement.{statement}
+use Rattle.rows.proofs.put_row.Tie as tie
 
 abbrev Inv-loop : tie.InvT-loop
 Inv-loop table₀ v row i₀ table i = (i ≤ 12) × (table ≡ rowPut table₀ row v i)

@@ -1,11 +1,11 @@
 -- After v turns the places of the first v nodes are filled.
 use Prim.Native.Nat.{_*_, _-_}
 use native.Mathlib.Omega.{arith}
-use Rattle.sheet.proofs.Loops.{Filling, empty, filled}
-use Rattle.layers.specs.Shapes.{flatAt}
-use Rattle.layers.proofs.Moves.{row-stored}
-use Rattle.layers.proofs.flat.Statement.{statement}
-use Rattle.layers.proofs.flat.Tie as tie
+use Rattle.base.specs.Loops.{Filling, empty, filled}
+use Rattle.rows.specs.Flat.{flatAt}
+use Rattle.rows.proofs.Tables.{row-stored}
+use Rattle.rows.proofs.flat.Statement.{statement}
+use Rattle.rows.proofs.flat.Tie as tie
 
 abbrev Inv-loop : tie.InvT-loop
 Inv-loop rows table₀ v₀ table v = Filling (flatAt rows) 255 384 (v * 12) table

@@ -1,0 +1,24 @@
+-- The successors of all nodes in one table, twelve to a node.
+use mathlib.Core.Path.{_≡_, _∙_}
+use mathlib.Core.List.{List}
+use Prim.Native.Nat.{ℕ, zero, suc, _+_, _*_, _/_, _%_, _<_}
+use native.Mathlib.Omega.{arith}
+use lib.Arith.{digits-div, digits-mod}
+use lib.ListN.{getD, set}
+use Rattle.base.specs.Table.{upTo, getD-upTo}
+use Rattle.sheet_spec.specs.declared.Row.{Row}
+use Rattle.sheet_spec.specs.Kept.{noRow, successor}
+
+-- what stands at place j
+unfoldable pub flatAt : List Row → ℕ → ℕ
+flatAt rows j = successor (getD rows (j / 12) noRow) (j % 12)
+
+-- a table in which the first i successors of node v were put in their places
+unfoldable pub rowPut : List ℕ → Row → ℕ → ℕ → List ℕ
+rowPut t row v zero = t
+rowPut t row v (suc i) = set (rowPut t row v i) (v * 12 + i) (successor row i)
+
+-- the table holds the successor of each node on each event
+pub flat-holds : (rows : List Row) (v i : ℕ) → v < 32 → i < 12 → getD (upTo (flatAt rows) 384) (v * 12 + i) 0 ≡ successor (getD rows v noRow) i
+unfolding flatAt
+flat-holds rows v i l k = getD-upTo (flatAt rows) 384 (v * 12 + i) 0 (omega arith) ∙ rw (digits-div v k, digits-mod v k)
