@@ -24,7 +24,7 @@ use Rattle.sheet_spec.specs.Rules.{rangesOk, countOk, countsOk, successorsOk, r
 use Rattle.sheet_spec.specs.Reading.{readSheet, answer, bytesFault, headFault, lengthField, layoutFault, nextAt, startOf, succOf, setsOf, rowAt, rowOf, sheetOf, graphFault}
 use Rattle.probes_spec.specs.Probes.{hits, isProbe, gather, select, probes}
 use Rattle.probes_spec.specs.FirstMissed.{missing, orNext, firstMissing, firstMissed}
-use Rattle.refinement.specs.PairTests.{strays, hasStray, firstStray, covers, hasRefusal, violates, violating}
+use Rattle.refinement_spec.specs.PairTests.{strays, hasStray, firstStray, covers, hasRefusal, violates, violating}
 use Rattle.tests_spec.specs.declared.Run.{Run}
 use Rattle.tests_spec.specs.declared.Report.{Report}
 use Rattle.tests_spec.specs.declared.Report.the-variants.{Event, Blocked}

@@ -16,7 +16,7 @@ use Rattle.sheet_spec.specs.Kept.{row, acceptance}
 use Rattle.sheet_spec.specs.Rules.{sheetFault}
 use Rattle.sheet_spec.specs.Reading.{readSheet}
 use Rattle.sheet_spec.specs.EncodingLaws.{accepted}
-use Rattle.refinement.specs.Refinement.{After, Does, Refuses, ViolationIn, RefinesIn}
+use Rattle.refinement_spec.specs.Refinement.{After, Does, Refuses, ViolationIn, RefinesIn}
 use Rattle.tests_spec.specs.declared.Verdict.the-variants.{Passes, Fails}
 use Rattle.tests_spec.specs.Verdicts.{FailsTest, verdictOf}
 use Rattle.comparison_spec.specs.declared.Outcome.{Outcome}

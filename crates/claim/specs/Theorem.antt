@@ -17,8 +17,8 @@ use Rattle.sheet_spec.specs.RowLaws.{acceptances-length, acceptances-at}
 use Rattle.sheet_spec.specs.Accepted.{read-accepted}
 use Rattle.sheet_spec.specs.EncodingLaws.{reads→}
 use Rattle.sheet_spec.specs.Sound.{Sound, check-sound}
-use Rattle.refinement.specs.Refinement.{Refuses, Strays, ViolationIn, RefinesIn}
-use Rattle.refinement.specs.RefinementLaws.{after-unique, violation-near, refines-means}
+use Rattle.refinement_spec.specs.Refinement.{Refuses, Strays, ViolationIn, RefinesIn}
+use Rattle.refinement_spec.specs.RefinementLaws.{after-unique, violation-near, refines-means}
 use Rattle.tests_spec.specs.declared.Verdict.the-variants.{Passes, Fails}
 use Rattle.tests_spec.specs.Verdicts.{failsFrom, verdictOf}
 use Rattle.tests_spec.specs.VerdictLaws.{fails-means, verdict-means, verdict-passes}

@@ -20,7 +20,7 @@ use Rattle.rows.proofs.Shape.{row-form}
 use Rattle.probes_spec.specs.declared.Missed.{Missed}
 use Rattle.probes_spec.specs.declared.Missed.the-variants.{Nothing, Found}
 use Rattle.probes_spec.specs.FirstMissed.{firstMissed}
-use Rattle.refinement.specs.PairTests.{strays, hasStray, firstStray}
+use Rattle.refinement_spec.specs.PairTests.{strays, hasStray, firstStray}
 use Rattle.comparison_spec.specs.declared.Outcome.the-variants.{Stray, Refusal}
 use Rattle.comparison_spec.specs.Comparison.{refusalNamed, named}
 

@@ -14,7 +14,7 @@ use Rattle.sheet_spec.specs.Rules.{sheetFault}
 use Rattle.sheet_spec.specs.RuleLaws.{Ranges}
 use Rattle.sheet_spec.specs.Sound.{check-sound}
 use Rattle.base.specs.Loops.{Filling}
-use Rattle.refinement.specs.PairTests.{hasStray, covers, hasRefusal, violates, violating}
+use Rattle.refinement_spec.specs.PairTests.{hasStray, covers, hasRefusal, violates, violating}
 use Rattle.comparison.specs.Shapes.{initialsAt, covering, refusing, violatesBy, badAt, badTable}
 
 -- the refusal test over the sets of two rows

@@ -12,7 +12,7 @@ use Rattle.sheet_spec.specs.declared.Row.{Row}
 use Rattle.sheet_spec.specs.declared.Sheet.{Sheet}
 use Rattle.sheet_spec.specs.Kept.{row, successor, initials}
 use Rattle.sheet_spec.specs.Rules.{pairFault}
-use Rattle.refinement.specs.PairTests.{strays, hasRefusal, violating}
+use Rattle.refinement_spec.specs.PairTests.{strays, hasRefusal, violating}
 use Rattle.comparison_spec.specs.declared.Outcome.{Outcome}
 use Rattle.comparison_spec.specs.declared.Outcome.the-variants.{Refines}
 use Rattle.comparison_spec.specs.Comparison.{named}

@@ -22,7 +22,7 @@ use Rattle.sheet_spec.specs.declared.Sheet.{Sheet}
 use Rattle.sheet_spec.specs.Kept.{row, successor, step, graph}
 use Rattle.sheet_spec.specs.Rules.{sheetFault}
 use Rattle.sheet_spec.specs.Sound.{Sound, check-sound}
-use Rattle.refinement.specs.PairTests.{violating}
+use Rattle.refinement_spec.specs.PairTests.{violating}
 use Rattle.comparison_spec.specs.declared.Outcome.{Outcome}
 use Rattle.comparison_spec.specs.declared.Outcome.the-variants.{Denied}
 use Rattle.comparison_spec.specs.Comparison.{pairs, nearest, nearestTrace, clearedOf, lastRow, judged, compareFault, traceAfter}

@@ -16,7 +16,7 @@ use Rattle.sheet_spec.specs.Rules.{pairFault}
 use Rattle.probes_spec.specs.declared.Missed.{Missed}
 use Rattle.probes_spec.specs.declared.Missed.the-variants.{Nothing, Found}
 use Rattle.probes_spec.specs.FirstMissed.{firstMissed}
-use Rattle.refinement.specs.PairTests.{hasStray, firstStray, violating}
+use Rattle.refinement_spec.specs.PairTests.{hasStray, firstStray, violating}
 use Rattle.comparison_spec.specs.declared.Outcome.{Outcome}
 use Rattle.comparison_spec.specs.declared.Outcome.the-variants.{Refines, Stray, Refusal, Denied}
 

@@ -11,9 +11,9 @@ use Rattle.walks.specs.Pairs.{PairLists, PairReachedBefore, PairReachable, pair
 use Rattle.sheet_spec.specs.declared.Sheet.{Sheet}
 use Rattle.sheet_spec.specs.Kept.{graph}
 use Rattle.sheet_spec.specs.Sound.{Sound}
-use Rattle.refinement.specs.Refinement.{ViolationIn, RefinesIn}
-use Rattle.refinement.specs.PairTests.{violating}
-use Rattle.refinement.specs.RefinementLaws.{after-walk, walk-after, violation-means, refines-distance}
+use Rattle.refinement_spec.specs.Refinement.{ViolationIn, RefinesIn}
+use Rattle.refinement_spec.specs.PairTests.{violating}
+use Rattle.refinement_spec.specs.RefinementLaws.{after-walk, walk-after, violation-means, refines-distance}
 use Rattle.comparison_spec.specs.Comparison.{pairs, nearest, nearestTrace}
 use Rattle.comparison_spec.specs.Meaning.{ReachedBefore, ReachedEver, Number, Nearest}
 

@@ -12,7 +12,7 @@ use Rattle.sheet_spec.specs.declared.Row.{Row}
 use Rattle.sheet_spec.specs.declared.Sheet.{Sheet}
 use Rattle.sheet_spec.specs.Kept.{row, graph, acceptance, acceptances}
 use Rattle.probes_spec.specs.Probes.{Probe}
-use Rattle.refinement.specs.Refinement.{After, Does, Strays, ViolationIn, RefinesIn}
+use Rattle.refinement_spec.specs.Refinement.{After, Does, Strays, ViolationIn, RefinesIn}
 use Rattle.comparison_spec.specs.declared.Outcome.{Outcome}
 use Rattle.comparison_spec.specs.declared.Outcome.the-variants.{Refines, Stray, Refusal}
 

@@ -21,10 +21,10 @@ use Rattle.probes_spec.specs.declared.Missed.the-variants.{Nothing, Found}
 use Rattle.probes_spec.specs.Probes.{probes, Narrow}
 use Rattle.probes_spec.specs.FirstMissed.{firstMissed, MissedFirst}
 use Rattle.probes_spec.specs.FirstMissedLaws.{missed-found, missed-none}
-use Rattle.refinement.specs.Refinement.{After, Trace, Does, Strays, ViolationIn}
-use Rattle.refinement.specs.PairTests.{hasStray, firstStray, hasRefusal, violates, violating}
-use Rattle.refinement.specs.PairLaws.{stray-means, firstStray-means, firstStray-unique, refusal-means, violates-means}
-use Rattle.refinement.specs.RefinementLaws.{after-walk, after-unique, strays-at, violation-means, refines-self}
+use Rattle.refinement_spec.specs.Refinement.{After, Trace, Does, Strays, ViolationIn}
+use Rattle.refinement_spec.specs.PairTests.{hasStray, firstStray, hasRefusal, violates, violating}
+use Rattle.refinement_spec.specs.PairLaws.{stray-means, firstStray-means, firstStray-unique, refusal-means, violates-means}
+use Rattle.refinement_spec.specs.RefinementLaws.{after-walk, after-unique, strays-at, violation-means, refines-self}
 use Rattle.comparison_spec.specs.declared.Outcome.{Outcome}
 use Rattle.comparison_spec.specs.declared.Outcome.the-variants.{Refines, Stray, Refusal}
 use Rattle.comparison_spec.specs.Comparison.{pairs, nearest, nearestTrace, clearedOf, lastRow, refusalNamed, named, judged}

@@ -16,7 +16,7 @@ use Rattle.events.specs.Sets.{has}
 use Rattle.sheet_spec.specs.declared.Row.{Row}
 use Rattle.sheet_spec.specs.declared.Sheet.{Sheet}
 use Rattle.sheet_spec.specs.Kept.{mayStop, step}
-use Rattle.refinement.specs.PairTests.{hasStray, violating}
+use Rattle.refinement_spec.specs.PairTests.{hasStray, violating}
 use Rattle.tests_spec.specs.Verdicts.{failsFrom}
 use Rattle.layers.specs.declared.Tables.{Tables}
 use Rattle.rows.specs.Flat.{flatAt}

@@ -14,7 +14,7 @@ use Rattle.events.specs.Bit.{bit, bit-high, setOf, setOf-lt}
 use Rattle.events.specs.Sets.{has, has→, has←, meets, meets→, meets←}
 use Rattle.sheet_spec.specs.declared.Row.{Row}
 use Rattle.sheet_spec.specs.Kept.{mayStop}
-use Rattle.refinement.specs.PairTests.{hasStray, hasRefusal, violates}
+use Rattle.refinement_spec.specs.PairTests.{hasStray, hasRefusal, violates}
 use Rattle.layers.specs.Shapes.{rowIn, initialsIn, strayWord, stopWord, refusalWord, earlyWord, lateWord, strayWords, earlyWords, lateWords, hits, strayTable, earlyTable, lateTable}
 use Rattle.events.specs.Gathered.{has-setOf, or-setOf, setOf-ext}
 use Rattle.layers.proofs.Words.{any-ext}

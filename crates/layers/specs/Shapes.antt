@@ -14,7 +14,7 @@ use Rattle.sheet_spec.specs.declared.Row.{Row}
 use Rattle.sheet_spec.specs.declared.Sheet.{Sheet}
 use Rattle.sheet_spec.specs.Kept.{noRow, successor, initials, mayStop}
 use Rattle.rows.specs.Flat.{flatAt}
-use Rattle.refinement.specs.PairTests.{strays, hasRefusal}
+use Rattle.refinement_spec.specs.PairTests.{strays, hasRefusal}
 use Rattle.layers.specs.declared.Tables.{Tables}
 
 -- the sheet of these rows

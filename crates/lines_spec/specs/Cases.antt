@@ -18,7 +18,7 @@ use Rattle.walks.specs.Pairs.{onCodes, pairDistance, pairTrace, pairCleared}
 use Rattle.sheet_spec.specs.Kept.{successor, acceptance, acceptances, initials, step}
 use Rattle.sheet_spec.specs.Rules.{rangesOk, countOk, countsOk, successorOk, rowSuccessorsOk, successorsOk, ascends, apart, setOk, rowSetsOk, setsOk, blank, unusedOk, blanksOk, reachedOk, sheetFault}
 use Rattle.sheet_spec.specs.Reading.{lengthField, headFault, nextAt, layoutFault, startOf, succOf, setsOf, rowAt, rowOf, sheetOf, graphFault, bytesFault, answer, readSheet}
-use Rattle.refinement.specs.PairTests.{strays, hasStray, firstStray, covers, hasRefusal, violates, violating}
+use Rattle.refinement_spec.specs.PairTests.{strays, hasStray, firstStray, covers, hasRefusal, violates, violating}
 use Rattle.comparison_spec.specs.Comparison.{pairs, nearest, nearestTrace, clearedOf, lastRow, refusalNamed, named, judged, compareFault, outcomeOf, traceAfter}
 use Rattle.comparison_spec.specs.declared.Outcome.the-variants.{Refusal}
 use Rattle.text_spec.specs.Lines.{ascii, decimalIn, decimal, numberLine, sheetLine, eventList}

@@ -33,7 +33,7 @@ use Rattle.probes_spec.specs.ProbeLaws.{probe-small}
 use Rattle.probes_spec.specs.FirstMissed.{firstMissed}
 use Rattle.probes_spec.specs.FirstMissedLaws.{missed-found}
 use Rattle.events.specs.Sets.{has}
-use Rattle.refinement.specs.PairTests.{strays, hasStray, firstStray, violating}
+use Rattle.refinement_spec.specs.PairTests.{strays, hasStray, firstStray, violating}
 use Rattle.comparison_spec.specs.declared.Outcome.the-variants.{Refines, Stray, Denied}
 use Rattle.comparison_spec.specs.Comparison.{pairs, nearest, nearestTrace, clearedOf, lastRow, refusalNamed, named, judged, compareFault, outcomeOf, traceAfter}
 use Rattle.text_spec.specs.Lines.{ascii, decimal, numberLine, sheetLine, eventList}

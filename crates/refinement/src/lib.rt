@@ -2,7 +2,7 @@
 // Every function takes every row.
 ghost use mathlib.Core.Path.{_≡_};
 ghost use Rattle.sheet_spec.specs.Kept.{acceptance};
-ghost use Rattle.refinement.specs.PairTests.{strays, covers, hasRefusal, violates};
+ghost use Rattle.refinement_spec.specs.PairTests.{strays, covers, hasRefusal, violates};
 use sheet_spec::Row;
 
 // The events of the device's initials that are not among the reference's.

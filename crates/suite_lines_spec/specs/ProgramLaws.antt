@@ -12,7 +12,7 @@ use borrow.Author.Tests.{eq-eqb, ne-eqb, eqb-true}
 use Rattle.base.specs.Count.{count-le, count-all→, count-all←}
 use Rattle.sheet_spec.specs.declared.Sheet.{Sheet}
 use Rattle.sheet_spec.specs.Rules.{sheetFault}
-use Rattle.refinement.specs.Refinement.{RefinesIn}
+use Rattle.refinement_spec.specs.Refinement.{RefinesIn}
 use Rattle.text_spec.specs.Lines.{ascii, numberLine}
 use Rattle.text_spec.specs.InputLaws.{cut-more}
 use Rattle.verdicts_spec.specs.Suites.{tests, suiteFault, verdictsAfter}

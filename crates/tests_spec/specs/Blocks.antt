@@ -14,9 +14,9 @@ use Rattle.sheet_spec.specs.Kept.{acceptance, acceptances, mayStop}
 use Rattle.sheet_spec.specs.RowLaws.{mayStop-means, acceptances-length, acceptances-at}
 use Rattle.probes_spec.specs.Probes.{probes, Probe, Narrow}
 use Rattle.probes_spec.specs.ProbeLaws.{missed→, missed←, probes-some, choice-probe, probe-chosen, probe-listed}
-use Rattle.refinement.specs.Refinement.{MayRefuse}
-use Rattle.refinement.specs.PairTests.{hasRefusal}
-use Rattle.refinement.specs.PairLaws.{refusal-means}
+use Rattle.refinement_spec.specs.Refinement.{MayRefuse}
+use Rattle.refinement_spec.specs.PairTests.{hasRefusal}
+use Rattle.refinement_spec.specs.PairLaws.{refusal-means}
 use Rattle.tests_spec.specs.Runs.{allEvents, chosen}
 use Rattle.tests_spec.specs.Offers.{all-means, chosen-some}
 

@@ -16,7 +16,7 @@ use Rattle.walks.specs.Pairs.{PairReachedIn, pairReached, pairReached-means}
 use Rattle.sheet_spec.specs.declared.Sheet.{Sheet}
 use Rattle.sheet_spec.specs.Kept.{row, mayStop, step, graph}
 use Rattle.sheet_spec.specs.Sound.{Sound}
-use Rattle.refinement.specs.PairTests.{hasStray, violating}
+use Rattle.refinement_spec.specs.PairTests.{hasStray, violating}
 use Rattle.tests_spec.specs.Verdicts.{failsFrom}
 
 -- a device that may stop where the reference may not, unless traces alone count

@@ -16,10 +16,10 @@ use Rattle.sheet_spec.specs.Kept.{row, acceptance, mayStop, graph}
 use Rattle.sheet_spec.specs.Rules.{sheetFault}
 use Rattle.sheet_spec.specs.RowLaws.{mayStop-means}
 use Rattle.sheet_spec.specs.Sound.{Sound, check-sound}
-use Rattle.refinement.specs.Refinement.{After, Trace, Strays, Overrefuses, TraceRefines, RefinesIn}
-use Rattle.refinement.specs.PairTests.{hasStray, hasRefusal, violating}
-use Rattle.refinement.specs.PairLaws.{violates-means}
-use Rattle.refinement.specs.RefinementLaws.{walk-after, trace-means, after-unique, strays-at, overrefuses-at, violation-means, refines-means, refines-distance}
+use Rattle.refinement_spec.specs.Refinement.{After, Trace, Strays, Overrefuses, TraceRefines, RefinesIn}
+use Rattle.refinement_spec.specs.PairTests.{hasStray, hasRefusal, violating}
+use Rattle.refinement_spec.specs.PairLaws.{violates-means}
+use Rattle.refinement_spec.specs.RefinementLaws.{walk-after, trace-means, after-unique, strays-at, overrefuses-at, violation-means, refines-means, refines-distance}
 use Rattle.tests_spec.specs.declared.Verdict.the-variants.{Passes}
 use Rattle.tests_spec.specs.Verdicts.{FailsTest, failsFrom, verdictOf}
 use Rattle.tests_spec.specs.Blocks.{stop-refusal}

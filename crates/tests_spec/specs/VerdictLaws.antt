@@ -20,9 +20,9 @@ use Rattle.sheet_spec.specs.Rules.{sheetFault}
 use Rattle.sheet_spec.specs.CheckLaws.{further, finally}
 use Rattle.sheet_spec.specs.Sound.{Sound, check-sound}
 use Rattle.probes_spec.specs.Probes.{probes}
-use Rattle.refinement.specs.Refinement.{MayRefuse}
-use Rattle.refinement.specs.PairTests.{hasStray, hasRefusal, violating}
-use Rattle.refinement.specs.PairLaws.{stray-means, violates-means}
+use Rattle.refinement_spec.specs.Refinement.{MayRefuse}
+use Rattle.refinement_spec.specs.PairTests.{hasStray, hasRefusal, violating}
+use Rattle.refinement_spec.specs.PairLaws.{stray-means, violates-means}
 use Rattle.tests_spec.specs.declared.Run.{Run}
 use Rattle.tests_spec.specs.declared.Report.{Report}
 use Rattle.tests_spec.specs.declared.Report.the-variants.{Event, Blocked}

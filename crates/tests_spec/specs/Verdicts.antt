@@ -13,8 +13,8 @@ use Rattle.sheet_spec.specs.declared.Sheet.{Sheet}
 use Rattle.sheet_spec.specs.Kept.{row, successor, mayStop, step}
 use Rattle.sheet_spec.specs.Faults.{Initial}
 use Rattle.sheet_spec.specs.Rules.{pairFault}
-use Rattle.refinement.specs.Refinement.{MayRefuse}
-use Rattle.refinement.specs.PairTests.{hasStray, violating}
+use Rattle.refinement_spec.specs.Refinement.{MayRefuse}
+use Rattle.refinement_spec.specs.PairTests.{hasStray, violating}
 use Rattle.tests_spec.specs.declared.Run.{Run}
 use Rattle.tests_spec.specs.declared.Report.{Report}
 use Rattle.tests_spec.specs.declared.Report.the-variants.{Event, Blocked}

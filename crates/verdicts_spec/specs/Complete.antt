@@ -11,7 +11,7 @@ use lib.ListN.{length, getD}
 use Rattle.sheet_spec.specs.declared.Sheet.{Sheet}
 use Rattle.sheet_spec.specs.Rules.{sheetFault}
 use Rattle.sheet_spec.specs.Sound.{Sound, check-sound}
-use Rattle.refinement.specs.Refinement.{RefinesIn}
+use Rattle.refinement_spec.specs.Refinement.{RefinesIn}
 use Rattle.tests_spec.specs.declared.Verdict.{Verdict}
 use Rattle.tests_spec.specs.declared.Verdict.the-variants.{Passes, Fails, Denied as NoVerdict}
 use Rattle.tests_spec.specs.Verdicts.{FailsTest, verdictFault, verdictOf}

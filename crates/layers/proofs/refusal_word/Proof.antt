@@ -1,7 +1,7 @@
 -- After m turns the first m nodes are looked at.
 use Prim.Native.Nat.{_-_}
 use native.Mathlib.Omega.{arith}
-use Rattle.refinement.specs.PairTests.{hasRefusal}
+use Rattle.refinement_spec.specs.PairTests.{hasRefusal}
 use Rattle.layers.specs.Shapes.{refusalWord, rowIn}
 use Rattle.layers.proofs.Words.{Gathers, none, more, gathered}
 use Rattle.layers.proofs.refusal_word.Statement.{statement}

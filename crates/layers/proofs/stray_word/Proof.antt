@@ -4,7 +4,7 @@ use native.Mathlib.Omega.{arith}
 use mathlib.Core.Bool.{not}
 use lib.Dec.{eqb}
 use lib.ListN.{getD}
-use Rattle.refinement.specs.PairTests.{strays}
+use Rattle.refinement_spec.specs.PairTests.{strays}
 use Rattle.layers.specs.Shapes.{strayWord}
 use Rattle.layers.proofs.Words.{Gathers, none, more, gathered}
 use Rattle.layers.proofs.stray_word.Statement.{statement}

@@ -6,7 +6,7 @@ use native.Mathlib.Omega.{arith}
 use Rattle.base.specs.Range.{any, any←, any-more, any-done}
 use Rattle.sheet_spec.specs.Kept.{acceptance}
 use Rattle.sheet_spec.specs.declared.Row.{Row}
-use Rattle.refinement.specs.PairTests.{covers, hasRefusal}
+use Rattle.refinement_spec.specs.PairTests.{covers, hasRefusal}
 use Rattle.refinement.proofs.has_refusal.Statement.{statement}
 use Rattle.refinement.proofs.has_refusal.Tie as tie
 

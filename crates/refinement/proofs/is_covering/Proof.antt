@@ -7,7 +7,7 @@ use Rattle.base.specs.Range.{any, any←, any-more, any-done}
 use Rattle.sheet_spec.specs.Kept.{acceptance}
 use Rattle.events.specs.Sets.{inside}
 use Rattle.sheet_spec.specs.declared.Row.{Row}
-use Rattle.refinement.specs.PairTests.{covers}
+use Rattle.refinement_spec.specs.PairTests.{covers}
 use Rattle.refinement.proofs.is_covering.Statement.{statement}
 use Rattle.refinement.proofs.is_covering.Tie as tie
 

@@ -1,6 +1,6 @@
 -- `refinement::is_violating` follows its definition, case by case.
 use borrow.Author.Tests.{eq-eqb, ne-eqb}
-use Rattle.refinement.specs.PairTests.{hasStray, violates}
+use Rattle.refinement_spec.specs.PairTests.{hasStray, violates}
 use Rattle.refinement.proofs.is_violating.Statement.{statement}
 use Rattle.refinement.proofs.is_violating.Tie as tie
 

@@ -16,8 +16,8 @@ use Rattle.sheet_spec.specs.declared.Row.{Row}
 use Rattle.sheet_spec.specs.Kept.{acceptance, initials}
 use Rattle.sheet_spec.specs.Faults.{Initial}
 use Rattle.sheet_spec.specs.RuleLaws.{initials→, initials←}
-use Rattle.refinement.specs.Refinement.{MayRefuse}
-use Rattle.refinement.specs.PairTests.{strays, hasStray, firstStray, covers, hasRefusal, violates}
+use Rattle.refinement_spec.specs.Refinement.{MayRefuse}
+use Rattle.refinement_spec.specs.PairTests.{strays, hasStray, firstStray, covers, hasRefusal, violates}
 
 -- a digit of the strays
 strays-digit : (i X Y : ℕ) → bit (strays X Y) i ≡ bit Y i - bit X i

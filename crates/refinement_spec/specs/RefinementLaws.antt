@@ -15,10 +15,10 @@ use Rattle.sheet_spec.specs.Kept.{row, successor, acceptance, step, graph}
 use Rattle.sheet_spec.specs.Faults.{Initial}
 use Rattle.sheet_spec.specs.RuleLaws.{Walk→, Walk←}
 use Rattle.sheet_spec.specs.Sound.{Sound}
-use Rattle.refinement.specs.Refinement.{After, Trace, Does, MayRefuse, Refuses, Strays, Overrefuses}
-use Rattle.refinement.specs.Refinement.{Violation, Refines, TraceViolation, TraceRefines, ViolationIn, RefinesIn}
-use Rattle.refinement.specs.PairTests.{hasStray, hasRefusal, violating}
-use Rattle.refinement.specs.PairLaws.{stray-means, no-refusal-refuses, refused-refusal, refusal-set, violates-means}
+use Rattle.refinement_spec.specs.Refinement.{After, Trace, Does, MayRefuse, Refuses, Strays, Overrefuses}
+use Rattle.refinement_spec.specs.Refinement.{Violation, Refines, TraceViolation, TraceRefines, ViolationIn, RefinesIn}
+use Rattle.refinement_spec.specs.PairTests.{hasStray, hasRefusal, violating}
+use Rattle.refinement_spec.specs.PairLaws.{stray-means, no-refusal-refuses, refused-refusal, refusal-set, violates-means}
 
 module _ {s : Sheet} (o : Sound s) where
   -- a list of events that leads to a node leads to the node of its walk
