@@ -8,10 +8,12 @@ use native.Mathlib.Omega.{arith}
 use native.Mathlib.Numerals.{add-one}
 use Rattle.base.specs.Truth.{dec, clash, lt-or-ge, and-l, and-r, and-i, or-e, or-l, or-r, not-i}
 
+-- some number below the bound passes
 unfoldable pub any : (ℕ → Bool) → ℕ → Bool
 any f zero = false
 any f (suc n) = any f n || f n
 
+-- every number below the bound passes
 unfoldable pub all : (ℕ → Bool) → ℕ → Bool
 all f zero = true
 all f (suc n) = all f n && f n

@@ -1,4 +1,3 @@
-pub mod Sheets
 pub mod Table
 pub mod Runs
 pub mod Text

@@ -18,7 +18,7 @@ use Rattle.tests_spec.specs.declared.Report.the-variants.{Event, Blocked}
 use Rattle.tests_spec.specs.Flags.{flag, flagOf}
 use Rattle.tests_spec.specs.Runs.{allEvents, outside, probesAt, chosen, offerOf, newRun, openFault, openOf, recordOk, eventFault, reportFault, movedBy, endedRun, answerOf, stepOf}
 use Rattle.tests_spec.specs.Verdicts.{CanReport, Failed, deviceAfter, EndsFailed, FailsTest}
-use Rattle.cases.specs.Sheets.{exampleReference, exampleDevice, sheet}
+use Rattle.sheet_spec.specs.Examples.{exampleReference, exampleDevice, sheet}
 
 -- a successor below 255 is a successor
 on : (x : ℕ) → x < 255 → x ≢ 255

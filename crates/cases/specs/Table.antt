@@ -33,9 +33,9 @@ use Rattle.tests_spec.specs.Flags.{flag, flagOf}
 use Rattle.tests_spec.specs.Runs.{allEvents, outside, probesAt, chosen, offerOf, newRun, openFault, openOf, recordOk, eventFault, reportFault, movedBy, endedRun, answerOf, stepOf}
 use Rattle.tests_spec.specs.Verdicts.{failsFrom, verdictFault, verdictOf}
 use Rattle.tests_spec.specs.Numbers.{Said, said, judged}
-use Rattle.comparison_spec.specs.Comparison.{pairs, nearest, nearestTrace, clearedOf, lastRow, refusalNamed, named, judged as judgedPair, compareFault, outcomeOf, traceAfter, workAfter}
+use Rattle.comparison_spec.specs.Comparison.{pairs, nearest, nearestTrace, clearedOf, lastRow, refusalNamed, named, comparisonOf, compareFault, outcomeOf, traceAfter, workAfter}
 use Rattle.comparison_spec.specs.Numbers.{Compared, compared}
-use Rattle.cases.specs.Sheets.{caseSheets, exampleReference, exampleDevice, onlyZero, onlyOne, mayLoop, mustLoop, stopped, sheet}
+use Rattle.sheet_spec.specs.Examples.{caseSheets, exampleReference, exampleDevice, onlyZero, onlyOne, mayLoop, mustLoop, stopped, sheet}
 
 -- a row of the table
 pub data Case : Type 0 where
@@ -71,10 +71,11 @@ answersOf s z (x ∷ xs) = numbers (said (z .answer)) ++ answersOf s (stepOf s (
 unfoldable pub comparedNumbers : Compared → List ℕ
 comparedNumbers a = a .refusal ∷ a .kind ∷ a .d ∷ a .cleared ∷ a .event ∷ a .probe ∷ a .acceptance ∷ []
 
--- the lists lent to a comparison
+-- the work list lent to a comparison
 unfoldable pub work : List ℕ
 work = replicate 28 7
 
+-- and its trace list
 unfoldable pub trace : List ℕ
 trace = replicate 8 9
 
@@ -202,5 +203,5 @@ answers =
 
 -- every row answers what 01 says
 pub cases-hold : map numbersOf table ≡ answers
-unfolding numbersOf table answers lists caseSheets workAfter readNumbers numbers recordNumbers answersOf comparedNumbers work trace sheet exampleReference exampleDevice onlyZero onlyOne mayLoop mustLoop stopped readSheet answer bytesFault headFault lengthField layoutFault nextAt startOf succOf setsOf rowAt rowOf sheetOf graphFault rangesOk countOk countsOk successorsOk rowSuccessorsOk successorOk setsOk rowSetsOk setOk ascends apart blank unusedOk blanksOk reachedOk sheetFault successor acceptance acceptances initials mayStop step bit has inside meets setOf walk nearer leads meetsIn distance later choice leastFrom leastTrace cleared code pairNext product onCodes pairDistance pairTrace pairCleared all any first count upTo hits isProbe gather select probes missing orNext firstMissing firstMissed strays hasStray firstStray covers hasRefusal violates violating allEvents outside probesAt chosen flag flagOf offerOf newRun openFault openOf recordOk eventFault reportFault movedBy endedRun answerOf stepOf failsFrom verdictFault verdictOf said judged pairs nearest nearestTrace clearedOf lastRow refusalNamed named judgedPair compareFault outcomeOf traceAfter compared
+unfolding numbersOf table answers lists caseSheets workAfter readNumbers numbers recordNumbers answersOf comparedNumbers work trace sheet exampleReference exampleDevice onlyZero onlyOne mayLoop mustLoop stopped readSheet answer bytesFault headFault lengthField layoutFault nextAt startOf succOf setsOf rowAt rowOf sheetOf graphFault rangesOk countOk countsOk successorsOk rowSuccessorsOk successorOk setsOk rowSetsOk setOk ascends apart blank unusedOk blanksOk reachedOk sheetFault successor acceptance acceptances initials mayStop step bit has inside meets setOf walk nearer leads meetsIn distance later choice leastFrom leastTrace cleared code pairNext product onCodes pairDistance pairTrace pairCleared all any first count upTo hits isProbe gather select probes missing orNext firstMissing firstMissed strays hasStray firstStray covers hasRefusal violates violating allEvents outside probesAt chosen flag flagOf offerOf newRun openFault openOf recordOk eventFault reportFault movedBy endedRun answerOf stepOf failsFrom verdictFault verdictOf said judged pairs nearest nearestTrace clearedOf lastRow refusalNamed named comparisonOf compareFault outcomeOf traceAfter compared
 cases-hold = refl

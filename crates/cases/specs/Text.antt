@@ -19,12 +19,12 @@ use Rattle.sheet_spec.specs.Reading.{lengthField, headFault, nextAt, layoutFaul
 use Rattle.probes_spec.specs.Probes.{hits, isProbe, gather, select, probes}
 use Rattle.probes_spec.specs.FirstMissed.{missing, orNext, firstMissing, firstMissed}
 use Rattle.refinement_spec.specs.PairTests.{strays, hasStray, firstStray, covers, hasRefusal, violates, violating}
-use Rattle.comparison_spec.specs.Comparison.{pairs, nearest, nearestTrace, clearedOf, lastRow, refusalNamed, named, judged, compareFault, outcomeOf, traceAfter}
+use Rattle.comparison_spec.specs.Comparison.{pairs, nearest, nearestTrace, clearedOf, lastRow, refusalNamed, named, comparisonOf, compareFault, outcomeOf, traceAfter}
 use Rattle.text_spec.specs.Lines.{ascii, decimalIn, decimal, numberLine, sheetLine, eventList}
 use Rattle.text_spec.specs.Input.{cutInput, firstEnd, firstSheet, secondSheet}
-use Rattle.lines_spec.specs.Lines.{violatesLine, traceLine, refusedLine, outcomeLines}
+use Rattle.lines_spec.specs.Lines.{violatesLine, traceLine, refusedProbeLine, outcomeLines}
 use Rattle.lines_spec.specs.Program.{workList, traceList, comparedLines, deviceLines, sheetsLines, inputLines, compareText}
-use Rattle.cases.specs.Sheets.{exampleReference, exampleDevice, mustLoop, stopped}
+use Rattle.sheet_spec.specs.Examples.{exampleReference, exampleDevice, mustLoop, stopped}
 
 -- 01's input
 unfoldable pub exampleInput : List ℕ
@@ -34,13 +34,14 @@ exampleInput = exampleReference ++ exampleDevice
 unfoldable pub exampleText : List ℕ
 exampleText = ascii "reference 2 nodes 2 events\ndevice 3 nodes 2 events\nviolates after 5 cleared 5\ntrace 0 0 0 0 0\nrefused 2 by 1\n"
 
--- inputs and what each of them prints
+-- inputs: 01's example, and a device that may stop where the reference may not
 unfoldable pub inputs : List (List ℕ)
 inputs = exampleInput ∷ (mustLoop ++ stopped) ∷ []
 
+-- what each of them prints
 unfoldable pub texts : List (List ℕ)
 texts = exampleText ∷ ascii "reference 1 nodes 1 events\ndevice 1 nodes 1 events\nviolates after 0 cleared 0\ntrace\nrefused 1 by 0\n" ∷ []
 
 pub texts-hold : map compareText inputs ≡ texts
-unfolding inputs texts exampleInput exampleReference exampleDevice exampleText mustLoop stopped compareText cutInput inputLines firstSheet secondSheet firstEnd lengthField sheetsLines deviceLines comparedLines workList traceList outcomeLines numberLine sheetLine violatesLine eventList traceLine refusedLine decimal decimalIn readSheet answer bytesFault headFault layoutFault nextAt startOf succOf setsOf rowAt rowOf sheetOf graphFault rangesOk countOk countsOk successorOk rowSuccessorsOk successorsOk ascends apart setOk rowSetsOk setsOk blank unusedOk blanksOk reachedOk sheetFault successor acceptance acceptances initials step bit setOf has inside meets nearer leads walk all any first upTo count outcomeOf traceAfter compareFault judged named refusalNamed lastRow clearedOf nearestTrace nearest pairs pairDistance pairTrace pairCleared onCodes product pairNext code cleared meetsIn distance later choice leastFrom leastTrace strays hasStray firstStray covers hasRefusal violates violating hits isProbe gather select probes missing orNext firstMissing firstMissed
+unfolding inputs texts exampleInput exampleReference exampleDevice exampleText mustLoop stopped compareText cutInput inputLines firstSheet secondSheet firstEnd lengthField sheetsLines deviceLines comparedLines workList traceList outcomeLines numberLine sheetLine violatesLine eventList traceLine refusedProbeLine decimal decimalIn readSheet answer bytesFault headFault layoutFault nextAt startOf succOf setsOf rowAt rowOf sheetOf graphFault rangesOk countOk countsOk successorOk rowSuccessorsOk successorsOk ascends apart setOk rowSetsOk setsOk blank unusedOk blanksOk reachedOk sheetFault successor acceptance acceptances initials step bit setOf has inside meets nearer leads walk all any first upTo count outcomeOf traceAfter compareFault comparisonOf named refusalNamed lastRow clearedOf nearestTrace nearest pairs pairDistance pairTrace pairCleared onCodes product pairNext code cleared meetsIn distance later choice leastFrom leastTrace strays hasStray firstStray covers hasRefusal violates violating hits isProbe gather select probes missing orNext firstMissing firstMissed
 texts-hold = refl

@@ -68,6 +68,7 @@ pub record Violated (traceOnly : Bool) (P Q : Sheet) (o : Outcome) (after : List
   -- demand 2: the whole answer, with what is named, is the one that 01 describes
   pub describes : Describes traceOnly P Q o (take d after)
 
+-- all that is claimed of two sheets; `Demand3` claims it of every two that are accepted
 pub record Claim (traceOnly : Bool) (P Q : Sheet) : Type 0 where
   -- demand 3: if there is a violation, one has fewer than p q events
   pub near : (t : List ℕ) → ViolationIn traceOnly P Q t → (s : List ℕ) × (length s < P .n * Q .n) × ViolationIn traceOnly P Q s

@@ -25,11 +25,11 @@ use Rattle.tests_spec.specs.VerdictLaws.{fails-means, verdict-means, verdict-pa
 use Rattle.tests_spec.specs.TestLaws.{verdicts-complete, first-failing, single-test}
 use Rattle.comparison_spec.specs.declared.Outcome.{Outcome}
 use Rattle.comparison_spec.specs.declared.Outcome.the-variants.{Refines, Stray, Refusal, Denied}
-use Rattle.comparison_spec.specs.Comparison.{pairs, nearest, nearestTrace, judged, compareFault, outcomeOf, traceAfter}
+use Rattle.comparison_spec.specs.Comparison.{pairs, nearest, nearestTrace, comparisonOf, compareFault, outcomeOf, traceAfter}
 use Rattle.comparison_spec.specs.Numbers.{compared}
 use Rattle.comparison_spec.specs.Meaning.{ReachedBefore, ReachedEver, Number, Nearest, FirstRefused, Describes, refines, stray, refusal}
 use Rattle.comparison_spec.specs.ComparisonLaws.{trace-length, nearest-below, nearest-only, refines-nearest}
-use Rattle.comparison_spec.specs.OutcomeLaws.{traceOf, judged-describes}
+use Rattle.comparison_spec.specs.OutcomeLaws.{traceOf, comparison-describes}
 use Rattle.comparison_spec.specs.CallLaws.{compare-fits, given-outcome, given-trace}
 use Rattle.claim.specs.Claim.{Accepted, LongEnough, Witness, by-stray, by-refusal, Reports, stray-reports, refusal-reports, Violated, Demand3}
 
@@ -62,7 +62,7 @@ module _ (P Q : Sheet) (accP : sheetFault P ≡ 0) (accQ : sheetFault Q ≡ 0) (
   unfolding pairs
   fits work trace l = compare-fits P Q work trace accP accQ same (l .0) (l .1)
 
-  given : (work trace : List ℕ) → LongEnough P Q work trace → outcomeOf to P Q work trace ≡ judged to P Q
+  given : (work trace : List ℕ) → LongEnough P Q work trace → outcomeOf to P Q work trace ≡ comparisonOf to P Q
   given work trace l = given-outcome P Q work trace to (fits work trace l)
 
   -- an answer that is described is not a refusal, and "refines" only if the device does
@@ -152,7 +152,7 @@ module _ (P Q : Sheet) (accP : sheetFault P ≡ 0) (accQ : sheetFault Q ≡ 0) (
       go (inr k) = absurd (n (refines-nearest op oq same to .1 k))
 
   described : (work trace : List ℕ) → LongEnough P Q work trace → Describes to P Q (outcomeOf to P Q work trace) (traceOf to P Q)
-  described work trace l = rw (given work trace l) (judged-describes op oq same to)
+  described work trace l = rw (given work trace l) (comparison-describes op oq same to)
 
   -- "refines" is said exactly if the device refines the reference
   says-refines : (work trace : List ℕ) → LongEnough P Q work trace → ((c : ℕ) × (outcomeOf to P Q work trace ≡ Refines c)) ↔ RefinesIn to P Q

@@ -25,7 +25,7 @@ use Rattle.sheet_spec.specs.Sound.{Sound, check-sound}
 use Rattle.refinement_spec.specs.PairTests.{violating}
 use Rattle.comparison_spec.specs.declared.Outcome.{Outcome}
 use Rattle.comparison_spec.specs.declared.Outcome.the-variants.{Denied}
-use Rattle.comparison_spec.specs.Comparison.{pairs, nearest, nearestTrace, clearedOf, lastRow, judged, compareFault, traceAfter}
+use Rattle.comparison_spec.specs.Comparison.{pairs, nearest, nearestTrace, clearedOf, lastRow, comparisonOf, compareFault, traceAfter}
 use Rattle.comparison_spec.specs.Numbers.{compared}
 use Rattle.comparison_spec.specs.CallLaws.{compare-0, denied-outcome, denied-trace, denied-work, given-outcome, given-trace, given-no-trace, given-work}
 use Rattle.search_spec.specs.declared.Found.{Found}
@@ -84,11 +84,11 @@ module _ (traceOnly : Bool) (P Q : Sheet) (op : Sound P) (oq : Sound Q) where
   same-trace l = trace-same (op .graphed) (oq .graphed) table (violating traceOnly P Q) (bad-agree traceOnly P Q) (rw same-distance l)
 
   -- the answer that follows from what is found is the definition's
-  pub found-told : told P Q (foundOf (graph P) (graph Q) table) ≡ judged traceOnly P Q
-  unfolding told foundOf judged clearedOf lastRow pairs
+  pub found-told : told P Q (foundOf (graph P) (graph Q) table) ≡ comparisonOf traceOnly P Q
+  unfolding told foundOf comparisonOf clearedOf lastRow pairs
   found-told = go (lt-or-ge (nearest traceOnly P Q) (P .n * Q .n))
     where
-      go : (nearest traceOnly P Q < P .n * Q .n) ⊎ (P .n * Q .n ≤ nearest traceOnly P Q) → told P Q (foundOf (graph P) (graph Q) table) ≡ judged traceOnly P Q
+      go : (nearest traceOnly P Q < P .n * Q .n) ⊎ (P .n * Q .n ≤ nearest traceOnly P Q) → told P Q (foundOf (graph P) (graph Q) table) ≡ comparisonOf traceOnly P Q
       go (inl l) = rw (same-distance, lt-ltb (nearest traceOnly P Q) (P .n * Q .n) l, same-trace l)
       go (inr l) = rw (same-distance, le-ltb (nearest traceOnly P Q) (P .n * Q .n) l, pairCleared-more (op .graphed) (oq .graphed) (nearest traceOnly P Q) l)
 

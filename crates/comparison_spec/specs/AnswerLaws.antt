@@ -14,13 +14,13 @@ use Rattle.comparison_spec.specs.declared.Outcome.the-variants.{Refines}
 use Rattle.comparison_spec.specs.Comparison.{pairs, nearest, nearestTrace, clearedOf, compareFault, outcomeOf, traceAfter}
 use Rattle.comparison_spec.specs.Meaning.{Describes}
 use Rattle.comparison_spec.specs.ComparisonLaws.{trace-length}
-use Rattle.comparison_spec.specs.OutcomeLaws.{traceOf, judged-describes, describes-only, judged-self}
+use Rattle.comparison_spec.specs.OutcomeLaws.{traceOf, comparison-describes, describes-only, comparison-self}
 use Rattle.comparison_spec.specs.CallLaws.{compare-fits, given-outcome, given-trace}
 
 -- a sheet that is not refused, compared with itself with lists that are long enough, refines
 pub outcome-self : (to : Bool) (s : Sheet) → sheetFault s ≡ 0 → (work trace : List ℕ) → 3 * pairs s s ≤ length work → pairs s s - 1 ≤ length trace
     → outcomeOf to s s work trace ≡ Refines (clearedOf to s s)
-outcome-self to s h work trace l k = given-outcome s s work trace to (compare-fits s s work trace h h refl l k) ∙ judged-self (check-sound s h) to
+outcome-self to s h work trace l k = given-outcome s s work trace to (compare-fits s s work trace h h refl l k) ∙ comparison-self (check-sound s h) to
 
 module _ (to : Bool) (P Q : Sheet) (accP : sheetFault P ≡ 0) (accQ : sheetFault Q ≡ 0) (same : P .e ≡ Q .e) (work trace : List ℕ) (z : compareFault P Q work trace ≡ 0) where
   op : Sound P
@@ -31,15 +31,15 @@ module _ (to : Bool) (P Q : Sheet) (accP : sheetFault P ≡ 0) (accQ : sheetFaul
 
   -- the answer, with the trace, is what 01 describes
   pub outcome-describes : Describes to P Q (outcomeOf to P Q work trace) (traceOf to P Q)
-  outcome-describes = rw (given-outcome P Q work trace to z) (judged-describes op oq same to)
+  outcome-describes = rw (given-outcome P Q work trace to z) (comparison-describes op oq same to)
 
   -- whatever 01 describes is that answer; and its trace, where there is a violation, is the front of the trace list
   pub outcome-only : (o : Outcome) (t : List ℕ) → Describes to P Q o t → o ≡ outcomeOf to P Q work trace
   outcome-only o t d = describes-only op oq same to o t d .0 ∙ sym (given-outcome P Q work trace to z)
 
-  pub trace-only : (o : Outcome) (t : List ℕ) → Describes to P Q o t → nearest to P Q < pairs P Q → t ≡ take (nearest to P Q) (traceAfter to P Q work trace)
+  pub trace-unique : (o : Outcome) (t : List ℕ) → Describes to P Q o t → nearest to P Q < pairs P Q → t ≡ take (nearest to P Q) (traceAfter to P Q work trace)
   unfolding traceOf
-  trace-only o t d l =
+  trace-unique o t d l =
       describes-only op oq same to o t d .1
       ∙ rw (lt-ltb (nearest to P Q) (pairs P Q) l, given-trace P Q work trace to z l)
       (sym (take-at (nearestTrace to P Q) (drop (nearest to P Q) trace) (nearest to P Q) (trace-length op oq same to)))

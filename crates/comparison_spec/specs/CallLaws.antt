@@ -9,14 +9,15 @@ use lib.Dec.{eqb, leb}
 use lib.ListN.{length, getD, drop, replicate, length-replicate, getD-replicate, List·getD-append}
 use lib.Seq.{getD-append-add, getD-drop}
 use borrow.Author.Tests.{eq-eqb, ne-eqb, lt-ltb, le-ltb}
-use Rattle.base.specs.Finds.{finds-eq, finds-le}
-use Rattle.base.specs.Refusal.{unless, orElse, unless-hit, unless-pass, unless-none, unless-other, orElse-some, orElse-then}
+use Rattle.base.specs.Finds.{finds-le}
+use Rattle.base.specs.Refusal.{unless, unless-hit, unless-pass, unless-none, unless-other}
 use Rattle.sheet_spec.specs.declared.Sheet.{Sheet}
 use Rattle.sheet_spec.specs.Rules.{sheetFault}
-use Rattle.sheet_spec.specs.CheckLaws.{check-below, further, finally}
+use Rattle.sheet_spec.specs.CheckLaws.{further, finally}
+use Rattle.sheet_spec.specs.PairFaults.{BothAccepted, pair-reference, pair-device, pair-11, pair-rest}
 use Rattle.comparison_spec.specs.declared.Outcome.the-variants.{Denied}
 use Rattle.comparison_spec.specs.Numbers.{compared}
-use Rattle.comparison_spec.specs.Comparison.{pairs, nearest, nearestTrace, judged, compareFault, outcomeOf, traceAfter, workAfter}
+use Rattle.comparison_spec.specs.Comparison.{pairs, nearest, nearestTrace, comparisonOf, compareFault, outcomeOf, traceAfter, workAfter}
 
 -- behind a front of zeros the list is as it was
 past-zeros : (n : ℕ) (w : List ℕ) (x : ℕ) → getD (replicate n 0 ++ drop n w) (n + x) 0 ≡ getD w (n + x) 0
@@ -25,50 +26,42 @@ past-zeros n w x =
     (getD-append-add (replicate n 0) (drop n w) x 0 ∙ getD-drop n w x 0)
 
 module _ (P Q : Sheet) (work trace : List ℕ) where
-  -- neither sheet is refused
-  abbrev pub Accepted : Type 0
-  Accepted = (sheetFault P ≡ 0) × (sheetFault Q ≡ 0)
-
-  -- what is tested after the sheets, after 11 and after 12
+  -- what is tested after 12
   abbrev after12 : ℕ
   after12 = unless (leb (pairs P Q - 1) (length trace)) 13 0
 
+  -- what is tested after 11
   abbrev after11 : ℕ
   after11 = unless (leb (3 * pairs P Q) (length work)) 12 after12
-
-  abbrev afterSheets : ℕ
-  afterSheets = unless (eqb (P .e) (Q .e)) 11 after11
 
   -- the reference's own refusal comes first, then the device's
   pub compare-reference : sheetFault P ≢ 0 → compareFault P Q work trace ≡ sheetFault P
   unfolding compareFault
-  compare-reference n = orElse-some (sheetFault P) _ (omega (arith, n))
+  compare-reference = pair-reference P Q after11
 
   pub compare-device : sheetFault P ≡ 0 → sheetFault Q ≢ 0 → compareFault P Q work trace ≡ sheetFault Q
   unfolding compareFault
-  compare-device z n = rw z (orElse-some (sheetFault Q) _ (omega (arith, n)))
+  compare-device = pair-device P Q after11
 
-  -- a number above 8, or none, comes from what is tested after the sheets
-  past-sheets : (m : ℕ) → (8 < m) ⊎ (m ≡ 0) → (compareFault P Q work trace ≡ m) ↔ (Accepted × (afterSheets ≡ m))
+  -- 11: of sheets that are not refused, E differs
+  pub compare-11 : (compareFault P Q work trace ≡ 11) ↔ (BothAccepted P Q × (P .e ≢ Q .e))
   unfolding compareFault
-  past-sheets m h = further (orElse-then (sheetFault P) (orElse (sheetFault Q) afterSheets) m (own (sheetFault P) (check-below P) h))
-      (λ z. orElse-then (sheetFault Q) afterSheets m (own (sheetFault Q) (check-below Q) h))
-    where
-      own : (k : ℕ) → k ≤ 8 → (8 < m) ⊎ (m ≡ 0) → (k ≢ m) ⊎ (m ≡ 0)
-      own k l (inl p) = inl (λ e. omega arith)
-      own k l (inr p) = inr p
+  compare-11 =
+      pair-11 P Q after11
+      (unless-other (leb (3 * pairs P Q) (length work)) (λ p. omega arith) (unless-other (leb (pairs P Q - 1) (length trace)) (λ p. omega arith) (λ p. omega arith)))
 
-  pub compare-11 : (compareFault P Q work trace ≡ 11) ↔ (Accepted × (P .e ≢ Q .e))
-  compare-11 = finally (past-sheets 11 (inl (omega arith)))
-      (λ f. unless-hit 11 after11 (finds-eq (P .e) (Q .e)) (unless-other (leb (3 * pairs P Q) (length work)) (λ p. omega arith) (unless-other (leb (pairs P Q - 1) (length trace)) (λ p. omega arith) (λ p. omega arith))))
-
-  pub compare-12 : (compareFault P Q work trace ≡ 12) ↔ ((Accepted × (¬ (P .e ≢ Q .e))) × (length work < 3 * pairs P Q))
-  compare-12 = finally (further (past-sheets 12 (inl (omega arith))) (λ f. unless-pass 11 after11 12 (finds-eq (P .e) (Q .e)) (λ p. omega arith)))
+  -- 12: .. E does not differ, and the work list is too short
+  pub compare-12 : (compareFault P Q work trace ≡ 12) ↔ ((BothAccepted P Q × (¬ (P .e ≢ Q .e))) × (length work < 3 * pairs P Q))
+  unfolding compareFault
+  compare-12 =
+      finally (pair-rest P Q after11 12 (inl (omega arith)) (λ p. omega arith))
       (λ f. unless-hit 12 after12 (finds-le (3 * pairs P Q) (length work)) (unless-other (leb (pairs P Q - 1) (length trace)) (λ p. omega arith) (λ p. omega arith)))
 
   -- a work list that is long enough, once the sheets may be paired
-  past-12 : (m : ℕ) → (12 < m) ⊎ (m ≡ 0) → (compareFault P Q work trace ≡ m) ↔ (((Accepted × (¬ (P .e ≢ Q .e))) × (¬ (length work < 3 * pairs P Q))) × (after12 ≡ m))
-  past-12 m h = further (further (past-sheets m (wide h)) (λ f. unless-pass 11 after11 m (finds-eq (P .e) (Q .e)) (not-it 11 (omega arith) (omega arith) h)))
+  past-12 : (m : ℕ) → (12 < m) ⊎ (m ≡ 0) → (compareFault P Q work trace ≡ m) ↔ (((BothAccepted P Q × (¬ (P .e ≢ Q .e))) × (¬ (length work < 3 * pairs P Q))) × (after12 ≡ m))
+  unfolding compareFault
+  past-12 m h =
+      further (pair-rest P Q after11 m (wide h) (not-it 11 (omega arith) (omega arith) h))
       (λ f. unless-pass 12 after12 m (finds-le (3 * pairs P Q) (length work)) (not-it 12 (omega arith) (omega arith) h))
     where
       wide : (12 < m) ⊎ (m ≡ 0) → (8 < m) ⊎ (m ≡ 0)
@@ -79,10 +72,12 @@ module _ (P Q : Sheet) (work trace : List ℕ) where
       not-it k z l (inl p) e = omega arith
       not-it k z l (inr p) e = omega arith
 
-  pub compare-13 : (compareFault P Q work trace ≡ 13) ↔ (((Accepted × (¬ (P .e ≢ Q .e))) × (¬ (length work < 3 * pairs P Q))) × (length trace < pairs P Q - 1))
+  -- 13: .. and the trace list is too short
+  pub compare-13 : (compareFault P Q work trace ≡ 13) ↔ (((BothAccepted P Q × (¬ (P .e ≢ Q .e))) × (¬ (length work < 3 * pairs P Q))) × (length trace < pairs P Q - 1))
   compare-13 = finally (past-12 13 (inl (omega arith))) (λ f. unless-hit 13 0 (finds-le (pairs P Q - 1) (length trace)) (λ p. omega arith))
 
-  pub compare-0 : (compareFault P Q work trace ≡ 0) ↔ (((Accepted × (¬ (P .e ≢ Q .e))) × (¬ (length work < 3 * pairs P Q))) × (¬ (length trace < pairs P Q - 1)))
+  -- none: .. and it is long enough
+  pub compare-0 : (compareFault P Q work trace ≡ 0) ↔ (((BothAccepted P Q × (¬ (P .e ≢ Q .e))) × (¬ (length work < 3 * pairs P Q))) × (¬ (length trace < pairs P Q - 1)))
   compare-0 = finally (past-12 0 (inr refl)) (λ f. unless-none 13 (finds-le (pairs P Q - 1) (length trace)) (λ p. omega arith))
 
   -- two sheets that are not refused, with equal event counts and lists that are long enough
@@ -104,7 +99,7 @@ module _ (P Q : Sheet) (work trace : List ℕ) where
     denied-work n = rw (ne-eqb (compareFault P Q work trace) 0 n)
 
     -- without one the answer is the comparison's, the trace fills the front of its list, and the work list's front is 0
-    pub given-outcome : compareFault P Q work trace ≡ 0 → outcomeOf to P Q work trace ≡ judged to P Q
+    pub given-outcome : compareFault P Q work trace ≡ 0 → outcomeOf to P Q work trace ≡ comparisonOf to P Q
     unfolding outcomeOf
     given-outcome z = rw (eq-eqb (compareFault P Q work trace) 0 z)
 

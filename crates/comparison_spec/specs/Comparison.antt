@@ -52,8 +52,8 @@ named d cleared e r q =
     cond (hasStray e r q) (Stray d cleared (firstStray e r q)) (refusalNamed d cleared (firstMissed (acceptances r) e (acceptances q)))
 
 -- "refines", or "violates" with d
-unfoldable pub judged : Bool → Sheet → Sheet → Outcome
-judged traceOnly P Q =
+unfoldable pub comparisonOf : Bool → Sheet → Sheet → Outcome
+comparisonOf traceOnly P Q =
     cond (ltb (nearest traceOnly P Q) (pairs P Q))
     (named (nearest traceOnly P Q) (clearedOf traceOnly P Q) (P .e) (lastRow traceOnly P Q P) (lastRow traceOnly P Q Q))
     (Refines (clearedOf traceOnly P Q))
@@ -69,7 +69,7 @@ compareFault P Q work trace =
 -- the answer
 unfoldable pub outcomeOf : Bool → Sheet → Sheet → List ℕ → List ℕ → Outcome
 outcomeOf traceOnly P Q work trace =
-    cond (eqb (compareFault P Q work trace) 0) (judged traceOnly P Q) (Denied (compareFault P Q work trace))
+    cond (eqb (compareFault P Q work trace) 0) (comparisonOf traceOnly P Q) (Denied (compareFault P Q work trace))
 
 -- the trace list at exit: the trace fills its front and the rest is untouched; untouched where there is none or the call is refused
 unfoldable pub traceAfter : Bool → Sheet → Sheet → List ℕ → List ℕ → List ℕ

@@ -16,6 +16,7 @@ pub record Compared : Type 0 where
   pub probe : ℕ
   pub acceptance : ℕ
 
+-- the numbers of an answer
 unfoldable pub compared : Outcome → Compared
 compared (Refines c) = record { refusal = 0; kind = 1; d = 0; cleared = c; event = 0; probe = 0; acceptance = 0 }
 compared (Stray d c i) = record { refusal = 0; kind = 2; d = d; cleared = c; event = i; probe = 0; acceptance = 0 }

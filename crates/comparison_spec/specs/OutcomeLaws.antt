@@ -27,7 +27,7 @@ use Rattle.refinement_spec.specs.PairLaws.{stray-means, firstStray-means, first
 use Rattle.refinement_spec.specs.RefinementLaws.{after-walk, after-unique, strays-at, violation-means, refines-self}
 use Rattle.comparison_spec.specs.declared.Outcome.{Outcome}
 use Rattle.comparison_spec.specs.declared.Outcome.the-variants.{Refines, Stray, Refusal}
-use Rattle.comparison_spec.specs.Comparison.{pairs, nearest, nearestTrace, clearedOf, lastRow, refusalNamed, named, judged}
+use Rattle.comparison_spec.specs.Comparison.{pairs, nearest, nearestTrace, clearedOf, lastRow, refusalNamed, named, comparisonOf}
 use Rattle.comparison_spec.specs.Meaning.{ReachedBefore, ReachedEver, Number, SmallestStray, FirstRefusedAt, Describes, refines, stray, refusal}
 use Rattle.comparison_spec.specs.RefusedLaws.{refused→, refused←}
 use Rattle.comparison_spec.specs.ComparisonLaws.{cleared-before, cleared-ever, nearest-below, nearest-is, nearest-only, trace-violates, refines-nearest}
@@ -139,9 +139,9 @@ module _ {P Q : Sheet} (op : Sound P) (oq : Sound Q) (same : P .e ≡ Q .e) wher
             (λ x. clash (strays-at op oq same (nearestTrace to P Q) v w a b .0 x) s))
 
     -- the answer of the definition, with its trace, is what 01 describes
-    pub judged-describes : Describes to P Q (judged to P Q) (traceOf to P Q)
-    unfolding judged traceOf
-    judged-describes = go (lt-or-ge (nearest to P Q) (pairs P Q))
+    pub comparison-describes : Describes to P Q (comparisonOf to P Q) (traceOf to P Q)
+    unfolding comparisonOf traceOf
+    comparison-describes = go (lt-or-ge (nearest to P Q) (pairs P Q))
       where
         go : (nearest to P Q < pairs P Q) ⊎ (pairs P Q ≤ nearest to P Q)
             → Describes to P Q (cond (ltb (nearest to P Q) (pairs P Q)) (named (nearest to P Q) (clearedOf to P Q) (P .e) (lastRow to P Q P) (lastRow to P Q Q)) (Refines (clearedOf to P Q)))
@@ -156,16 +156,16 @@ module _ {P Q : Sheet} (op : Sound P) (oq : Sound Q) (same : P .e ≡ Q .e) wher
 
     -- an answer that is named at the end of the nearest violation is the definition's
     found : (d c : ℕ) (u : List ℕ) → nearest to P Q < pairs P Q → (d ≡ nearest to P Q) × (u ≡ nearestTrace to P Q) → pairCleared (graph P) (graph Q) d ≡ c
-        → (v w : ℕ) → After P u v → After Q u w → (o : Outcome) → named d c (P .e) (row P v) (row Q w) ≡ o → (o ≡ judged to P Q) × (u ≡ traceOf to P Q)
-    unfolding judged traceOf clearedOf
+        → (v w : ℕ) → After P u v → After Q u w → (o : Outcome) → named d c (P .e) (row P v) (row Q w) ≡ o → (o ≡ comparisonOf to P Q) × (u ≡ traceOf to P Q)
+    unfolding comparisonOf traceOf clearedOf
     found d c u l y q v w a b o e =
         let p = last-row P op v (rw (y .1) at a) in
         let r = last-row Q oq w (rw (y .1) at b) in
         (rw (lt-ltb (nearest to P Q) (pairs P Q) l, p, r, ← y .0, q) (sym e), rw (lt-ltb (nearest to P Q) (pairs P Q) l) (y .1))
 
     -- whatever 01 describes is that answer, with that trace
-    pub describes-only : (o : Outcome) (t : List ℕ) → Describes to P Q o t → (o ≡ judged to P Q) × (t ≡ traceOf to P Q)
-    unfolding judged traceOf
+    pub describes-only : (o : Outcome) (t : List ℕ) → Describes to P Q o t → (o ≡ comparisonOf to P Q) × (t ≡ traceOf to P Q)
+    unfolding comparisonOf traceOf
     describes-only o t (refines c r n) =
         let l = refines-nearest op oq same to .0 r in
         let e : c ≡ clearedOf to P Q = unfold clearedOf pairs in sym (cleared-ever op oq same (nearest to P Q) c (unfold pairs in l) .1 n) in
@@ -190,6 +190,6 @@ module _ {P Q : Sheet} (op : Sound P) (oq : Sound Q) (same : P .e ≡ Q .e) wher
         found d c u (nearest-below op oq same to u (w .violates)) y q (x .0 .0) (x .1 .0) (x .0 .1) (x .1 .1) (Refusal d c X A) e
 
 -- a sheet compared with itself refines
-pub judged-self : {s : Sheet} → Sound s → (to : Bool) → judged to s s ≡ Refines (clearedOf to s s)
-unfolding judged
-judged-self {s} o to = rw (le-ltb (nearest to s s) (pairs s s) (refines-nearest o o refl to .0 (refines-self to s)))
+pub comparison-self : {s : Sheet} → Sound s → (to : Bool) → comparisonOf to s s ≡ Refines (clearedOf to s s)
+unfolding comparisonOf
+comparison-self {s} o to = rw (le-ltb (nearest to s s) (pairs s s) (refines-nearest o o refl to .0 (refines-self to s)))

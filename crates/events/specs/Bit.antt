@@ -93,10 +93,11 @@ bit-high zero i X h l = let e : X ≡ 0 = omega arith in rw e (bits-zero i)
 bit-high (suc k) zero X h l = absurd (omega arith)
 bit-high (suc k) (suc i) X h l = bit·suc X i ∙ bit-high k i (X / 2) (omega arith) (omega arith)
 
--- X is included in Y; X and Y have no event in common
+-- X is included in Y
 abbrev pub Within : ℕ → ℕ → Type 0
 Within X Y = (i : ℕ) → bit X i ≤ bit Y i
 
+-- X and Y have no event in common
 abbrev pub Apart : ℕ → ℕ → Type 0
 Apart X Y = (i : ℕ) → bit X i + bit Y i ≤ 1
 

@@ -1,7 +1,7 @@
 // The first line of the programs `show` and `probe_list`: the size of an accepted sheet, or the refusal of another with its meaning. A
 // function takes the list and the place where the line begins and answers the place after it; what has no room is left out.
 ghost use Rattle.text_spec.specs.Adds.{Adds};
-ghost use Rattle.node_lines_spec.specs.Head.{refusalWords, refusedLine, headLine};
+ghost use Rattle.node_lines_spec.specs.Head.{refusalWords, refusedSheetLine, headLine};
 use sheet_spec::ReadSheet;
 
 // Puts what the number of a sheet's refusal means.
@@ -37,7 +37,7 @@ fn put_meaning(out: &mut [u8], at: usize, k: u8) -> usize
 
 // Puts the line of a refused sheet.
 fn put_refused_line(out: &mut [u8], at: usize, k: u8) -> usize
-    ensures { λ r. ⌜ Adds (refusedLine k) (now (out .entry)) at (now (out .exit)) r ⌝ }
+    ensures { λ r. ⌜ Adds (refusedSheetLine k) (now (out .entry)) at (now (out .exit)) r ⌝ }
 {
     let a = text::put(out, at, b"sheet refused ");
     let b = text::put_number(out, a, k as u16);

@@ -1,7 +1,7 @@
 // The text of the program `compare` (01, "The program `compare`"): every byte that it prints, from the bytes that it reads.
 ghost use mathlib.Core.Path.{_≡_};
 ghost use Rattle.text_spec.specs.Adds.{Adds};
-ghost use Rattle.lines_spec.specs.Lines.{violatesLine, traceLine, refusedLine, outcomeLines};
+ghost use Rattle.lines_spec.specs.Lines.{violatesLine, traceLine, refusedProbeLine, outcomeLines};
 ghost use Rattle.lines_spec.specs.Program.{comparedLines, deviceLines, sheetsLines, inputLines, compareText, keptText};
 use comparison_spec::Outcome;
 use lines_spec::Text;
@@ -30,7 +30,7 @@ fn put_trace_line(out: &mut [u8], at: usize, trace: &[u8]) -> usize
 
 // Puts the line of a refusal: the probe and the acceptance.
 fn put_refused_line(out: &mut [u8], at: usize, probe: u16, acceptance: u16) -> usize
-    ensures { λ r. ⌜ Adds (refusedLine probe acceptance) (now (out .entry)) at (now (out .exit)) r ⌝ }
+    ensures { λ r. ⌜ Adds (refusedProbeLine probe acceptance) (now (out .entry)) at (now (out .exit)) r ⌝ }
 {
     let a = text::put(out, at, b"refused ");
     let b = text::put_number(out, a, probe);

@@ -35,12 +35,12 @@ use Rattle.probes_spec.specs.FirstMissedLaws.{missed-found}
 use Rattle.events.specs.Sets.{has}
 use Rattle.refinement_spec.specs.PairTests.{strays, hasStray, firstStray, violating}
 use Rattle.comparison_spec.specs.declared.Outcome.the-variants.{Refines, Stray, Denied}
-use Rattle.comparison_spec.specs.Comparison.{pairs, nearest, nearestTrace, clearedOf, lastRow, refusalNamed, named, judged, compareFault, outcomeOf, traceAfter}
+use Rattle.comparison_spec.specs.Comparison.{pairs, nearest, nearestTrace, clearedOf, lastRow, refusalNamed, named, comparisonOf, compareFault, outcomeOf, traceAfter}
 use Rattle.text_spec.specs.Lines.{ascii, decimal, numberLine, sheetLine, eventList}
 use Rattle.text_spec.specs.DecimalLaws.{decimal-few}
 use Rattle.text_spec.specs.Input.{cutInput, firstSheet, secondSheet}
 use Rattle.text_spec.specs.LengthLaws.{number-length, sheet-length}
-use Rattle.lines_spec.specs.Lines.{violatesLine, traceLine, refusedLine, outcomeLines}
+use Rattle.lines_spec.specs.Lines.{violatesLine, traceLine, refusedProbeLine, outcomeLines}
 use Rattle.lines_spec.specs.Program.{workList, traceList, comparedLines, deviceLines, sheetsLines, inputLines, compareText}
 
 -- each line, by the digits of its numbers
@@ -57,8 +57,8 @@ violates-length d c h k =
       decimal-few 3 c k,
     )
 
-refused-length : (p a : ℕ) → p < 10000 → a < 10000 → length (refusedLine p a) ≤ 21
-unfolding refusedLine
+refused-length : (p a : ℕ) → p < 10000 → a < 10000 → length (refusedProbeLine p a) ≤ 21
+unfolding refusedProbeLine
 refused-length p a h k =
     omega (
       arith,
@@ -190,13 +190,13 @@ module _ (P Q : Sheet) (hP : sheetFault P ≡ 0) (hQ : sheetFault Q ≡ 0) where
       go true m e =
           three-length d c (traceLine (take d t)) (numberLine (ascii "stray ") (firstStray (P .e) r q)) h k s
           (omega (arith, number-length (ascii "stray ") 1 (firstStray (P .e) r q) (stray-small (P .e) r q)))
-      go false Nothing e = three-length d c (traceLine (take d t)) (refusedLine 0 0) h k s (refused-length 0 0 (omega arith) (omega arith))
+      go false Nothing e = three-length d c (traceLine (take d t)) (refusedProbeLine 0 0) h k s (refused-length 0 0 (omega arith) (omega arith))
       go false (Found p a) e =
           let w = found-small r q narrow p a e in
-          three-length d c (traceLine (take d t)) (refusedLine p a) h k s (refused-length p a (w .0) (w .1))
+          three-length d c (traceLine (take d t)) (refusedProbeLine p a) h k s (refused-length p a (w .0) (w .1))
 
   compared-length : length (comparedLines P Q) ≤ 3129
-  unfolding comparedLines outcomeOf traceAfter judged outcomeLines
+  unfolding comparedLines outcomeOf traceAfter comparisonOf outcomeLines
   compared-length = go (eqb k 0) (ltb (nearest false P Q) (pairs P Q)) refl
     where
       k : ℕ

@@ -15,12 +15,12 @@ unfoldable pub traceLine : List ℕ → List ℕ
 traceLine t = ascii "trace" ++ (eventList t ++ ascii "\n")
 
 -- `refused x by a`: the probe and the acceptance as numbers
-unfoldable pub refusedLine : ℕ → ℕ → List ℕ
-refusedLine probe acceptance = ascii "refused " ++ (decimal probe ++ (ascii " by " ++ (decimal acceptance ++ ascii "\n")))
+unfoldable pub refusedProbeLine : ℕ → ℕ → List ℕ
+refusedProbeLine probe acceptance = ascii "refused " ++ (decimal probe ++ (ascii " by " ++ (decimal acceptance ++ ascii "\n")))
 
 -- the lines of a comparison's answer; the trace is the first d bytes of the trace list
 unfoldable pub outcomeLines : Outcome → List ℕ → List ℕ
 outcomeLines (Refines cleared) trace = numberLine (ascii "refines cleared ") cleared
 outcomeLines (Stray d cleared event) trace = violatesLine d cleared ++ (traceLine (take d trace) ++ numberLine (ascii "stray ") event)
-outcomeLines (Refusal d cleared probe acceptance) trace = violatesLine d cleared ++ (traceLine (take d trace) ++ refusedLine probe acceptance)
+outcomeLines (Refusal d cleared probe acceptance) trace = violatesLine d cleared ++ (traceLine (take d trace) ++ refusedProbeLine probe acceptance)
 outcomeLines (Denied k) trace = numberLine (ascii "comparison refused ") k

@@ -13,10 +13,11 @@ use Rattle.comparison_spec.specs.Comparison.{outcomeOf, traceAfter}
 use Rattle.lines_spec.specs.declared.Text.{Text}
 use Rattle.lines_spec.specs.Lines.{outcomeLines}
 
--- the lists that the program lends to the comparison: 3,072 words and 1,023 bytes, which is enough for every two sheets
+-- the work list that the program lends to the comparison: 3,072 words; both lists are enough for every two sheets
 unfoldable pub workList : List ℕ
 workList = replicate 3072 0
 
+-- and its trace list: 1,023 bytes
 unfoldable pub traceList : List ℕ
 traceList = replicate 1023 0
 

@@ -6,7 +6,7 @@ ghost use Rattle.text_spec.specs.Adds.{Adds, Holds};
 ghost use Rattle.text_spec.specs.DecimalLaws.{valueFrom};
 ghost use Rattle.live_lines_spec.specs.Numbers.{isDigit, allDigits, fewDigits, numberIn, numberOf, Digits};
 ghost use Rattle.live_lines_spec.specs.Words.{sameText, eventNamed, heard, lastOk, askedOf};
-ghost use Rattle.live_lines_spec.specs.Answers.{offerLine, refusedLine, lineWith, answerLine, openingLine, stopLine};
+ghost use Rattle.live_lines_spec.specs.Answers.{offerLine, refusedSetLine, lineWith, answerLine, openingLine, endedLine};
 use live_lines_spec::Asked;
 use tests_spec::Answer;
 use tests_spec::Report;
@@ -183,7 +183,7 @@ fn put_offer(out: &mut [u8], set: u16) -> usize
 
 // Puts the line of a failed run, with the set that was offered.
 fn put_refused(out: &mut [u8], set: u16) -> usize
-    ensures { λ r. ⌜ Adds (refusedLine set) (now (out .entry)) 0 (now (out .exit)) r ⌝ }
+    ensures { λ r. ⌜ Adds (refusedSetLine set) (now (out .entry)) 0 (now (out .exit)) r ⌝ }
 {
     let a = text::put(out, 0, b"refused ");
     let b = text::put_set(out, a, set);
@@ -222,7 +222,7 @@ pub fn put_opening(out: &mut [u8], fault: u8, a: Answer) -> usize
 
 // Puts what is printed where the run has not ended: the lines were too many, or the input ended.
 pub fn put_stop(out: &mut [u8], many: bool) -> usize
-    ensures { λ r. ⌜ Holds (now (out .entry)) (stopLine many) (now (out .exit)) r ⌝ }
+    ensures { λ r. ⌜ Holds (now (out .entry)) (endedLine many) (now (out .exit)) r ⌝ }
 {
     if many {
         return text::put(out, 0, b"lines ended\n");

@@ -22,7 +22,7 @@ use Rattle.tests_spec.specs.RunLaws.{open-0, open-14, open-refused, open-answer
 use Rattle.tests_spec.specs.Numbers.{said}
 use Rattle.live_lines_spec.specs.Words.{wordsOk, askedOf}
 use Rattle.live_lines_spec.specs.WordLaws.{words-bad}
-use Rattle.live_lines_spec.specs.Answers.{offerLine, refusedLine, lineWith, answerLine, openingLine, stopLine}
+use Rattle.live_lines_spec.specs.Answers.{offerLine, refusedSetLine, lineWith, answerLine, openingLine, endedLine}
 
 -- ---- openings
 
@@ -73,8 +73,8 @@ offer-length x =
       events-length x 16 (omega arith),
     )
 
-refused-length : (x : ℕ) → x < 65536 → length (refusedLine x) ≤ 100
-unfolding refusedLine
+refused-length : (x : ℕ) → x < 65536 → length (refusedSetLine x) ≤ 100
+unfolding refusedSetLine
 refused-length x h =
     omega (
       arith,
@@ -92,6 +92,7 @@ with-length words w (Refused x) h r = refused-length x h
 with-length words w Passed h r = omega arith
 with-length words w (Denied m) h r = omega (arith, number-length words 2 m (omega arith))
 
+-- 100 bytes are enough for each
 pub answer-length : (a : Answer) → said a .value < 65536 → said a .refusal < 256 → length (answerLine a) ≤ 100
 unfolding answerLine
 answer-length a h r = with-length (ascii "report refused ") (omega arith) a h r
@@ -104,7 +105,7 @@ opening-length fault a f h r = go (eqb fault 0)
     go true = with-length (ascii "test refused ") (omega arith) a h r
     go false = omega (arith, number-length (ascii "reference refused ") 2 fault (omega arith))
 
-pub stop-length : (many : Bool) → length (stopLine many) ≤ 100
-unfolding stopLine
+pub stop-length : (many : Bool) → length (endedLine many) ≤ 100
+unfolding endedLine
 stop-length true = omega arith
 stop-length false = omega arith

@@ -13,14 +13,14 @@ unfoldable pub offerLine : ℕ → List ℕ
 offerLine x = ascii "offer" ++ (members x ++ ascii "\n")
 
 -- `refused x ( e e )`: the set offered, as a number and its events
-unfoldable pub refusedLine : ℕ → List ℕ
-refusedLine x = ascii "refused " ++ (setWords x ++ ascii "\n")
+unfoldable pub refusedSetLine : ℕ → List ℕ
+refusedSetLine x = ascii "refused " ++ (setWords x ++ ascii "\n")
 
 -- the line of an answer; a refusal is some words and its number
 unfoldable pub lineWith : List ℕ → Answer → List ℕ
 lineWith words (Going x) = offerLine x
 lineWith words (Stray i) = numberLine (ascii "stray ") i
-lineWith words (Refused x) = refusedLine x
+lineWith words (Refused x) = refusedSetLine x
 lineWith words Passed = ascii "passed\n"
 lineWith words (Denied m) = numberLine words m
 
@@ -33,5 +33,5 @@ unfoldable pub openingLine : ℕ → Answer → List ℕ
 openingLine fault a = cond (eqb fault 0) (lineWith (ascii "test refused ") a) (numberLine (ascii "reference refused ") fault)
 
 -- what is printed where the run has not ended: the lines were too many, or the input ended
-unfoldable pub stopLine : Bool → List ℕ
-stopLine many = cond many (ascii "lines ended\n") (ascii "input ended\n")
+unfoldable pub endedLine : Bool → List ℕ
+endedLine many = cond many (ascii "lines ended\n") (ascii "input ended\n")

@@ -14,7 +14,7 @@ use Rattle.tests_spec.specs.declared.Report.the-variants.{Event, Blocked}
 use Rattle.tests_spec.specs.declared.Answer.the-variants.{Going, Stray, Refused, Passed, Denied}
 use Rattle.live_lines_spec.specs.Numbers.{isDigit, digitAt, allDigits, fewDigits, numberIn, numberOf}
 use Rattle.live_lines_spec.specs.Words.{agreeAt, sameText, eventNamed, heard, lastOk, wordsOk, askedOf}
-use Rattle.live_lines_spec.specs.Answers.{offerLine, refusedLine, lineWith, answerLine, openingLine, stopLine}
+use Rattle.live_lines_spec.specs.Answers.{offerLine, refusedSetLine, lineWith, answerLine, openingLine, endedLine}
 
 -- reports
 pub reports-hold : map heard (ascii "blocked" ∷ ascii "event 0" ∷ ascii "event 11" ∷ ascii "event 007" ∷ ascii "event 254" ∷ [])
@@ -48,7 +48,7 @@ asked-hold = refl
 -- answers to a report
 pub answers-hold : map answerLine (Going 19 ∷ Going 0 ∷ Stray 3 ∷ Refused 5 ∷ Passed ∷ Denied 15 ∷ [])
     ≡ (ascii "offer 0 1 4\n" ∷ ascii "offer\n" ∷ ascii "stray 3\n" ∷ ascii "refused 5 ( 0 2 )\n" ∷ ascii "passed\n" ∷ ascii "report refused 15\n" ∷ [])
-unfolding answerLine lineWith offerLine refusedLine numberLine setWords members eventsIn eventList decimal decimalIn has bit
+unfolding answerLine lineWith offerLine refusedSetLine numberLine setWords members eventsIn eventList decimal decimalIn has bit
 answers-hold = refl
 
 -- answers to an opening
@@ -58,6 +58,6 @@ unfolding openingLine lineWith offerLine numberLine members eventsIn eventList d
 openings-hold = refl
 
 -- and where the run has not ended
-pub stops-hold : map stopLine (true ∷ false ∷ []) ≡ (ascii "lines ended\n" ∷ ascii "input ended\n" ∷ [])
-unfolding stopLine
+pub stops-hold : map endedLine (true ∷ false ∷ []) ≡ (ascii "lines ended\n" ∷ ascii "input ended\n" ∷ [])
+unfolding endedLine
 stops-hold = refl

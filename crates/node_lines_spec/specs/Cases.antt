@@ -15,9 +15,9 @@ use Rattle.text_spec.specs.Lines.{ascii, decimalIn, decimal, numberLine, sheetL
 use Rattle.text_spec.specs.Sets.{eventsIn, members, setWords}
 use Rattle.text_spec.specs.Input.{cutInput}
 use Rattle.node_lines_spec.specs.Joined.{joined}
-use Rattle.node_lines_spec.specs.Head.{refusalWords, refusedLine, headLine}
+use Rattle.node_lines_spec.specs.Head.{refusalWords, refusedSheetLine, headLine}
 use Rattle.node_lines_spec.specs.Show.{eventLine, successorLine, acceptsLine, acceptanceLine, restLines, rowLines, nodeLines, showLines, showText}
-use Rattle.node_lines_spec.specs.Node.{placeWords, setList, probesLine, stopLine, deniedLine}
+use Rattle.node_lines_spec.specs.Node.{placeWords, setList, probesLine, mayStopLine, deniedLine}
 
 -- three nodes with two events; node 2 may stop
 unfoldable pub threeNodes : List ℕ
@@ -58,7 +58,7 @@ texts =
 
 -- one equation has them all
 pub texts-hold : map showText inputs ≡ texts
-unfolding inputs texts threeNodes showText cutInput showLines nodeLines rowLines restLines acceptanceLine acceptsLine successorLine eventLine headLine refusedLine refusalWords joined numberLine sheetLine setWords members eventsIn eventList decimal decimalIn readSheet answer bytesFault headFault lengthField layoutFault nextAt startOf succOf setsOf rowAt rowOf sheetOf graphFault rangesOk countOk successorOk rowSuccessorsOk successorsOk ascends apart setOk rowSetsOk setsOk reachedOk successor acceptance acceptances initials mayStop step bit setOf has inside nearer leads walk all any upTo
+unfolding inputs texts threeNodes showText cutInput showLines nodeLines rowLines restLines acceptanceLine acceptsLine successorLine eventLine headLine refusedSheetLine refusalWords joined numberLine sheetLine setWords members eventsIn eventList decimal decimalIn readSheet answer bytesFault headFault lengthField layoutFault nextAt startOf succOf setsOf rowAt rowOf sheetOf graphFault rangesOk countOk successorOk rowSuccessorsOk successorsOk ascends apart setOk rowSetsOk setsOk reachedOk successor acceptance acceptances initials mayStop step bit setOf has inside nearer leads walk all any upTo
 texts-hold = refl
 
 -- the lines of `probe_list` for a list of probes, a node that may stop, and a refusal
@@ -66,8 +66,8 @@ pub probes-hold : probesLine 0 (1 ∷ 2 ∷ 12 ∷ []) ≡ ascii "node 0 probes 
 unfolding probesLine setList placeWords joined setWords members eventsIn eventList decimal decimalIn has bit
 probes-hold = refl
 
-pub stop-holds : stopLine 31 ≡ ascii "node 31 may stop\n"
-unfolding stopLine decimal decimalIn
+pub stop-holds : mayStopLine 31 ≡ ascii "node 31 may stop\n"
+unfolding mayStopLine decimal decimalIn
 stop-holds = refl
 
 pub denied-holds : deniedLine 255 9 ≡ ascii "node 255 refused 9\n"

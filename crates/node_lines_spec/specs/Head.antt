@@ -19,9 +19,9 @@ refusalWords k =
     (cond (eqb k 8) (ascii "a node cannot be reached") [])))))))
 
 -- `sheet refused k meaning`
-unfoldable pub refusedLine : ℕ → List ℕ
-refusedLine k = ascii "sheet refused " ++ (decimal k ++ (ascii " " ++ (refusalWords k ++ ascii "\n")))
+unfoldable pub refusedSheetLine : ℕ → List ℕ
+refusedSheetLine k = ascii "sheet refused " ++ (decimal k ++ (ascii " " ++ (refusalWords k ++ ascii "\n")))
 
 -- `sheet n nodes e events` of an accepted sheet, else its refusal
 unfoldable pub headLine : ReadSheet → List ℕ
-headLine a = cond (eqb (a .refusal) 0) (sheetLine (ascii "sheet ") (a .sheet .n) (a .sheet .e)) (refusedLine (a .refusal))
+headLine a = cond (eqb (a .refusal) 0) (sheetLine (ascii "sheet ") (a .sheet .n) (a .sheet .e)) (refusedSheetLine (a .refusal))

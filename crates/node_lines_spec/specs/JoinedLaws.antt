@@ -24,12 +24,6 @@ joined-next f i p q = rw (add-one i) (adds-then p q)
 pub joined-end : {a b : List ℕ} {k l : ℕ} (f : ℕ → List ℕ) (n i : ℕ) → n ≤ i → i ≤ n → Adds (joined f i) a k b l → Adds (joined f n) a k b l
 joined-end f n i x y p = let e : n ≡ i = omega arith in rw e p
 
--- the same texts give the same
-pub joined-ext : (f g : ℕ → List ℕ) (n : ℕ) → ((i : ℕ) → i < n → f i ≡ g i) → joined f n ≡ joined g n
-unfolding joined
-joined-ext f g zero h = refl
-joined-ext f g (suc n) h = rw (joined-ext f g n (λ i l. h i (omega arith)), h n (omega arith))
-
 -- n texts of at most k bytes have at most n times k
 pub joined-length : (f : ℕ → List ℕ) (k n : ℕ) → ((i : ℕ) → i < n → length (f i) ≤ k) → length (joined f n) ≤ n * k
 unfolding joined

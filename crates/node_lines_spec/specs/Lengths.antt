@@ -16,7 +16,7 @@ use Rattle.sheet_spec.specs.declared.Sheet.{Sheet}
 use Rattle.sheet_spec.specs.Kept.{row, successor, acceptance, acceptances, mayStop}
 use Rattle.sheet_spec.specs.Rules.{sheetFault}
 use Rattle.sheet_spec.specs.Reading.{readSheet}
-use Rattle.sheet_spec.specs.AnswerLaws.{read-refusal}
+use Rattle.sheet_spec.specs.AnswerLaws.{read-refusal, read-kept}
 use Rattle.sheet_spec.specs.ReadLaws.{read-numbers}
 use Rattle.sheet_spec.specs.CheckLaws.{check-below}
 use Rattle.sheet_spec.specs.Sound.{Sound, check-sound}
@@ -30,11 +30,10 @@ use Rattle.text_spec.specs.Input.{cutInput}
 use Rattle.text_spec.specs.LengthLaws.{number-length, sheet-length, set-length}
 use Rattle.node_lines_spec.specs.Joined.{joined}
 use Rattle.node_lines_spec.specs.JoinedLaws.{joined-length}
-use Rattle.node_lines_spec.specs.Head.{refusalWords, refusedLine, headLine}
+use Rattle.node_lines_spec.specs.Head.{refusalWords, refusedSheetLine, headLine}
 use Rattle.node_lines_spec.specs.Show.{eventLine, successorLine, acceptsLine, acceptanceLine, restLines, rowLines, nodeLines, showLines, showText}
-use Rattle.node_lines_spec.specs.ShowLaws.{accepted}
 use Rattle.node_lines_spec.specs.NodeLaws.{line-stop, line-probes, line-sheet, line-9}
-use Rattle.node_lines_spec.specs.Node.{placeWords, setList, probesLine, stopLine, deniedLine, nodeLine}
+use Rattle.node_lines_spec.specs.Node.{placeWords, setList, probesLine, mayStopLine, deniedLine, nodeLine}
 
 -- ---- the first line
 
@@ -57,8 +56,8 @@ words-length k =
     (pick-length (eqb k 6) _ _ 42 (omega arith)
     (pick-length (eqb k 7) _ _ 42 (omega arith) (pick-length (eqb k 8) _ _ 42 (omega arith) (omega arith))))))))
 
-refused-length : (k : ℕ) → k < 10 → length (refusedLine k) ≤ 59
-unfolding refusedLine
+refused-length : (k : ℕ) → k < 10 → length (refusedSheetLine k) ≤ 59
+unfolding refusedSheetLine
 refused-length k h =
     omega (
       arith,
@@ -75,9 +74,9 @@ unfolding headLine
 head-length b = go (eqb (readSheet b .refusal) 0) refl
   where
     go : (x : Bool) → eqb (readSheet b .refusal) 0 ≡ x
-        → length (cond x (sheetLine (ascii "sheet ") (readSheet b .sheet .n) (readSheet b .sheet .e)) (refusedLine (readSheet b .refusal))) ≤ 59
+        → length (cond x (sheetLine (ascii "sheet ") (readSheet b .sheet .n) (readSheet b .sheet .e)) (refusedSheetLine (readSheet b .refusal))) ≤ 59
     go true e =
-        let s = check-sound (readSheet b .sheet) (accepted b (eqb-true (readSheet b .refusal) 0 e)) .ranges in
+        let s = check-sound (readSheet b .sheet) (read-kept b (eqb-true (readSheet b .refusal) 0 e)) .ranges in
         omega (arith, sheet-length (ascii "sheet ") (readSheet b .sheet .n) (readSheet b .sheet .e) (omega (arith, s .n-high)) (omega (arith, s .e-high)))
     go false e = refused-length (readSheet b .refusal) (omega (arith, read-refusal b, read-numbers b))
 
@@ -150,7 +149,7 @@ show-length input = go (cutInput input)
   where
     nodes : (b : List ℕ) → readSheet b .refusal ≡ 0 → length (joined (nodeLines (readSheet b .sheet)) (readSheet b .sheet .n)) ≤ 39808
     nodes b e =
-        let h = accepted b e in
+        let h = read-kept b e in
         let m : readSheet b .sheet .n * 1244 ≤ 32 * 1244 = mul-le-mul (check-sound (readSheet b .sheet) h .ranges .n-high) (le-self 1244) in
         omega (arith, joined-length (nodeLines (readSheet b .sheet)) 1244 (readSheet b .sheet .n) (lines-length (readSheet b .sheet) h))
 
@@ -173,8 +172,8 @@ show-fits input = omega (arith, show-length input)
 
 -- ---- the line of a node's probes
 
-stop-length : (v : ℕ) → v < 1000 → length (stopLine v) ≤ 18
-unfolding stopLine
+stop-length : (v : ℕ) → v < 1000 → length (mayStopLine v) ≤ 18
+unfolding mayStopLine
 stop-length v h = omega (arith, length-append (ascii "node ") (decimal v ++ ascii " may stop\n"), length-append (decimal v) (ascii " may stop\n"), decimal-few 2 v h)
 
 denied-length : (v k : ℕ) → v < 1000 → k < 100 → length (deniedLine v k) ≤ 20

@@ -28,8 +28,8 @@ unfoldable pub probesLine : ℕ → List ℕ → List ℕ
 probesLine v sets = ascii "node " ++ (decimal v ++ (ascii " probes" ++ (setList sets ++ ascii "\n")))
 
 -- `node v may stop`
-unfoldable pub stopLine : ℕ → List ℕ
-stopLine v = ascii "node " ++ (decimal v ++ ascii " may stop\n")
+unfoldable pub mayStopLine : ℕ → List ℕ
+mayStopLine v = ascii "node " ++ (decimal v ++ ascii " may stop\n")
 
 -- `node v refused k`
 unfoldable pub deniedLine : ℕ → ℕ → List ℕ
@@ -39,5 +39,5 @@ deniedLine v k = ascii "node " ++ (decimal v ++ (ascii " refused " ++ (decimal k
 unfoldable pub nodeLine : Sheet → ℕ → List ℕ
 nodeLine s v =
     cond (eqb (listFault s v probeSpace) 0)
-    (cond (mayStop (row s v)) (stopLine v) (probesLine v (nodeProbes s v)))
+    (cond (mayStop (row s v)) (mayStopLine v) (probesLine v (nodeProbes s v)))
     (deniedLine v (listFault s v probeSpace))

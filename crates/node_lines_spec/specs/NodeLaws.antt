@@ -12,7 +12,7 @@ use Rattle.sheet_spec.specs.Kept.{row, mayStop}
 use Rattle.sheet_spec.specs.Rules.{sheetFault}
 use Rattle.probes_spec.specs.Listing.{nodeProbes, listFault}
 use Rattle.probes_spec.specs.ListingLaws.{list-sheet, list-9, list-0, node-few, node-stop}
-use Rattle.node_lines_spec.specs.Node.{probeSpace, probesLine, stopLine, deniedLine, nodeLine}
+use Rattle.node_lines_spec.specs.Node.{probeSpace, probesLine, mayStopLine, deniedLine, nodeLine}
 
 -- the probe call is lent 4,096 places
 pub space-length : length probeSpace ≡ 4096
@@ -25,7 +25,7 @@ node-listed s v h l = list-0 s v probeSpace .1 (h, l, omega (arith, node-few s h
 
 module _ (s : Sheet) (v : ℕ) where
   -- a node that may stop
-  pub line-stop : sheetFault s ≡ 0 → v < s .n → mayStop (row s v) ≡ true → nodeLine s v ≡ stopLine v
+  pub line-stop : sheetFault s ≡ 0 → v < s .n → mayStop (row s v) ≡ true → nodeLine s v ≡ mayStopLine v
   unfolding nodeLine
   line-stop h l t = rw (eq-eqb (listFault s v probeSpace) 0 (node-listed s v h l), t)
 

@@ -9,14 +9,13 @@ use borrow.Author.Tests.{eq-eqb, ne-eqb}
 use Rattle.sheet_spec.specs.declared.Row.{Row}
 use Rattle.sheet_spec.specs.declared.ReadSheet.{ReadSheet}
 use Rattle.sheet_spec.specs.Kept.{successor, mayStop}
-use Rattle.sheet_spec.specs.Reading.{bytesFault, answer, readSheet}
-use Rattle.sheet_spec.specs.Accepted.{read-accepted}
+use Rattle.sheet_spec.specs.Reading.{readSheet}
+use Rattle.sheet_spec.specs.AnswerLaws.{read-kept}
 use Rattle.sheet_spec.specs.Sound.{check-sound}
-use Rattle.sheet_spec.specs.Rules.{sheetFault}
 use Rattle.text_spec.specs.Lines.{ascii, sheetLine}
 use Rattle.text_spec.specs.InputLaws.{cut-more}
 use Rattle.node_lines_spec.specs.Joined.{joined}
-use Rattle.node_lines_spec.specs.Head.{refusedLine, headLine}
+use Rattle.node_lines_spec.specs.Head.{refusedSheetLine, headLine}
 use Rattle.node_lines_spec.specs.Show.{eventLine, successorLine, acceptanceLine, restLines, nodeLines, showLines, showText}
 
 -- the first line of an accepted sheet, and of another
@@ -24,7 +23,7 @@ pub head-accepted : (a : ReadSheet) → a .refusal ≡ 0 → headLine a ≡ shee
 unfolding headLine
 head-accepted a h = rw (eq-eqb (a .refusal) 0 h)
 
-pub head-refused : (a : ReadSheet) → a .refusal ≢ 0 → headLine a ≡ refusedLine (a .refusal)
+pub head-refused : (a : ReadSheet) → a .refusal ≢ 0 → headLine a ≡ refusedSheetLine (a .refusal)
 unfolding headLine
 head-refused a h = rw (ne-eqb (a .refusal) 0 h)
 
@@ -42,14 +41,9 @@ pub later-absent : (input more : List ℕ) → length input ≡ 4096 → showTex
 unfolding showText
 later-absent input more h = ap (λ (b : List ℕ). showLines (readSheet b)) (cut-more input more h)
 
--- a sheet that was read without refusal is one that a later call accepts
-pub accepted : (b : List ℕ) → readSheet b .refusal ≡ 0 → sheetFault (readSheet b .sheet) ≡ 0
-unfolding readSheet answer
-accepted b h = rw (eq-eqb (bytesFault b) 0 h) (read-accepted b h)
-
--- so it has at most 32 nodes
-pub accepted-nodes : (b : List ℕ) → readSheet b .refusal ≡ 0 → readSheet b .sheet .n ≤ 32
-accepted-nodes b h = check-sound (readSheet b .sheet) (accepted b h) .ranges .n-high
+-- a sheet that was read without refusal has at most 32 nodes
+pub read-nodes : (b : List ℕ) → readSheet b .refusal ≡ 0 → readSheet b .sheet .n ≤ 32
+read-nodes b h = check-sound (readSheet b .sheet) (read-kept b h) .ranges .n-high
 
 -- an event without a successor has no line, any other one has
 pub successor-none : (r : Row) (i : ℕ) → successor r i ≡ 255 → successorLine r i ≡ []

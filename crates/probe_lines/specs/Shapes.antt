@@ -4,8 +4,8 @@ use mathlib.Core.List.{List}
 use Prim.Native.Nat.{ℕ}
 use lib.Dec.{eqb}
 use lib.ListN.{length}
-use Rattle.node_lines_spec.specs.Node.{probesLine, stopLine}
+use Rattle.node_lines_spec.specs.Node.{probesLine, mayStopLine}
 
 -- the line of node v whose probes were found
 unfoldable pub foundLine : ℕ → List ℕ → List ℕ
-foundLine v sets = cond (eqb (length sets) 0) (stopLine v) (probesLine v sets)
+foundLine v sets = cond (eqb (length sets) 0) (mayStopLine v) (probesLine v sets)

@@ -3,7 +3,7 @@
 ghost use Prim.Native.Nat.{_<_};
 ghost use lib.ListN.{length};
 ghost use Rattle.text_spec.specs.Adds.{Adds, Holds};
-ghost use Rattle.node_lines_spec.specs.Node.{placeWords, setList, probesLine, stopLine, deniedLine, nodeLine};
+ghost use Rattle.node_lines_spec.specs.Node.{placeWords, setList, probesLine, mayStopLine, deniedLine, nodeLine};
 ghost use Rattle.probe_lines.specs.Shapes.{foundLine};
 use probes_spec::Listed;
 use sheet_spec::Sheet;
@@ -42,7 +42,7 @@ fn put_probes_line(out: &mut [u8], at: usize, node: u8, sets: &[u16]) -> usize
 
 // Puts the line of a node that may stop.
 fn put_stop_line(out: &mut [u8], at: usize, node: u8) -> usize
-    ensures { λ r. ⌜ Adds (stopLine node) (now (out .entry)) at (now (out .exit)) r ⌝ }
+    ensures { λ r. ⌜ Adds (mayStopLine node) (now (out .entry)) at (now (out .exit)) r ⌝ }
 {
     let a = text::put(out, at, b"node ");
     let b = text::put_number(out, a, node as u16);

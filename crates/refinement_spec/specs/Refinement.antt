@@ -46,10 +46,11 @@ Violation P Q t = Trace P t × Trace Q t × (Strays P Q t ⊎ Overrefuses P Q t)
 abbrev pub Refines : Sheet → Sheet → Type 0
 Refines P Q = (t : List ℕ) → Trace Q t → Trace P t × ((X : ℕ) → Refuses Q t X → Refuses P t X)
 
--- the same with traces alone, refusals left out
+-- with traces alone, refusals left out: the device does a stray after a common trace
 abbrev pub TraceViolation : Sheet → Sheet → List ℕ → Type 0
 TraceViolation P Q t = Trace P t × Trace Q t × Strays P Q t
 
+-- every trace of the device is also the reference's
 abbrev pub TraceRefines : Sheet → Sheet → Type 0
 TraceRefines P Q = (t : List ℕ) → Trace Q t → Trace P t
 

@@ -191,10 +191,11 @@ module _ (a b : List ℕ) (p q e n : ℕ) where
     pub scan-seat : Seat n place (s .work)
     scan-seat = seat place 0 s (o .sizes) (o .running) place (o .here)
 
-    -- the node of the entry, and its distance
+    -- the node of the entry
     abbrev node₀ : ℕ
     node₀ = nodeAt (s .work) place
 
+    -- and its distance
     abbrev dist₀ : ℕ
     dist₀ = distAt n (s .work) node₀
 

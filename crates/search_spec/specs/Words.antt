@@ -77,13 +77,15 @@ keeps-trans n a b c p q = record {
 }
 
 module _ (n : ℕ) (w : List ℕ) (tail v m d : ℕ) (room : 3 * n ≤ length w) (ht : tail < n) (hv : v < n) where
-  -- the three words of a new entry
+  -- the three words of a new entry: its link ..
   abbrev w₁ : List ℕ
   w₁ = set w (n + v) m
 
+  -- .. then its distance
   abbrev w₂ : List ℕ
   w₂ = set w₁ (n + n + v) d
 
+  -- .. then its node, at the tail
   abbrev w₃ : List ℕ
   w₃ = set w₂ tail v
 
@@ -212,10 +214,11 @@ module _ (g : Graph) (h k : ℕ) (s : St) (r : Running g h k s) (ht : h < s .tai
       go false e = skip (λ b. absurd (omega (arith, ltb-false v n e)))
 
 module _ (g : Graph) (h : ℕ) (s : St) (r : Running g h 0 s) (ht : h < s .tail) where
-  -- the node of entry h and its distance
+  -- the node of entry h
   abbrev N : ℕ
   N = nodeAt (s .work) h
 
+  -- and its distance
   abbrev D : ℕ
   D = distAt (g .size) (s .work) N
 

@@ -4,13 +4,15 @@ use mathlib.Core.Logic.{_≢_}
 use mathlib.Core.List.{List}
 use Prim.Native.Nat.{ℕ, _<_}
 use lib.ListN.{length, getD, replicate, length-replicate, getD-replicate}
-use borrow.Author.Tests.{ne-eqb}
+use borrow.Author.Tests.{eq-eqb, ne-eqb}
 use Rattle.sheet_spec.specs.declared.Row.{Row}
 use Rattle.sheet_spec.specs.declared.Sheet.{Sheet}
 use Rattle.sheet_spec.specs.Kept.{noRow, row}
+use Rattle.sheet_spec.specs.Rules.{sheetFault}
 use Rattle.sheet_spec.specs.Reading.{zeroSheet, answer, readSheet, bytesFault}
+use Rattle.sheet_spec.specs.Accepted.{read-accepted}
 
--- 0 in every place of a row, and of a sheet
+-- 0 in every place of a row
 pub record ZeroRow (r : Row) : Type 0 where
   pub succs : length (r .succ) ≡ 12
   pub succ-zero : (i : ℕ) → i < 12 → getD (r .succ) i 255 ≡ 0
@@ -18,12 +20,14 @@ pub record ZeroRow (r : Row) : Type 0 where
   pub set-zero : (j : ℕ) → j < 16 → getD (r .sets) j 255 ≡ 0
   pub c-zero : r .c ≡ 0
 
+-- 0 in every place of a sheet
 pub record Zero (s : Sheet) : Type 0 where
   pub rows : length (s .rows) ≡ 32
   pub each : (v : ℕ) → v < 32 → ZeroRow (row s v)
   pub e-zero : s .e ≡ 0
   pub n-zero : s .n ≡ 0
 
+-- the row of zeros
 abbrev zeros : Row
 zeros = record { succ = replicate 12 0; sets = replicate 16 0; c = 0 }
 
@@ -48,6 +52,11 @@ zero-sheet = record {
 pub read-refusal : (b : List ℕ) → readSheet b .refusal ≡ bytesFault b
 unfolding readSheet answer
 read-refusal b = refl
+
+-- what is read without refusal, a later call accepts
+pub read-kept : (b : List ℕ) → readSheet b .refusal ≡ 0 → sheetFault (readSheet b .sheet) ≡ 0
+unfolding readSheet answer
+read-kept b h = rw (eq-eqb (bytesFault b) 0 h) (read-accepted b h)
 
 -- a refused answer has 0 everywhere else
 pub refused-zero : (b : List ℕ) → bytesFault b ≢ 0 → Zero (readSheet b .sheet)

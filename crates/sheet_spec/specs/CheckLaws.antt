@@ -41,29 +41,35 @@ pub above : {j k m : ℕ} → 0 < j → j ≤ k → Above k m → j ≢ m
 above z l (inl h) p = omega arith
 above z l (inr h) p = omega arith
 
--- no fault up to 3, 5, 6 and 7
+-- no fault up to 3
 abbrev pub Clear3 : Sheet → Type 0
 Clear3 s = ¬ RangeFault (s .e) (s .n)
 
+-- no fault up to 5
 abbrev pub Clear5 : Sheet → Type 0
 Clear5 s = Clear3 s × (¬ CountFault s)
 
+-- no fault up to 6
 abbrev pub Clear6 : Sheet → Type 0
 Clear6 s = Clear5 s × (¬ SuccessorFault s)
 
+-- no fault up to 7
 abbrev pub Clear7 : Sheet → Type 0
 Clear7 s = Clear6 s × (¬ (SetFault s ⊎ UnusedFault s))
 
--- what is tested after 7, 6, 5 and 3
+-- what is tested after 7
 abbrev after7 : Sheet → ℕ
 after7 s = unless (reachedOk s) 8 0
 
+-- what is tested after 6
 abbrev after6 : Sheet → ℕ
 after6 s = unless (setsOk s && blanksOk s) 7 (after7 s)
 
+-- what is tested after 5
 abbrev after5 : Sheet → ℕ
 after5 s = unless (successorsOk s) 6 (after6 s)
 
+-- what is tested after 3
 abbrev after3 : Sheet → ℕ
 after3 s = unless (countsOk s) 5 (after5 s)
 

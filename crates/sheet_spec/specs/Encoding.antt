@@ -6,10 +6,11 @@ use lib.ListN.{length, take}
 use Rattle.sheet_spec.specs.declared.Row.{Row}
 use Rattle.sheet_spec.specs.declared.Sheet.{Sheet}
 
--- a number in two bytes, and in four, big-endian
+-- a number in two bytes, big-endian
 unfoldable pub two : ℕ → List ℕ
 two x = x / 256 ∷ (x % 256 ∷ [])
 
+-- a number in four bytes
 unfoldable pub four : ℕ → List ℕ
 four x = two (x / 65536) ++ two (x % 65536)
 

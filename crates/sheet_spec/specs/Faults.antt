@@ -15,10 +15,11 @@ use Rattle.sheet_spec.specs.Reading.{lengthField, version, eventsOf, nod
 abbrev pub RangeFault : ℕ → ℕ → Type 0
 RangeFault e n = ((e < 1) ⊎ (12 < e)) ⊎ ((n < 1) ⊎ (32 < n))
 
--- 5: a C that is not 1 to 16; of a kept sheet, the C of some node
+-- 5: a C that is not 1 to 16
 abbrev pub BadCount : ℕ → Type 0
 BadCount c = (c < 1) ⊎ (16 < c)
 
+-- 5, of a kept sheet: the C of some node
 abbrev pub CountFault : Sheet → Type 0
 CountFault s = (v : ℕ) × (v < s .n) × BadCount (row s v .c)
 

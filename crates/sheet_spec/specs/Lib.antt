@@ -1,11 +1,13 @@
 pub mod Kept
 pub mod Rules
 pub mod Reading
+pub mod Examples
 pub mod Encoding
 pub mod Form
 pub mod Faults
 pub mod RuleLaws
 pub mod CheckLaws
+pub mod PairFaults
 pub mod ReadLaws
 pub mod Places
 pub mod Accepted

@@ -161,30 +161,36 @@ module _ (b : List ℕ) where
 
 -- ---- bytes: the whole
 
--- no fault up to 1, 2, 3, up to 4 and 5, 6 and 7
+-- no fault up to 1
 abbrev pub ReadClear1 : List ℕ → Type 0
 ReadClear1 b = ¬ LengthFault b
 
+-- no fault up to 2
 abbrev pub ReadClear2 : List ℕ → Type 0
 ReadClear2 b = ReadClear1 b × (¬ VersionFault b)
 
+-- no fault up to 3
 abbrev pub ReadClear3 : List ℕ → Type 0
 ReadClear3 b = ReadClear2 b × (¬ RangeFault (eventsOf b) (nodesOf b))
 
+-- no fault up to 4 and 5, which are found by position
 abbrev pub ReadClear5 : List ℕ → Type 0
 ReadClear5 b = ReadClear3 b × ((¬ CutFault b) × (¬ BytesCountFault b))
 
+-- no fault up to 6
 abbrev pub ReadClear6 : List ℕ → Type 0
 ReadClear6 b = ReadClear5 b × (¬ SuccessorFault (sheetOf b))
 
+-- no fault up to 7
 abbrev pub ReadClear7 : List ℕ → Type 0
 ReadClear7 b = ReadClear6 b × (¬ SetFault (sheetOf b))
 
 module _ (b : List ℕ) where
-  -- what is tested after the nodes are known to be whole, and after the head
+  -- what is tested after the nodes are known to be whole ..
   abbrev graphPart : ℕ
   graphPart = graphFault (sheetOf b)
 
+  -- .. and after the head
   abbrev nodesPart : ℕ
   nodesPart = orElse (layoutFault b (eventsOf b) (nodesOf b) nodesAt) graphPart
 

@@ -23,13 +23,15 @@ word b i = byte b i * 256 + byte b (i + 1)
 unfoldable pub lengthField : List ℕ → ℕ
 lengthField b = word b 0 * 65536 + word b 2
 
--- then the version, E and N
+-- then the version
 abbrev pub version : List ℕ → ℕ
 version b = byte b 4
 
+-- E
 abbrev pub eventsOf : List ℕ → ℕ
 eventsOf b = byte b 5
 
+-- N
 abbrev pub nodesOf : List ℕ → ℕ
 nodesOf b = byte b 6
 
@@ -66,13 +68,15 @@ unfoldable pub startOf : List ℕ → ℕ → ℕ → ℕ
 startOf b e zero = nodesAt
 startOf b e (suc v) = nextAt b e (startOf b e v)
 
--- the row of the node that begins at a place: unused successors hold 255, unused sets 0
+-- event i of the node that begins at a place: its successor, 255 where it is unused
 unfoldable pub succOf : List ℕ → ℕ → ℕ → ℕ → ℕ
 succOf b at e i = cond (ltb i e) (byte b (at + i)) 255
 
+-- place j of the sets that begin at a place: its two bytes, 0 where it is unused
 unfoldable pub setsOf : List ℕ → ℕ → ℕ → ℕ → ℕ
 setsOf b at c j = cond (ltb j c) (word b (at + j * 2)) 0
 
+-- the row of the node that begins at a place
 unfoldable pub rowAt : List ℕ → ℕ → ℕ → Row
 rowAt b e at = record { succ = upTo (succOf b at e) 12; sets = upTo (setsOf b (at + e + 1) (countAt b e at)) 16; c = countAt b e at }
 

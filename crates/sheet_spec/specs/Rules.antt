@@ -23,6 +23,7 @@ rangesOk e n = between 1 12 e && between 1 32 n
 unfoldable pub countOk : ℕ → Bool
 countOk c = between 1 16 c
 
+-- 5: so is that of every node
 unfoldable pub countsOk : Sheet → Bool
 countsOk s = all (λ v. countOk (row s v .c)) (s .n)
 
@@ -30,9 +31,11 @@ countsOk s = all (λ v. countOk (row s v .c)) (s .n)
 unfoldable pub successorOk : ℕ → ℕ → Bool
 successorOk n x = eqb x 255 || ltb x n
 
+-- 6: so are those of a row
 unfoldable pub rowSuccessorsOk : ℕ → ℕ → Row → Bool
 rowSuccessorsOk e n r = all (λ i. successorOk n (successor r i)) e
 
+-- 6: so are those of every node
 unfoldable pub successorsOk : Sheet → Bool
 successorsOk s = all (λ v. rowSuccessorsOk (s .e) (s .n) (row s v)) (s .n)
 
@@ -48,9 +51,11 @@ apart r j = all (λ k. not (inside (acceptance r k) (acceptance r j))) j
 unfoldable pub setOk : ℕ → Row → ℕ → Bool
 setOk initial r j = ascends r j && (inside (acceptance r j) initial && apart r j)
 
+-- 7: every set of a row does
 unfoldable pub rowSetsOk : ℕ → Row → Bool
 rowSetsOk e r = all (setOk (initials e r) r) (r .c)
 
+-- 7: every set of every node does
 unfoldable pub setsOk : Sheet → Bool
 setsOk s = all (λ v. rowSetsOk (s .e) (row s v)) (s .n)
 
@@ -62,6 +67,7 @@ blank e c r = all (λ i. ltb i e || eqb (successor r i) 255) 12 && all (λ j. lt
 unfoldable pub unusedOk : ℕ → ℕ → ℕ → Row → Bool
 unusedOk e n v r = cond (ltb v n) (blank e (r .c) r) (eqb (r .c) 0 && blank 0 0 r)
 
+-- 7, of a kept sheet: the unused places of every row
 unfoldable pub blanksOk : Sheet → Bool
 blanksOk s = all (λ v. unusedOk (s .e) (s .n) v (row s v)) 32
 

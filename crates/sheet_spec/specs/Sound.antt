@@ -19,6 +19,7 @@ use Rattle.sheet_spec.specs.RuleLaws.{Ranges, graph-wellFormed, Walk←}
 use Rattle.sheet_spec.specs.CheckLaws.{Clear7, in-range, check-0}
 use Rattle.sheet_spec.specs.Accepted.{passes}
 
+-- what 01 says of an accepted sheet, item by item
 pub record Sound (s : Sheet) : Type 0 where
   -- E is 1 to 12, N is 1 to 32; node 0 is there
   pub ranges : Ranges (s .e) (s .n)

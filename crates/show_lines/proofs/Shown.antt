@@ -12,7 +12,7 @@ use Rattle.text_spec.specs.AddsLaws.{adds-then, adds-all}
 use Rattle.node_lines_spec.specs.Joined.{joined}
 use Rattle.node_lines_spec.specs.Head.{headLine}
 use Rattle.node_lines_spec.specs.Show.{nodeLines, showLines, showText}
-use Rattle.node_lines_spec.specs.ShowLaws.{show-accepted, show-refused, accepted-nodes}
+use Rattle.node_lines_spec.specs.ShowLaws.{show-accepted, show-refused, read-nodes}
 
 module _ (input : List ℕ) {a : ReadSheet} (e : a ≡ readSheet (take 4096 input)) where
   shown : showLines a ≡ showText input
@@ -30,4 +30,4 @@ module _ (input : List ℕ) {a : ReadSheet} (e : a ≡ readSheet (take 4096 inpu
 
   -- has at most 32 nodes
   pub nodes-few : a .refusal ≡ 0 → a .sheet .n ≤ 32
-  nodes-few z = rw (sym e) at (accepted-nodes (take 4096 input) (rw e at z))
+  nodes-few z = rw (sym e) at (read-nodes (take 4096 input) (rw e at z))

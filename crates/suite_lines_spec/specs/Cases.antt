@@ -10,13 +10,12 @@ use Rattle.walks.specs.Reach.{nearer, leads}
 use Rattle.sheet_spec.specs.Kept.{successor, acceptance, acceptances, initials, mayStop, step}
 use Rattle.sheet_spec.specs.Rules.{rangesOk, countOk, countsOk, successorsOk, rowSuccessorsOk, successorOk, setsOk, rowSetsOk, setOk, ascends, apart, blank, unusedOk, blanksOk, reachedOk, sheetFault}
 use Rattle.sheet_spec.specs.Reading.{readSheet, answer, bytesFault, headFault, lengthField, layoutFault, nextAt, startOf, succOf, setsOf, rowAt, rowOf, sheetOf, graphFault}
+use Rattle.sheet_spec.specs.Examples.{exampleReference, exampleDevice, stopped}
 use Rattle.refinement_spec.specs.PairTests.{strays, hasStray, covers, hasRefusal, violates, violating}
 use Rattle.tests_spec.specs.Verdicts.{failsFrom, verdictFault, verdictOf}
 use Rattle.tests_spec.specs.Numbers.{judged}
 use Rattle.base.specs.Count.{count}
-use Rattle.tests_spec.specs.Cases.{exampleDevice}
 use Rattle.verdicts_spec.specs.Suites.{tests, verdictNumber, suiteFault, suiteOf, verdictsAfter}
-use Rattle.verdicts_spec.specs.Cases.{exampleReference, stopped}
 use Rattle.text_spec.specs.Lines.{ascii, decimalIn, decimal, numberLine, sheetLine}
 use Rattle.text_spec.specs.Input.{cutInput, firstEnd, firstSheet, secondSheet}
 use Rattle.suite_lines_spec.specs.Lines.{testLine, testLines, passedOf, lastWords, lastLine, suiteLines}

@@ -2,7 +2,6 @@
 -- cases of verdicts and runs compute through the probe lists, so they stand in the crate `cases`.)
 use mathlib.Core.Path.{_≡_, refl}
 use mathlib.Core.Bool.{true, false}
-use mathlib.Core.List.{List, [], _∷_}
 use Prim.Native.Nat.{ℕ, zero, suc, _+_, _≤_, _<_}
 use native.Mathlib.Omega.{arith}
 use Rattle.base.specs.Range.{all, any}
@@ -10,28 +9,16 @@ use Rattle.base.specs.Table.{upTo}
 use Rattle.events.specs.Bit.{bit, setOf}
 use Rattle.events.specs.Sets.{inside, meets}
 use Rattle.walks.specs.Reach.{nearer, leads}
-use Rattle.sheet_spec.specs.declared.Sheet.{Sheet}
 use Rattle.sheet_spec.specs.Kept.{row, successor, acceptance, initials, step}
 use Rattle.sheet_spec.specs.Rules.{rangesOk, countOk, successorsOk, rowSuccessorsOk, successorOk, setsOk, rowSetsOk, setOk, ascends, apart}
 use Rattle.sheet_spec.specs.Rules.{reachedOk}
 use Rattle.sheet_spec.specs.Reading.{readSheet, answer, bytesFault, headFault, lengthField, layoutFault, nextAt}
 use Rattle.sheet_spec.specs.Reading.{startOf, succOf, setsOf, rowAt, rowOf, sheetOf, graphFault}
+use Rattle.sheet_spec.specs.Examples.{exampleDevice, sheet}
 use Rattle.tests_spec.specs.declared.Report.the-variants.{Event, Blocked}
 use Rattle.tests_spec.specs.Flags.{flag}
 use Rattle.tests_spec.specs.Runs.{zeroRun}
 use Rattle.tests_spec.specs.Verdicts.{CanReport}
-
--- the device of the program's example
-unfoldable pub exampleDevice : List ℕ
-exampleDevice =
-    0 ∷ 0 ∷ 0 ∷ 18 ∷ 1 ∷ 2 ∷ 3 ∷
-    1 ∷ 1 ∷ 1 ∷ 0 ∷ 3 ∷
-    2 ∷ 2 ∷ 1 ∷ 0 ∷ 3 ∷
-    0 ∷ 255 ∷ 1 ∷ 0 ∷ 1 ∷ []
-
--- the sheet that bytes spell
-unfoldable pub sheet : List ℕ → Sheet
-sheet b = readSheet b .sheet
 
 -- what the device cannot report: at node 0 event 0 where only event 1 is offered; at node 2, which has event 0 alone, event 1;
 -- and there it cannot block where event 0 is offered

@@ -143,9 +143,9 @@ counts Passed = 1
 counts (Denied m) = 0
 
 -- how many of a sequence of reports, each shown some sheet, are not denied
-unfoldable pub accepted : Run → List (Sheet × Report) → ℕ
-accepted r [] = 0
-accepted r (l ∷ ls) = counts (stepOf (l .0) r (l .1) .answer) + accepted (stepOf (l .0) r (l .1) .run) ls
+unfoldable pub takenReports : Run → List (Sheet × Report) → ℕ
+takenReports r [] = 0
+takenReports r (l ∷ ls) = counts (stepOf (l .0) r (l .1) .answer) + takenReports (stepOf (l .0) r (l .1) .run) ls
 
 -- the record after all of them
 unfoldable pub runAfter : Run → List (Sheet × Report) → Run
@@ -159,15 +159,15 @@ ended-stays [] r t = refl
 ended-stays (l ∷ ls) r t = rw (ended-still (l .0) r (l .1) t) (ended-stays ls r t)
 
 -- and it accepts nothing
-pub ended-none : (ls : List (Sheet × Report)) (r : Run) → flag (r .ended) ≡ true → accepted r ls ≡ 0
-unfolding accepted counts
+pub ended-none : (ls : List (Sheet × Report)) (r : Run) → flag (r .ended) ≡ true → takenReports r ls ≡ 0
+unfolding takenReports counts
 ended-none [] r t = refl
 ended-none (l ∷ ls) r t = go (taken (l .0) r (l .1)) (ended-none ls r t)
   where
     live : reportFault (l .0) r (l .1) ≢ 0
     live z = unrefused (l .0) r (l .1) z .1 t
 
-    go : Taken (l .0) r (l .1) → accepted r ls ≡ 0 → counts (stepOf (l .0) r (l .1) .answer) + accepted (stepOf (l .0) r (l .1) .run) ls ≡ 0
+    go : Taken (l .0) r (l .1) → takenReports r ls ≡ 0 → counts (stepOf (l .0) r (l .1) .answer) + takenReports (stepOf (l .0) r (l .1) .run) ls ≡ 0
     go (denies n p) ih = rw p (omega arith)
     go (moves i _ z a h p) ih = absurd (live z)
     go (strays i _ z n p) ih = absurd (live z)
@@ -175,16 +175,16 @@ ended-none (l ∷ ls) r t = go (taken (l .0) r (l .1)) (ended-none ls r t)
     go (passes z p) ih = absurd (live z)
 
 -- over any sequence of sheets and reports a record with depth at most k has at most k + 1 - depth reports that are not denied
-pub accepted-bound : (ls : List (Sheet × Report)) (r : Run) → r .depth ≤ r .k → accepted r ls ≤ r .k + 1 - r .depth
-unfolding accepted counts movedBy endedRun
-accepted-bound [] r d = omega arith
-accepted-bound (l ∷ ls) r d = go (taken (l .0) r (l .1)) (accepted-bound ls)
+pub taken-bound : (ls : List (Sheet × Report)) (r : Run) → r .depth ≤ r .k → takenReports r ls ≤ r .k + 1 - r .depth
+unfolding takenReports counts movedBy endedRun
+taken-bound [] r d = omega arith
+taken-bound (l ∷ ls) r d = go (taken (l .0) r (l .1)) (taken-bound ls)
   where
-    last : accepted (endedRun r) ls ≡ 0
+    last : takenReports (endedRun r) ls ≡ 0
     last = ended-none ls (endedRun r) (ended-marked r)
 
-    go : Taken (l .0) r (l .1) → ((r : Run) → r .depth ≤ r .k → accepted r ls ≤ r .k + 1 - r .depth)
-        → counts (stepOf (l .0) r (l .1) .answer) + accepted (stepOf (l .0) r (l .1) .run) ls ≤ r .k + 1 - r .depth
+    go : Taken (l .0) r (l .1) → ((r : Run) → r .depth ≤ r .k → takenReports r ls ≤ r .k + 1 - r .depth)
+        → counts (stepOf (l .0) r (l .1) .answer) + takenReports (stepOf (l .0) r (l .1) .run) ls ≤ r .k + 1 - r .depth
     go (denies n p) ih = rw p (omega (arith, ih r d))
     go (moves i _ z a h p) ih = rw p (omega (arith, ih (movedBy (l .0) r i) (omega arith)))
     go (strays i _ z n p) ih = rw p (omega (arith, last))
@@ -192,15 +192,15 @@ accepted-bound (l ∷ ls) r d = go (taken (l .0) r (l .1)) (accepted-bound ls)
     go (passes z p) ih = rw p (omega (arith, last))
 
 -- with as many as that the run has ended: it ends within k + 1 accepted reports
-pub accepted-ends : (ls : List (Sheet × Report)) (r : Run) → r .depth ≤ r .k → accepted r ls ≡ r .k + 1 - r .depth → flag (runAfter r ls .ended) ≡ true
-unfolding accepted counts movedBy endedRun runAfter
-accepted-ends [] r d e = absurd (omega arith)
-accepted-ends (l ∷ ls) r d e = go (taken (l .0) r (l .1)) (accepted-ends ls)
+pub taken-ends : (ls : List (Sheet × Report)) (r : Run) → r .depth ≤ r .k → takenReports r ls ≡ r .k + 1 - r .depth → flag (runAfter r ls .ended) ≡ true
+unfolding takenReports counts movedBy endedRun runAfter
+taken-ends [] r d e = absurd (omega arith)
+taken-ends (l ∷ ls) r d e = go (taken (l .0) r (l .1)) (taken-ends ls)
   where
     last : flag (runAfter (endedRun r) ls .ended) ≡ true
     last = rw (ended-stays ls (endedRun r) (ended-marked r)) (ended-marked r)
 
-    go : Taken (l .0) r (l .1) → ((r : Run) → r .depth ≤ r .k → accepted r ls ≡ r .k + 1 - r .depth → flag (runAfter r ls .ended) ≡ true)
+    go : Taken (l .0) r (l .1) → ((r : Run) → r .depth ≤ r .k → takenReports r ls ≡ r .k + 1 - r .depth → flag (runAfter r ls .ended) ≡ true)
         → flag (runAfter (stepOf (l .0) r (l .1) .run) ls .ended) ≡ true
     go (denies n p) ih = rw p (ih r d (omega (arith, rw p at e)))
     go (moves i _ z a h p) ih = rw p (ih (movedBy (l .0) r i) (omega arith) (omega (arith, rw p at e)))

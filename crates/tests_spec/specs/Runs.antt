@@ -1,5 +1,5 @@
 -- Test k as a live run (01, "Test k and a live run"): what is offered, what a report is answered, and the record after it.
-use mathlib.Core.Bool.{Bool, true, false, not, _&&_, _||_, cond}
+use mathlib.Core.Bool.{Bool, not, _&&_, _||_, cond}
 use mathlib.Core.List.{List}
 use Prim.Native.Nat.{ℕ, _+_, _-_, _%_, _^_}
 use lib.Bits.{bitOr}

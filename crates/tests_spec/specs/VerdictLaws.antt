@@ -10,14 +10,15 @@ use native.Mathlib.Decide.{ℕ-discrete}
 use lib.Dec.{eqb, leb}
 use borrow.Author.Tests.{lt-ltb, eqb-true, eqb-false, eq-eqb, ne-eqb}
 use Rattle.base.specs.Truth.{dec, clash, not-i}
-use Rattle.base.specs.Finds.{finds-le, finds-eq}
-use Rattle.base.specs.Refusal.{unless, orElse, unless-hit, unless-pass, unless-none, unless-other, orElse-first, orElse-then}
+use Rattle.base.specs.Finds.{finds-le}
+use Rattle.base.specs.Refusal.{unless-hit, unless-none, unless-other}
 use Rattle.events.specs.Bit.{bit, bit≤1, Within, Apart}
 use Rattle.sheet_spec.specs.declared.Sheet.{Sheet}
 use Rattle.sheet_spec.specs.Kept.{row, successor, acceptance, acceptances, mayStop, step}
 use Rattle.sheet_spec.specs.Faults.{Initial}
 use Rattle.sheet_spec.specs.Rules.{sheetFault}
-use Rattle.sheet_spec.specs.CheckLaws.{further, finally}
+use Rattle.sheet_spec.specs.CheckLaws.{finally}
+use Rattle.sheet_spec.specs.PairFaults.{BothAccepted, pair-sheet, pair-11, pair-rest}
 use Rattle.sheet_spec.specs.Sound.{Sound, check-sound}
 use Rattle.probes_spec.specs.Probes.{probes}
 use Rattle.refinement_spec.specs.Refinement.{MayRefuse}
@@ -35,71 +36,32 @@ use Rattle.tests_spec.specs.Verdicts.{CanReport, Failed, deviceAfter, En
 use Rattle.tests_spec.specs.Numbers.{said, judged}
 use Rattle.tests_spec.specs.Offers.{offer-all, offer-below, offer-at, offer-outside}
 use Rattle.tests_spec.specs.Blocks.{stop-blocks, all-blocked, block-refusal, refusal-block}
-use Rattle.tests_spec.specs.RunLaws.{sheet-small, open-0, open-going, Beyond, NotOffered, RecordFault}
+use Rattle.tests_spec.specs.RunLaws.{open-0, open-going, Beyond, NotOffered, RecordFault}
 use Rattle.tests_spec.specs.RunLaws.{report-0, with, answer-of, run-of, kind-once, value-once}
 use Rattle.tests_spec.specs.RunLaws.{stray-step, moving-step, blocked-refused, Taken, denies, moves, strays, refuses, passes, taken}
 use Rattle.tests_spec.specs.Layers.{StopsAt, FailsOn, fails-next}
 
 -- The refusals of a verdict.
 module _ (P Q : Sheet) (k : ℕ) where
-  after-e : ℕ
-  after-e = unless (leb k 1023) 14 0
-
-  after-sheets : ℕ
-  after-sheets = unless (eqb (P .e) (Q .e)) 11 (unless (leb k 1023) 14 0)
-
-  both : (m : ℕ) → (8 < m) ⊎ (m ≡ 0) → (verdictFault P Q k ≡ m) ↔ (((sheetFault P ≡ 0) × (sheetFault Q ≡ 0)) × (after-sheets ≡ m))
-  unfolding verdictFault after-sheets
-  both m c = further (orElse-then (sheetFault P) _ m (small P c)) (λ h. orElse-then (sheetFault Q) _ m (small Q c))
-    where
-      small : (s : Sheet) → (8 < m) ⊎ (m ≡ 0) → (sheetFault s ≢ m) ⊎ (m ≡ 0)
-      small s (inl l) = inl (sheet-small s m l)
-      small s (inr z) = inr z
-
   -- a refused sheet's own number, the reference's before the device's
   pub verdict-sheet : (m : ℕ) → 0 < m → m < 9 → (verdictFault P Q k ≡ m) ↔ ((sheetFault P ≡ m) ⊎ ((sheetFault P ≡ 0) × (sheetFault Q ≡ m)))
   unfolding verdictFault
-  verdict-sheet m z l = (λ e. forth (sheetFault P) refl e, back)
-    where
-      own : (orElse (sheetFault Q) (unless (eqb (P .e) (Q .e)) 11 (unless (leb k 1023) 14 0)) ≡ m) ↔ (sheetFault Q ≡ m)
-      own =
-          orElse-first (sheetFault Q) _ m (λ e. omega arith)
-          (unless-other (eqb (P .e) (Q .e)) (λ e. omega arith) (unless-other (leb k 1023) (λ e. omega arith) (λ e. omega arith)))
-
-      forth : (p : ℕ) → sheetFault P ≡ p → orElse p (orElse (sheetFault Q) (unless (eqb (P .e) (Q .e)) 11 (unless (leb k 1023) 14 0))) ≡ m
-          → (sheetFault P ≡ m) ⊎ ((sheetFault P ≡ 0) × (sheetFault Q ≡ m))
-      forth zero q e = inr (q, own .0 e)
-      forth (suc p) q e = inl (q ∙ e)
-
-      back : (sheetFault P ≡ m) ⊎ ((sheetFault P ≡ 0) × (sheetFault Q ≡ m))
-          → orElse (sheetFault P) (orElse (sheetFault Q) (unless (eqb (P .e) (Q .e)) 11 (unless (leb k 1023) 14 0))) ≡ m
-      back (inl e) = rw e (some m z)
-        where
-          some : (m : ℕ) → 0 < m → orElse m (orElse (sheetFault Q) (unless (eqb (P .e) (Q .e)) 11 (unless (leb k 1023) 14 0))) ≡ m
-          some zero h = absurd (omega arith)
-          some (suc m) h = refl
-      back (inr (a, b)) = rw a (own .1 b)
+  verdict-sheet m z l = pair-sheet P Q _ m z (omega arith) (unless-other (leb k 1023) (λ e. omega arith) (λ e. omega arith))
 
   -- 11: E differs
-  pub verdict-11 : (verdictFault P Q k ≡ 11) ↔ (((sheetFault P ≡ 0) × (sheetFault Q ≡ 0)) × (P .e ≢ Q .e))
-  unfolding after-sheets
-  verdict-11 =
-      finally (both 11 (inl (omega arith)))
-      (λ h. unless-hit 11 _ (finds-eq (P .e) (Q .e)) (unless-other (leb k 1023) (λ e. omega arith) (λ e. omega arith)))
+  pub verdict-11 : (verdictFault P Q k ≡ 11) ↔ (BothAccepted P Q × (P .e ≢ Q .e))
+  unfolding verdictFault
+  verdict-11 = pair-11 P Q _ (unless-other (leb k 1023) (λ e. omega arith) (λ e. omega arith))
 
   -- 14: k is above 1,023
-  pub verdict-14 : (verdictFault P Q k ≡ 14) ↔ ((((sheetFault P ≡ 0) × (sheetFault Q ≡ 0)) × (¬ (P .e ≢ Q .e))) × (1023 < k))
-  unfolding after-sheets
-  verdict-14 =
-      finally (further (both 14 (inl (omega arith))) (λ h. unless-pass 11 _ 14 (finds-eq (P .e) (Q .e)) (λ e. omega arith)))
-      (λ h. unless-hit 14 0 (finds-le k 1023) (λ e. omega arith))
+  pub verdict-14 : (verdictFault P Q k ≡ 14) ↔ ((BothAccepted P Q × (¬ (P .e ≢ Q .e))) × (1023 < k))
+  unfolding verdictFault
+  verdict-14 = finally (pair-rest P Q _ 14 (inl (omega arith)) (λ e. omega arith)) (λ h. unless-hit 14 0 (finds-le k 1023) (λ e. omega arith))
 
   -- no refusal: none of these holds
-  pub verdict-0 : (verdictFault P Q k ≡ 0) ↔ ((((sheetFault P ≡ 0) × (sheetFault Q ≡ 0)) × (¬ (P .e ≢ Q .e))) × (¬ (1023 < k)))
-  unfolding after-sheets
-  verdict-0 =
-      finally (further (both 0 (inr refl)) (λ h. unless-pass 11 _ 0 (finds-eq (P .e) (Q .e)) (λ e. omega arith)))
-      (λ h. unless-none 14 (finds-le k 1023) (λ e. omega arith))
+  pub verdict-0 : (verdictFault P Q k ≡ 0) ↔ ((BothAccepted P Q × (¬ (P .e ≢ Q .e))) × (¬ (1023 < k)))
+  unfolding verdictFault
+  verdict-0 = finally (pair-rest P Q _ 0 (inr refl) (λ e. omega arith)) (λ h. unless-none 14 (finds-le k 1023) (λ e. omega arith))
 
   -- a refused verdict has its number
   pub verdict-denied : (to : Bool) → verdictFault P Q k ≢ 0 → verdictOf P Q k to ≡ NoVerdict (verdictFault P Q k)

@@ -1,12 +1,10 @@
 -- Texts of numbers, lines and sets.
 use mathlib.Core.Path.{_≡_, refl}
-use mathlib.Core.List.{List, [], _∷_, map}
-use Prim.Native.Nat.{ℕ}
+use mathlib.Core.List.{[], _∷_, map}
 use Rattle.events.specs.Bit.{bit}
 use Rattle.events.specs.Sets.{has}
 use Rattle.text_spec.specs.Lines.{ascii, decimalIn, decimal, numberLine, sheetLine, eventList}
 use Rattle.text_spec.specs.Sets.{eventsIn, members, setWords}
-use Rattle.text_spec.specs.Input.{cutInput, firstEnd, firstSheet, secondSheet}
 
 -- the numbers of one to four digits
 pub numbers-hold : map decimal (0 ∷ 9 ∷ 10 ∷ 99 ∷ 100 ∷ 1023 ∷ 1024 ∷ 4095 ∷ [])

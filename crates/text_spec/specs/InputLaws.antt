@@ -25,14 +25,6 @@ pub end-two : (input : List ℕ) → 4 ≤ length input → lengthField input + 
 unfolding firstEnd
 end-two input h k = rw (le-ltb (length input) 4 h, le-ltb (length input) (lengthField input + 4) k)
 
-pub end-le : (input : List ℕ) → firstEnd input ≤ length input
-end-le input = go (lt-or-ge (length input) 4) (lt-or-ge (length input) (lengthField input + 4))
-  where
-    go : (length input < 4) ⊎ (4 ≤ length input) → (length input < lengthField input + 4) ⊎ (lengthField input + 4 ≤ length input) → firstEnd input ≤ length input
-    go (inl h) k = omega (arith, end-all input (inl h))
-    go (inr h) (inl k) = omega (arith, end-all input (inr k))
-    go (inr h) (inr k) = omega (arith, end-two input h k)
-
 -- no byte is lost and none is read twice
 pub split-whole : (input : List ℕ) → firstSheet input ++ secondSheet input ≡ input
 unfolding firstSheet secondSheet

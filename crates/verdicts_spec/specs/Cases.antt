@@ -13,23 +13,12 @@ use Rattle.walks.specs.Reach.{nearer, leads}
 use Rattle.sheet_spec.specs.Kept.{successor, acceptance, acceptances, initials, mayStop, step}
 use Rattle.sheet_spec.specs.Rules.{rangesOk, countOk, countsOk, successorsOk, rowSuccessorsOk, successorOk, setsOk, rowSetsOk, setOk, ascends, apart, blank, unusedOk, blanksOk, reachedOk, sheetFault}
 use Rattle.sheet_spec.specs.Reading.{readSheet, answer, bytesFault, headFault, lengthField, layoutFault, nextAt, startOf, succOf, setsOf, rowAt, rowOf, sheetOf, graphFault}
+use Rattle.sheet_spec.specs.Examples.{exampleReference, exampleDevice, stopped, sheet}
 use Rattle.refinement_spec.specs.PairTests.{strays, hasStray, covers, hasRefusal, violates, violating}
 use Rattle.tests_spec.specs.Verdicts.{failsFrom, verdictFault, verdictOf}
 use Rattle.tests_spec.specs.Numbers.{judged}
-use Rattle.tests_spec.specs.Cases.{exampleDevice, sheet}
 use Rattle.verdicts_spec.specs.Suites.{tests, verdictNumber, suiteFault, suiteOf, verdictsAfter}
 use Rattle.verdicts_spec.specs.Numbers.{suited}
-
--- the reference of the program's example
-unfoldable pub exampleReference : List ℕ
-exampleReference =
-    0 ∷ 0 ∷ 0 ∷ 15 ∷ 1 ∷ 2 ∷ 2 ∷
-    1 ∷ 1 ∷ 2 ∷ 0 ∷ 1 ∷ 0 ∷ 2 ∷
-    0 ∷ 0 ∷ 1 ∷ 0 ∷ 3 ∷ []
-
--- one node with one event, stopped
-unfoldable pub stopped : List ℕ
-stopped = 0 ∷ 0 ∷ 0 ∷ 7 ∷ 1 ∷ 1 ∷ 1 ∷ 255 ∷ 1 ∷ 0 ∷ 0 ∷ []
 
 -- the example's reference against a device, with a list of some places that hold 9: the refusal, how many tests, and the list at exit
 unfoldable pub numbers : Bool → List ℕ → ℕ → List ℕ

@@ -9,6 +9,7 @@ pub record Suited : Type 0 where
   pub refusal : ℕ
   pub count : ℕ
 
+-- the numbers of an answer
 unfoldable pub suited : Suite → Suited
 suited (Judged n) = record { refusal = 0; count = n }
 suited (Denied m) = record { refusal = m; count = 0 }

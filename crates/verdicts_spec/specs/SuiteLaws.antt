@@ -10,12 +10,13 @@ use lib.ListN.{length, getD, drop, length-append, length-drop, List·getD-append
 use lib.Seq.{getD-append-add, getD-drop}
 use borrow.Author.Tests.{eqb-true, eq-eqb, ne-eqb}
 use Rattle.base.specs.Truth.{lt-or-ge}
-use Rattle.base.specs.Finds.{finds-eq, finds-le}
-use Rattle.base.specs.Refusal.{unless, orElse, unless-hit, unless-pass, unless-none, unless-other, orElse-some, orElse-first, orElse-then}
+use Rattle.base.specs.Finds.{finds-le}
+use Rattle.base.specs.Refusal.{unless, unless-hit, unless-none, unless-other}
 use Rattle.base.specs.Table.{upTo, length-upTo, getD-upTo}
 use Rattle.sheet_spec.specs.declared.Sheet.{Sheet}
 use Rattle.sheet_spec.specs.Rules.{sheetFault}
-use Rattle.sheet_spec.specs.CheckLaws.{check-below, further, finally}
+use Rattle.sheet_spec.specs.CheckLaws.{finally}
+use Rattle.sheet_spec.specs.PairFaults.{BothAccepted, pair-reference, pair-device, pair-sheet, pair-11, pair-rest}
 use Rattle.verdicts_spec.specs.declared.Suite.the-variants.{Judged, Denied}
 use Rattle.verdicts_spec.specs.Suites.{tests, verdictNumber, suiteFault, suiteOf, verdictsAfter}
 use Rattle.verdicts_spec.specs.Numbers.{suited}
@@ -28,72 +29,40 @@ past f n o x l =
     ap (λ (y : ℕ). getD (upTo f n ++ drop n o) y 0) e ∙ getD-append-add (upTo f n) (drop n o) (x - n) 0 ∙ getD-drop n o (x - n) 0 ∙ ap (λ (y : ℕ). getD o y 0) d
 
 module _ (P Q : Sheet) (out : List ℕ) where
-  -- neither sheet is refused
-  abbrev pub Accepted : Type 0
-  Accepted = (sheetFault P ≡ 0) × (sheetFault Q ≡ 0)
-
-  -- what is tested after 11, and after the sheets
+  -- what is tested after 11
   abbrev after11 : ℕ
   after11 = unless (leb (tests P Q) (length out)) 10 0
-
-  abbrev afterSheets : ℕ
-  afterSheets = unless (eqb (P .e) (Q .e)) 11 after11
 
   -- the reference's own refusal comes first, then the device's
   pub suite-reference : sheetFault P ≢ 0 → suiteFault P Q out ≡ sheetFault P
   unfolding suiteFault
-  suite-reference n = orElse-some (sheetFault P) _ (omega (arith, n))
+  suite-reference = pair-reference P Q after11
 
   pub suite-device : sheetFault P ≡ 0 → sheetFault Q ≢ 0 → suiteFault P Q out ≡ sheetFault Q
   unfolding suiteFault
-  suite-device z n = rw z (orElse-some (sheetFault Q) _ (omega (arith, n)))
-
-  -- a number above 8, or none, comes from what is tested after the sheets
-  past-sheets : (m : ℕ) → (8 < m) ⊎ (m ≡ 0) → (suiteFault P Q out ≡ m) ↔ (Accepted × (afterSheets ≡ m))
-  unfolding suiteFault
-  past-sheets m h =
-      further (orElse-then (sheetFault P) (orElse (sheetFault Q) afterSheets) m (own (sheetFault P) (check-below P) h))
-      (λ z. orElse-then (sheetFault Q) afterSheets m (own (sheetFault Q) (check-below Q) h))
-    where
-      own : (k : ℕ) → k ≤ 8 → (8 < m) ⊎ (m ≡ 0) → (k ≢ m) ⊎ (m ≡ 0)
-      own k l (inl p) = inl (λ e. omega arith)
-      own k l (inr p) = inr p
+  suite-device = pair-device P Q after11
 
   -- 11: of sheets that are not refused, E differs
-  pub suite-11 : (suiteFault P Q out ≡ 11) ↔ (Accepted × (P .e ≢ Q .e))
-  suite-11 =
-      finally (past-sheets 11 (inl (omega arith)))
-      (λ f. unless-hit 11 after11 (finds-eq (P .e) (Q .e)) (unless-other (leb (tests P Q) (length out)) (λ p. omega arith) (λ p. omega arith)))
+  pub suite-11 : (suiteFault P Q out ≡ 11) ↔ (BothAccepted P Q × (P .e ≢ Q .e))
+  unfolding suiteFault
+  suite-11 = pair-11 P Q after11 (unless-other (leb (tests P Q) (length out)) (λ p. omega arith) (λ p. omega arith))
 
   -- 10: .. E does not differ, and the list is shorter than the tests
-  pub suite-10 : (suiteFault P Q out ≡ 10) ↔ ((Accepted × (¬ (P .e ≢ Q .e))) × (length out < tests P Q))
+  pub suite-10 : (suiteFault P Q out ≡ 10) ↔ ((BothAccepted P Q × (¬ (P .e ≢ Q .e))) × (length out < tests P Q))
+  unfolding suiteFault
   suite-10 =
-      finally (further (past-sheets 10 (inl (omega arith))) (λ f. unless-pass 11 after11 10 (finds-eq (P .e) (Q .e)) (λ p. omega arith)))
+      finally (pair-rest P Q after11 10 (inl (omega arith)) (λ p. omega arith))
       (λ f. unless-hit 10 0 (finds-le (tests P Q) (length out)) (λ p. omega arith))
 
   -- none: .. and it is long enough
-  pub suite-0 : (suiteFault P Q out ≡ 0) ↔ ((Accepted × (¬ (P .e ≢ Q .e))) × (¬ (length out < tests P Q)))
-  suite-0 =
-      finally (further (past-sheets 0 (inr refl)) (λ f. unless-pass 11 after11 0 (finds-eq (P .e) (Q .e)) (λ p. omega arith)))
-      (λ f. unless-none 10 (finds-le (tests P Q) (length out)) (λ p. omega arith))
+  pub suite-0 : (suiteFault P Q out ≡ 0) ↔ ((BothAccepted P Q × (¬ (P .e ≢ Q .e))) × (¬ (length out < tests P Q)))
+  unfolding suiteFault
+  suite-0 = finally (pair-rest P Q after11 0 (inr refl) (λ p. omega arith)) (λ f. unless-none 10 (finds-le (tests P Q) (length out)) (λ p. omega arith))
 
   -- a sheet's own number is given exactly for that sheet, the reference before the device
   pub suite-sheet : (m : ℕ) → 0 < m → m ≤ 8 → (suiteFault P Q out ≡ m) ↔ ((sheetFault P ≡ m) ⊎ ((sheetFault P ≡ 0) × (sheetFault Q ≡ m)))
   unfolding suiteFault
-  suite-sheet m z l = (λ e. forth (sheetFault P) refl e, back)
-    where
-      own : (orElse (sheetFault Q) afterSheets ≡ m) ↔ (sheetFault Q ≡ m)
-      own =
-          orElse-first (sheetFault Q) afterSheets m (λ e. omega arith)
-          (unless-other (eqb (P .e) (Q .e)) (λ e. omega arith) (unless-other (leb (tests P Q) (length out)) (λ e. omega arith) (λ e. omega arith)))
-
-      forth : (p : ℕ) → sheetFault P ≡ p → orElse p (orElse (sheetFault Q) afterSheets) ≡ m → (sheetFault P ≡ m) ⊎ ((sheetFault P ≡ 0) × (sheetFault Q ≡ m))
-      forth zero q e = inr (q, own .0 e)
-      forth (suc p) q e = inl (q ∙ e)
-
-      back : (sheetFault P ≡ m) ⊎ ((sheetFault P ≡ 0) × (sheetFault Q ≡ m)) → orElse (sheetFault P) (orElse (sheetFault Q) afterSheets) ≡ m
-      back (inl e) = rw e (orElse-some m (orElse (sheetFault Q) afterSheets) z)
-      back (inr (a, b)) = rw a (own .1 b)
+  suite-sheet m z l = pair-sheet P Q after11 m z l (unless-other (leb (tests P Q) (length out)) (λ e. omega arith) (λ e. omega arith))
 
   -- two sheets that are not refused, with equal event counts and a list that is long enough
   pub suite-fits : sheetFault P ≡ 0 → sheetFault Q ≡ 0 → P .e ≡ Q .e → tests P Q ≤ length out → suiteFault P Q out ≡ 0

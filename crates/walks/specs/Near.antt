@@ -131,6 +131,7 @@ module _ (g : Graph) (bad : ℕ → Bool) (w : WellFormed g) where
       forth : distance g bad < g .size → (t : List ℕ) × Leads g bad 0 t
       forth h = let v = distance→ g bad w h in (v .0, v .2)
 
+  -- no shorter list leads to a bad node
   pub distance-least : (t : List ℕ) → length t < distance g bad → Leads g bad 0 t → ⊥
   distance-least t h l = omega (arith, distance≤ t l)
 

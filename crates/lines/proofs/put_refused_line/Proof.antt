@@ -1,6 +1,6 @@
 -- The pieces of the line, one after another.
 use native.Mathlib.Omega.{arith}
-use Rattle.lines_spec.specs.Lines.{refusedLine}
+use Rattle.lines_spec.specs.Lines.{refusedProbeLine}
 use Rattle.text_spec.specs.AddsLaws.{adds-then}
 use Rattle.lines.proofs.put_refused_line.Statement.{statement}
 use Rattle.lines.proofs.put_refused_line.Tie as tie
@@ -33,7 +33,7 @@ same-length : tie.Need-same-length
 same-length c = omega arith
 
 returns : tie.Need-returns
-unfolding refusedLine
+unfolding refusedProbeLine
 returns c = adds-then (c .before .before .before .before .before .before .before .before .before .before .before .before .before .before .before .before .before .before .before .before .put .ensures) (adds-then (c .before .before .before .before .before .before .before .before .before .before .before .before .before .before .before .before .put-number .ensures) (adds-then (c .before .before .before .before .before .before .before .before .before .before .before .put2 .ensures) (adds-then (c .before .before .before .before .before .before .before .put-number2 .ensures) (c .before .before .put3 .ensures))))
 
 pub put-refused-line-spec : {M : Type 1} → statement M

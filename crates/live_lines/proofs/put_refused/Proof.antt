@@ -1,7 +1,7 @@
 -- The pieces of the line, one after another.
 use native.Mathlib.Omega.{arith}
 use Rattle.text_spec.specs.AddsLaws.{adds-then}
-use Rattle.live_lines_spec.specs.Answers.{refusedLine}
+use Rattle.live_lines_spec.specs.Answers.{refusedSetLine}
 use Rattle.live_lines.proofs.put_refused.Statement.{statement}
 use Rattle.live_lines.proofs.put_refused.Tie as tie
 
@@ -24,7 +24,7 @@ same-length : tie.Need-same-length
 same-length c = omega arith
 
 returns : tie.Need-returns
-unfolding refusedLine
+unfolding refusedSetLine
 returns c = adds-then (c .before .before .before .before .before .before .before .before .before .before .before .put .ensures) (adds-then (c .before .before .before .before .before .before .before .put-set .ensures) (c .before .before .put2 .ensures))
 
 pub put-refused-spec : {M : Type 1} → statement M

@@ -1,7 +1,7 @@
 -- One of two texts.
 use native.Mathlib.Omega.{arith}
 use Rattle.text_spec.specs.AddsLaws.{adds-all}
-use Rattle.live_lines_spec.specs.Answers.{stopLine}
+use Rattle.live_lines_spec.specs.Answers.{endedLine}
 use Rattle.live_lines.proofs.put_stop.Statement.{statement}
 use Rattle.live_lines.proofs.put_stop.Tie as tie
 
@@ -15,7 +15,7 @@ same-length : tie.Need-same-length
 same-length c = omega arith
 
 returns : tie.Need-returns
-unfolding stopLine
+unfolding endedLine
 returns c = rw (c .before .before .before .before .before .if1 .taken) (adds-all (c .before .before .put .ensures))
 
 slice-aggregate-put-2 : tie.Need-slice-aggregate-put-2
@@ -28,7 +28,7 @@ same-length-2 : tie.Need-same-length-2
 same-length-2 c = omega arith
 
 returns-2 : tie.Need-returns-2
-unfolding stopLine
+unfolding endedLine
 returns-2 c = rw (c .before .before .before .before .before .if1 .left) (adds-all (c .before .before .put2 .ensures))
 
 pub put-stop-spec : {M : Type 1} → statement M

@@ -1,6 +1,6 @@
 -- The pieces of the line, one after another.
 use native.Mathlib.Omega.{arith}
-use Rattle.node_lines_spec.specs.Node.{stopLine}
+use Rattle.node_lines_spec.specs.Node.{mayStopLine}
 use Rattle.text_spec.specs.AddsLaws.{adds-then}
 use Rattle.probe_lines.proofs.put_stop_line.Statement.{statement}
 use Rattle.probe_lines.proofs.put_stop_line.Tie as tie
@@ -24,7 +24,7 @@ same-length : tie.Need-same-length
 same-length c = omega arith
 
 returns : tie.Need-returns
-unfolding stopLine
+unfolding mayStopLine
 returns c = adds-then (c .before .before .before .before .before .before .before .before .before .before .before .put .ensures) (adds-then (c .before .before .before .before .before .before .before .put-number .ensures) (c .before .before .put2 .ensures))
 
 pub put-stop-line-spec : {M : Type 1} → statement M

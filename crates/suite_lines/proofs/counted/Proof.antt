@@ -1,6 +1,5 @@
 -- The test is that of the definition.
 use native.Mathlib.Omega.{arith}
-use native.Mathlib.Nat.{add-zero}
 use borrow.Author.Tests.{eq-eqb, ne-eqb}
 use Rattle.suite_lines.proofs.counted.Statement.{statement}
 use Rattle.suite_lines.proofs.counted.Tie as tie
