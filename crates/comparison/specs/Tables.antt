@@ -30,7 +30,7 @@ use Rattle.comparison_spec.specs.Numbers.{compared}
 use Rattle.comparison_spec.specs.CallLaws.{compare-0, denied-outcome, denied-trace, denied-work, given-outcome, given-trace, given-no-trace, given-work}
 use Rattle.search_spec.specs.declared.Found.{Found}
 use Rattle.search_spec.specs.Tables.{tableNext, tableGraph, badIn}
-use Rattle.search_spec.specs.Found.{foundOf, Searched, traceAfter as searchTrace, workAfter as searchWork}
+use Rattle.search_spec.specs.Found.{foundOf, Searched, traceFound, workFound}
 use Rattle.search_spec.specs.Read.{SearchOk}
 use Rattle.rows.specs.Flat.{flatAt, flat-holds}
 use Rattle.comparison.specs.Shapes.{faultOn, badAt, badTable, told, Fits}
@@ -105,11 +105,11 @@ module _ (traceOnly : Bool) (P Q : Sheet) (op : Sound P) (oq : Sound Q) where
       go (inr l) = rw (le-ltb (pairDistance (graph P) (graph Q) table) (P .n * Q .n) l) (omega (arith, small, cleared-le (graph P) (graph Q) (P .n * Q .n)))
 
   -- .. and so is the trace list
-  after-trace : (work trace : List ℕ) → compareFault P Q work trace ≡ 0 → searchTrace (graph P) (graph Q) table trace ≡ traceAfter traceOnly P Q work trace
-  unfolding searchTrace pairs
+  after-trace : (work trace : List ℕ) → compareFault P Q work trace ≡ 0 → traceFound (graph P) (graph Q) table trace ≡ traceAfter traceOnly P Q work trace
+  unfolding traceFound pairs
   after-trace work trace z = go (lt-or-ge (nearest traceOnly P Q) (P .n * Q .n))
     where
-      go : (nearest traceOnly P Q < P .n * Q .n) ⊎ (P .n * Q .n ≤ nearest traceOnly P Q) → searchTrace (graph P) (graph Q) table trace ≡ traceAfter traceOnly P Q work trace
+      go : (nearest traceOnly P Q < P .n * Q .n) ⊎ (P .n * Q .n ≤ nearest traceOnly P Q) → traceFound (graph P) (graph Q) table trace ≡ traceAfter traceOnly P Q work trace
       go (inl l) =
           rw (pairTrace-length (graph P) (graph Q) table, same-distance, lt-ltb (nearest traceOnly P Q) (P .n * Q .n) l, same-trace l)
           (sym (given-trace P Q work trace traceOnly z l))
@@ -193,5 +193,5 @@ module _ (P Q : Sheet) (work trace : List ℕ) where
               answer = x;
               numbers = ap compared x;
               traced = (rw (graph-P, graph-Q) at (searched .traced)) ∙ after-trace traceOnly P Q sound-P sound-Q work trace z;
-              zeroed = (unfold searchWork pairs in (searched .zeroed ∙ sym (given-work P Q work trace traceOnly z)));
+              zeroed = (unfold workFound pairs in (searched .zeroed ∙ sym (given-work P Q work trace traceOnly z)));
             }

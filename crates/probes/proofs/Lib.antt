@@ -1,4 +1,3 @@
-pub mod Passes
 pub mod Turns
 pub mod Misses
 pub mod Lists

@@ -11,7 +11,7 @@ use Rattle.probes_spec.specs.declared.Missed.{Missed}
 use Rattle.probes_spec.specs.declared.Missed.the-variants.{Nothing, Found}
 use Rattle.probes_spec.specs.Shapes.{turns, value, turn, nextFrom}
 use Rattle.probes_spec.specs.FirstMissed.{missing, orNext, firstMissing, firstMissed}
-use Rattle.probes.proofs.Passes.{left-some, left-none}
+use Rattle.turns.proofs.Passes.{left-some, left-none}
 use Rattle.probes.proofs.Turns.{Stands, seen, seen-start, seen-next, seen-split, seen-end}
 
 -- the inner loop, from acceptance k on

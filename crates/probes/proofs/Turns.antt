@@ -12,7 +12,7 @@ use lib.ListN.{length, getD, set, take, drop, length-append}
 use lib.Seq.{drop-cons, set-append-seam, take-suc, length-take-le, take-append-seam}
 use Rattle.base.specs.Truth.{dec}
 use Rattle.probes_spec.specs.Probes.{gather, probes}
-use Rattle.probes_spec.specs.Gather.{gather-yes, gather-no, gather-skip, gather-short, gather-room, gather-has}
+use Rattle.probes_spec.specs.Gather.{gather-yes, gather-no, gather-skip, gather-short, gather-room}
 use Rattle.probes_spec.specs.Shapes.{turns, value, turn, nextIn, nextFrom}
 use Rattle.probes_spec.specs.ShapeLaws.{turns-probes}
 use Rattle.probes_spec.specs.Listing.{front}
@@ -51,22 +51,9 @@ next-from p n x h =
     let e : x + (n - x) ≡ n = omega arith in
     record { low = r .low; high = omega (arith, r .high, e); passes = λ l. r .passes (omega (arith, l, e)); fails = r .fails }
 
-module _ (p : ℕ → Bool) (n x : ℕ) where
-  -- a loop finds it at x, one further, or not at all
-  pub next-yes : x < n → p x ≡ true → nextFrom p n x ≡ x
-  unfolding nextFrom nextIn
-  next-yes h t = let e : n - x ≡ suc (n - suc x) = omega arith in rw (e, t)
-
-  pub next-no : x < n → p x ≡ false → nextFrom p n x ≡ nextFrom p n (x + 1)
-  unfolding nextFrom nextIn
-  next-no h t = let e : n - x ≡ suc (n - suc x) = omega arith in rw (e, t, add-one x)
-
-  pub next-low : x ≤ n → (y : ℕ) → y ≡ nextFrom p n x → x ≤ y
-  next-low h y q = rw q (next-from p n x h .low)
-
-  pub next-end : n ≤ x → nextFrom p n x ≡ x
-  unfolding nextFrom nextIn
-  next-end h = let e : n - x ≡ 0 = omega arith in rw e
+-- it is not before x
+pub next-low : (p : ℕ → Bool) (n x : ℕ) → x ≤ n → (y : ℕ) → y ≡ nextFrom p n x → x ≤ y
+next-low p n x h y q = rw q (next-from p n x h .low)
 
 -- ---- the turns
 
@@ -103,10 +90,6 @@ module _ (accs : List ℕ) (e : ℕ) where
     -- there is room for it in a list that has room for all
     pub seen-room : length (seen x) < length (probes accs e)
     seen-room = rw (← turns-probes accs e) (gather-room (turn accs e) (value e) x (turns e) h (s .lists h))
-
-    -- it stands at its place in the list
-    pub seen-at : getD (probes accs e) (length (seen x)) 0 ≡ value e x
-    seen-at = rw (← turns-probes accs e) (gather-has (turn accs e) (value e) x (turns e) h (s .lists h))
 
     -- the list has it after what was seen
     pub seen-split : (rest : List ℕ) × (probes accs e ≡ seen x ++ (value e x ∷ rest))

@@ -16,7 +16,7 @@ use Rattle.walks.specs.Pairs.{onCodes, pairDistance, pairTrace, pairCleared}
 use Rattle.search_spec.specs.declared.Found.{Found}
 use Rattle.search_spec.specs.declared.Found.the-variants.{Clear, Bad}
 use Rattle.search_spec.specs.Tables.{tableNext, tableGraph, badIn}
-use Rattle.search_spec.specs.Found.{foundOf, traceAfter, workAfter}
+use Rattle.search_spec.specs.Found.{foundOf, traceFound, workFound}
 
 -- a row of two events
 row : ℕ → ℕ → List ℕ
@@ -50,7 +50,7 @@ found bad = foundOf (tableGraph left 2 2) (tableGraph right 3 2) (badIn bad 3)
 
 -- a trace list of six places at exit
 trace : List Bool → List ℕ
-trace bad = traceAfter (tableGraph left 2 2) (tableGraph right 3 2) (badIn bad 3) (replicate 6 9)
+trace bad = traceFound (tableGraph left 2 2) (tableGraph right 3 2) (badIn bad 3) (replicate 6 9)
 
 -- at distance 5 with five pairs nearer; at distance 1 with the start nearer; none of six
 answers : found last ∷ found near ∷ found none ∷ [] ≡ Bad 5 1 2 5 ∷ Bad 1 1 1 1 ∷ Clear 6 ∷ []
@@ -61,11 +61,11 @@ answers = refl
 -- the least trace in front, the rest untouched; untouched if no bad pair is reached
 traces : trace last ∷ trace near ∷ trace none ∷ []
     ≡ (0 ∷ 0 ∷ 0 ∷ 0 ∷ 0 ∷ 9 ∷ []) ∷ (0 ∷ 9 ∷ 9 ∷ 9 ∷ 9 ∷ 9 ∷ []) ∷ replicate 6 9 ∷ []
-unfolding trace traceAfter pairDistance pairTrace onCodes product pairNext code distance meets leastTrace leastFrom choice later
+unfolding trace traceFound pairDistance pairTrace onCodes product pairNext code distance meets leastTrace leastFrom choice later
     any first tableGraph tableNext badIn left right row last near none
 traces = refl
 
 -- three words of one pair are 0, the rest untouched
-words : workAfter 1 (7 ∷ 7 ∷ 7 ∷ 7 ∷ []) ≡ 0 ∷ 0 ∷ 0 ∷ 7 ∷ []
-unfolding workAfter
+words : workFound 1 (7 ∷ 7 ∷ 7 ∷ 7 ∷ []) ≡ 0 ∷ 0 ∷ 0 ∷ 7 ∷ []
+unfolding workFound
 words = refl

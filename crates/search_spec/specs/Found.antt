@@ -29,18 +29,18 @@ module _ (r d : Graph) (bad : ℕ → ℕ → Bool) where
       (Clear (pairCleared r d (r .size * d .size)))
 
   -- The trace list at exit: the least trace in front and the rest untouched; as it was if no bad pair is reached.
-  unfoldable pub traceAfter : List ℕ → List ℕ
-  traceAfter trace = cond (ltb (pairDistance r d bad) (r .size * d .size)) (pairTrace r d bad ++ drop (length (pairTrace r d bad)) trace) trace
+  unfoldable pub traceFound : List ℕ → List ℕ
+  traceFound trace = cond (ltb (pairDistance r d bad) (r .size * d .size)) (pairTrace r d bad ++ drop (length (pairTrace r d bad)) trace) trace
 
 -- The work list at exit: the first 3 n words are 0 and the rest untouched.
-unfoldable pub workAfter : ℕ → List ℕ → List ℕ
-workAfter n work = replicate (3 * n) 0 ++ drop (3 * n) work
+unfoldable pub workFound : ℕ → List ℕ → List ℕ
+workFound n work = replicate (3 * n) 0 ++ drop (3 * n) work
 
 -- What a search over two tables answers and leaves in its lists.
 pub record Searched (a b : List ℕ) (p q e : ℕ) (bad : List Bool) (work trace work′ trace′ : List ℕ) (found : Found) : Type 0 where
   pub answer : found ≡ foundOf (tableGraph a p e) (tableGraph b q e) (badIn bad q)
-  pub traced : trace′ ≡ traceAfter (tableGraph a p e) (tableGraph b q e) (badIn bad q) trace
-  pub zeroed : work′ ≡ workAfter (p * q) work
+  pub traced : trace′ ≡ traceFound (tableGraph a p e) (tableGraph b q e) (badIn bad q) trace
+  pub zeroed : work′ ≡ workFound (p * q) work
 
 -- The search has ended at entry h: it is the first bad one, or there is none.
 pub record Ended (g : Graph) (bad : ℕ → Bool) (h : ℕ) (s : St) : Type 0 where
@@ -146,11 +146,11 @@ module _ (a b : List ℕ) (p q e : ℕ) (bad : List Bool) (h : ℕ) (s : St) (hp
       go (inr l) = let k : n ≤ pairDistance R D T = omega (arith, far l) in rw (le-ltb h (s .tail) l, le-ltb (pairDistance R D T) n k, all l)
 
   -- and so is the trace
-  pub readOut-is : (trace : List ℕ) → readOut n w h (s .tail) trace ≡ traceAfter R D T trace
-  unfolding readOut traceAfter tableGraph
+  pub readOut-is : (trace : List ℕ) → readOut n w h (s .tail) trace ≡ traceFound R D T trace
+  unfolding readOut traceFound tableGraph
   readOut-is trace = go (lt-or-ge h (s .tail))
     where
-      go : (h < s .tail) ⊎ (s .tail ≤ h) → readOut n w h (s .tail) trace ≡ traceAfter R D T trace
+      go : (h < s .tail) ⊎ (s .tail ≤ h) → readOut n w h (s .tail) trace ≡ traceFound R D T trace
       go (inl l) =
           let c : length (pairTrace R D T) ≡ distAt n w (nodeAt w h) = pairTrace-length R D T ∙ deep l in
           rw (lt-ltb h (s .tail) l, lt-ltb (pairDistance R D T) n (near l), c, events l)

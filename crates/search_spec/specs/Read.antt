@@ -18,7 +18,7 @@ use Rattle.search_spec.specs.declared.Found.the-variants.{Clear, Bad}
 use Rattle.search_spec.specs.Tables.{tablePairs, badCode}
 use Rattle.search_spec.specs.Queue.{Made, readBack, readBack-length}
 use Rattle.search_spec.specs.Words.{St, nodeAt, linkAt, distAt, Running, tail-le}
-use Rattle.search_spec.specs.Found.{Ended, levelOf, settled, readOut, Searched, settled-is, readOut-is, workAfter}
+use Rattle.search_spec.specs.Found.{Ended, levelOf, settled, readOut, Searched, settled-is, readOut-is, workFound}
 use Rattle.search_spec.specs.Steps.{Sizes, pairs-size, small-product, RunOk, Seat, seat}
 
 -- ---- the trace
@@ -285,7 +285,7 @@ module _ (p q e : ℕ) (work trace : List ℕ) (o : SearchOk p q e work trace) w
     search-whole v w′ o′ f cv cs cf cw = record {
       answer = cf .0 ∙ settled-is a b p q e bad h s (o .first-some) (o .second-some) end;
       traced = cf .1 ∙ readOut-is a b p q e bad h s (o .first-some) (o .second-some) end trace;
-      zeroed = unfold workAfter in (cw ∙ ap (λ (y : List ℕ). replicate m 0 ++ y)
+      zeroed = unfold workFound in (cw ∙ ap (λ (y : List ℕ). replicate m 0 ++ y)
           (cs ∙ ap (drop m) cv ∙ drop-at (replicate m 0) (drop m work) m (length-replicate m 0)));
     }
       where

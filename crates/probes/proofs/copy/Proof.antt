@@ -1,5 +1,5 @@
 -- `probes::copy`. After i rounds the first i sets stand at the front, and the rest is as it was.
-use mathlib.Core.Path.{_≡_, ap, _∙_}
+use mathlib.Core.Path.{_≡_, _∙_}
 use Prim.Native.Nat.{_-_, _≤_}
 use native.Mathlib.Omega.{arith}
 use denote.Ref.{now}

@@ -1,0 +1,87 @@
+-- `entries::visit`: the three words of a new entry, or nothing.
+use mathlib.Core.Path.{_∙_}
+use native.Mathlib.Omega.{arith}
+use lib.ListN.{length-set}
+use borrow.Author.Tests.{eq-eqb, ne-eqb}
+use Rattle.search_spec.specs.Words.{linkAt, visited}
+use Rattle.entries.proofs.visit.Statement.{statement}
+use Rattle.entries.proofs.visit.Tie as tie
+
+add-if1 : tie.Need-add-if1
+add-if1 c = omega arith
+
+mul-if1 : tie.Need-mul-if1
+mul-if1 c = omega arith
+
+slice-read-if1 : tie.Need-slice-read-if1
+slice-read-if1 c = omega arith
+
+cast-work : tie.Need-cast-work
+cast-work c = omega arith
+
+add-work : tie.Need-add-work
+add-work c = omega arith
+
+mul-work : tie.Need-mul-work
+mul-work c = omega arith
+
+slice-write-work : tie.Need-slice-write-work
+slice-write-work c = omega arith
+
+set-dist-requires : tie.Need-set-dist-requires
+set-dist-requires c κs = (omega arith, simp length-set (omega arith), omega arith)
+
+cast-work-2 : tie.Need-cast-work-2
+cast-work-2 c = omega arith
+
+mul-work-2 : tie.Need-mul-work-2
+unfolding linkAt
+mul-work-2 c =
+    omega (arith, c .before .before .before .before .before .before .before .pre .0 .free (c .before .before .before .before .if1 .taken))
+
+slice-write-work-2 : tie.Need-slice-write-work-2
+unfolding linkAt
+slice-write-work-2 c =
+    omega (
+      arith,
+      c .before .before .before .before .before .before .before .pre .0 .free (c .before .before .before .before .if1 .taken),
+      simp length-set at (c .before .before .set-dist .kept .0),
+    )
+
+add-result : tie.Need-add-result
+unfolding linkAt
+add-result c =
+    omega (arith, c .before .before .before .before .before .before .before .pre .0 .free (c .before .before .before .before .if1 .taken))
+
+same-length : tie.Need-same-length
+same-length c =
+    let a = c .before .before .before .before .before .before .before .args in
+    length-set (c .before .before .set-dist .last .0) (a .tail) (a .node) ∙ (simp length-set at (c .before .before .set-dist .kept .0))
+
+returns : tie.Need-returns
+unfolding visited linkAt
+returns c = rw (eq-eqb _ _ (c .before .before .before .before .if1 .taken), c .before .before .set-dist .ensures)
+
+returns-2 : tie.Need-returns-2
+unfolding visited linkAt
+returns-2 c = rw (ne-eqb _ _ (c .if1 .left))
+
+pub visit-spec : {M : Type 1} → statement M
+visit-spec =
+    tie.close
+    (tie.spec
+    add-if1
+    mul-if1
+    slice-read-if1
+    cast-work
+    add-work
+    mul-work
+    slice-write-work
+    set-dist-requires
+    cast-work-2
+    mul-work-2
+    slice-write-work-2
+    add-result
+    same-length
+    returns
+    returns-2)
