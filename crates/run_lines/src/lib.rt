@@ -1,0 +1,102 @@
+// The lines that the Run programs read: a name, a colon, and numbers. A line is read byte by byte: up to the colon a byte belongs to the
+// name, after it a byte from `0` on is a digit and any other ends a number.
+ghost use mathlib.Core.Path.{_≡_};
+ghost use mathlib.Core.Bool.{not};
+ghost use lib.Dec.{eqb};
+ghost use Rattle.run_lines.specs.Lines.{newLine, withDigit, withNumber, lineAfter, numberOf, smallOf};
+
+// A line so far: whether its name has ended, whether a number has begun, that number, how many came before it, and these.
+pub struct Line {
+    pub named: bool,
+    pub begun: bool,
+    pub x: u16,
+    pub count: usize,
+    pub numbers: [u16; 64],
+}
+
+// A line of which nothing has come.
+pub fn new_line() -> Line
+    ensures { λ r. ⌜ r ≡ newLine ⌝ }
+{
+    let numbers = [0u16; 64];
+    Line {
+        named: false,
+        begun: false,
+        x: 0,
+        count: 0,
+        numbers: numbers,
+    }
+}
+
+// The line with a digit more. A number stays below 65,536: one of 6,553 or more takes no digit.
+fn with_digit(line: Line, d: u8) -> Line
+    ensures { λ r. ⌜ r ≡ withDigit line d ⌝ }
+{
+    let mut l = line;
+    l.begun = true;
+    if l.x >= 6553 {
+        return l;
+    }
+    if d >= 10 {
+        return l;
+    }
+    l.x = l.x * 10 + (d as u16);
+    l
+}
+
+// The line with its number at an end: it is kept, where one has begun and there is room.
+fn with_number(line: Line) -> Line
+    ensures { λ r. ⌜ r ≡ withNumber line ⌝ }
+{
+    let mut l = line;
+    let at = l.count;
+    let x = l.x;
+    l.x = 0;
+    l.begun = false;
+    if !line.begun {
+        return l;
+    }
+    if at >= 64 {
+        return l;
+    }
+    l.numbers[at] = x;
+    l.count = at + 1;
+    l
+}
+
+// The line after one byte more.
+pub fn after(line: Line, b: u8) -> Line
+    ensures { λ r. ⌜ r ≡ lineAfter line b ⌝ }
+{
+    let mut l = line;
+    if !line.named {
+        l.named = b == b':';
+        return l;
+    }
+    if b < b'0' {
+        return with_number(line);
+    }
+    with_digit(line, b - b'0')
+}
+
+// Number i of a line, 0 past its end.
+pub fn number(line: Line, i: usize) -> u16
+    ensures { λ r. ⌜ r ≡ numberOf line i ⌝ }
+{
+    if i < 64 { line.numbers[i] } else { 0 }
+}
+
+// Number i of a line as a byte, 255 for one above.
+pub fn small(line: Line, i: usize) -> u8
+    ensures { λ r. ⌜ r ≡ smallOf (numberOf line i) ⌝ }
+{
+    let x = number(line, i);
+    if x < 256 { x as u8 } else { 255 }
+}
+
+// Number i of a line as a yes or no.
+pub fn flag(line: Line, i: usize) -> bool
+    ensures { λ r. ⌜ r ≡ not (eqb (numberOf line i) 0) ⌝ }
+{
+    number(line, i) != 0
+}
