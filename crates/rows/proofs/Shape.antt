@@ -1,11 +1,8 @@
 -- What owning a row or a sheet tells of its lists: their lengths and ranges, and so what a read of each place gives.
 use mathlib.Core.Path.{_≡_, refl, sym, _∙_}
-use mathlib.Core.Logic.{_⊎_, inl, inr}
-use mathlib.Core.Bool.{false, cond}
 use mathlib.Core.List.{List, [], _∷_, map}
 use Prim.Native.Nat.{ℕ, zero, suc, _<_, _≤_}
 use native.Mathlib.Omega.{arith}
-use lib.Dec.{ltb}
 use lib.ListN.{length, getD, length-map, List·getD-eq-default}
 use mir.Val.{Val}
 use base.Fml.{Fml}
@@ -13,13 +10,9 @@ use denote.Shadow.{shadow}
 use denote.Array.{each}
 use denote.Laws.{Is}
 use denote.Builtin.{u8, u16}
-use borrow.Author.Tests.{lt-ltb, le-ltb}
-use Rattle.base.specs.Truth.{lt-or-ge}
-use Rattle.base.specs.Range.{all-stop}
 use Rattle.sheet_spec.specs.declared.Row.{Row}
 use Rattle.sheet_spec.specs.declared.Sheet.{Sheet}
-use Rattle.sheet_spec.specs.Kept.{noRow, successor, acceptance, initials}
-use Rattle.sheet_spec.specs.Rules.{ascends, setOk, rowSetsOk}
+use Rattle.sheet_spec.specs.Kept.{noRow, successor, acceptance}
 use Rattle.sheet_spec.specs.Form.{RowForm, SheetForm}
 use Rattle.sheet_spec.proofs.Row as R
 use Rattle.sheet_spec.proofs.Sheet as S
@@ -61,25 +54,9 @@ module _ (r : Row) (vs : List Val) (p : Is R.the-row r vs) where
   unfolding successor
   succ-out i h = sym (List·getD-eq-default (r .succ) 255 (omega (arith, succs)))
 
-  pub succ-is : (i : ℕ) → cond (ltb i 12) (getD (r .succ) i 0) 255 ≡ successor r i
-  succ-is i = go (lt-or-ge i 12)
-    where
-      go : (i < 12) ⊎ (12 ≤ i) → cond (ltb i 12) (getD (r .succ) i 0) 255 ≡ successor r i
-      go (inl h) = rw (lt-ltb i 12 h) (succ-in i h)
-      go (inr h) = rw (le-ltb i 12 h) (succ-out i h)
-
   pub set-out : (j : ℕ) → 16 ≤ j → 0 ≡ acceptance r j
   unfolding acceptance
   set-out j h = sym (List·getD-eq-default (r .sets) 0 (omega (arith, sets)))
-
-  -- so a 17th set is not greater than the one before it
-  not-up : ascends r 16 ≡ false
-  unfolding ascends
-  not-up = le-ltb (acceptance r 15) (acceptance r 16) (omega (arith, set-out 16 (omega arith)))
-
-  pub too-many : (e : ℕ) → 16 < r .c → false ≡ rowSetsOk e r
-  unfolding rowSetsOk setOk
-  too-many e h = sym (all-stop (setOk (initials e r) r) (r .c) 16 h (rw not-up))
 
   -- a row that is owned has the machine's form
   pub row-form : RowForm r

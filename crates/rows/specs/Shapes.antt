@@ -1,34 +1,11 @@
--- The shapes of loops; nothing to believe. Inner functions cite them, laws join them to the rules.
-use mathlib.Core.Bool.{Bool, not, _&&_, _||_, cond}
-use mathlib.Core.List.{List, []}
-use Prim.Native.Nat.{ℕ, zero, suc, _^_}
+-- The shape of a loop; nothing to believe. An inner function cites it, a law joins it to the initials.
+use mathlib.Core.Bool.{not, _&&_, cond}
+use Prim.Native.Nat.{ℕ}
 use lib.Dec.{eqb, ltb}
-use lib.Bits.{bitOr}
-use Rattle.base.specs.Range.{all}
 use Rattle.events.specs.Sets.{insert}
 use Rattle.sheet_spec.specs.declared.Row.{Row}
-use Rattle.sheet_spec.specs.Kept.{successor, acceptance}
-
--- a row of which only the sets are told
-unfoldable pub setsAlone : List ℕ → Row
-setsAlone l = record { succ = []; sets = l; c = 0 }
+use Rattle.sheet_spec.specs.Kept.{successor}
 
 -- a set with event i, if i is below e and has a successor
 unfoldable pub initialAdded : ℕ → Row → ℕ → ℕ → ℕ
 initialAdded e r x i = cond (ltb i e && not (eqb (successor r i) 255)) (insert x i) x
-
--- the two halves of `blank`
-unfoldable pub blankSuccs : ℕ → Row → Bool
-blankSuccs e r = all (λ i. ltb i e || eqb (successor r i) 255) 12
-
-unfoldable pub blankSets : ℕ → Row → Bool
-blankSets c r = all (λ j. ltb j c || eqb (acceptance r j) 0) 16
-
--- a set of nodes below 32 with one added
-unfoldable pub nodeAdded : ℕ → ℕ → ℕ
-nodeAdded x v = cond (ltb v 32) (bitOr x (2 ^ v)) x
-
--- the nodes below 32 that the first e events of a row lead to
-unfoldable pub targets : ℕ → Row → ℕ
-targets zero r = 0
-targets (suc i) r = nodeAdded (targets i r) (successor r i)

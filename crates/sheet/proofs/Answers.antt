@@ -1,10 +1,10 @@
--- How the answer of `read` is put together from the three passes, and how a refusal is picked test by test.
+-- How the answer of `read` is put together from the three passes, and two laws of `check`.
 use mathlib.Core.Path.{_≡_, sym, _∙_}
 use mathlib.Core.Bool.{Bool, true, false, not, _&&_}
 use mathlib.Core.List.{List}
 use Prim.Native.Nat.{ℕ, _≤_}
 use native.Mathlib.Omega.{arith}
-use borrow.Author.Tests.{ne-eqb, not-true, not-false}
+use borrow.Author.Tests.{ne-eqb, not-false}
 use Rattle.base.specs.Refusal.{unless, orElse, orElse-some}
 use Rattle.sheet_spec.specs.declared.Sheet.{Sheet}
 use Rattle.sheet_spec.specs.declared.ReadSheet.{ReadSheet}
@@ -12,13 +12,6 @@ use Rattle.sheet_spec.specs.Rules.{rangesOk}
 use Rattle.sheet_spec.specs.Reading.{byte, headFault, layoutFault, sheetOf, graphFault, bytesFault, zeroSheet, answer, readSheet}
 use Rattle.sheet_spec.specs.RuleLaws.{ranges→}
 use Rattle.sheet_spec.specs.Places.{head}
-
--- a rule whose test t passes leaves the number to what follows; one whose test fails gives its own
-pub kept : (a : Bool) {t : Bool} (k m r : ℕ) → t ≡ a → not t ≡ false → m ≡ r → m ≡ unless a k r
-kept a {t} k m r p q e = rw (← p, not-false t q) e
-
-pub broken : (a : Bool) {t : Bool} (k r : ℕ) → t ≡ a → not t ≡ true → k ≡ unless a k r
-broken a {t} k r p q = rw (← p, not-true t q)
 
 -- two rules under one number
 pub both : (a b : Bool) (k m r : ℕ) → m ≡ unless a k (unless b k r) → m ≡ unless (a && b) k r

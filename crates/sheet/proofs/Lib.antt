@@ -1,4 +1,1 @@
-pub mod Head
-pub mod Nodes
-pub mod Rounds
 pub mod Answers

@@ -1,6 +1,7 @@
 -- The tests are those of the definition, in its order.
 use Rattle.sheet_spec.specs.Rules.{sheetFault}
-use Rattle.sheet.proofs.Answers.{both, few, kept, broken}
+use Rattle.sheet_rules.proofs.Picked.{kept, broken}
+use Rattle.sheet.proofs.Answers.{both, few}
 use Rattle.sheet.proofs.check.Statement.{statement}
 use Rattle.sheet.proofs.check.Tie as tie
 
