@@ -13,6 +13,7 @@ use comparison_spec::Outcome;
 use libc::STDIN_FILENO;
 use libc::STDOUT_FILENO;
 use probes_spec::Listed;
+use run_lines::Line;
 use sheet_spec::Sheet;
 
 // ---- writing
@@ -34,170 +35,21 @@ fn say_denied(x: u8) {
     say_number(x as u16);
 }
 
-// ---- sheets
-
-// The sheet of these bytes, of zeros if they are refused.
-fn kept(bytes: &[u8]) -> Sheet {
-    let a = sheet::read(bytes);
-    a.sheet
-}
-
-// The small sheets: 1 and 2 are 01's reference and device; 3 and 4 loop on only event 0, or 1, of two; of one event, 5 loops and
-// may stop, 6 has no successor, 7 loops and may not stop; 8 goes on event 0 of two to a node that has no successor.
-fn small_sheet(which: u16) -> Sheet {
-    match which {
-        1 => kept(b"\x00\x00\x00\x0F\x01\x02\x02\x01\x01\x02\x00\x01\x00\x02\x00\x00\x01\x00\x03"),
-        2 => kept(
-            b"\x00\x00\x00\x12\x01\x02\x03\x01\x01\x01\x00\x03\x02\x02\x01\x00\x03\x00\xFF\x01\x00\x01",
-        ),
-        3 => kept(b"\x00\x00\x00\x08\x01\x02\x01\x00\xFF\x01\x00\x01"),
-        4 => kept(b"\x00\x00\x00\x08\x01\x02\x01\xFF\x00\x01\x00\x02"),
-        5 => kept(b"\x00\x00\x00\x07\x01\x01\x01\x00\x01\x00\x00"),
-        6 => kept(b"\x00\x00\x00\x07\x01\x01\x01\xFF\x01\x00\x00"),
-        7 => kept(b"\x00\x00\x00\x07\x01\x01\x01\x00\x01\x00\x01"),
-        8 => kept(b"\x00\x00\x00\x0D\x01\x02\x02\x01\xFF\x01\x00\x01\xFF\xFF\x01\x00\x00"),
-        _ => kept(b""),
-    }
-}
-
-// One node that loops on 12 events: 9 with the sixteen acceptances 3, 5, 6, 9, 10, 12, 17, 18, 20, 24, 33, 34, 36, 40, 48, 65; 10
-// with 3, 5, 6, 9, 10, 12, 257, 258, 260, 264, 513, 514, 1025, 1026, 2049, 3072; 11 with 7, 56, 448, 3584. Of two events, 12 loops
-// on event 0 and goes on event 1 to a node that has only event 0, which leads back; 13 loops on both. Else a small sheet.
-fn some_sheet(which: u16) -> Sheet {
-    match which {
-        9 => kept(
-            b"\x00\x00\x00\x30\x01\x0C\x01\x00\x00\x00\x00\x00\x00\x00\x00\x00\x00\x00\x00\x10\x00\x03\x00\x05\x00\x06\x00\x09\x00\x0A\x00\x0C\x00\x11\x00\x12\x00\x14\x00\x18\x00\x21\x00\x22\x00\x24\x00\x28\x00\x30\x00\x41",
-        ),
-        10 => kept(
-            b"\x00\x00\x00\x30\x01\x0C\x01\x00\x00\x00\x00\x00\x00\x00\x00\x00\x00\x00\x00\x10\x00\x03\x00\x05\x00\x06\x00\x09\x00\x0A\x00\x0C\x01\x01\x01\x02\x01\x04\x01\x08\x02\x01\x02\x02\x04\x01\x04\x02\x08\x01\x0C\x00",
-        ),
-        11 => kept(
-            b"\x00\x00\x00\x18\x01\x0C\x01\x00\x00\x00\x00\x00\x00\x00\x00\x00\x00\x00\x00\x04\x00\x07\x00\x38\x01\xC0\x0E\x00",
-        ),
-        12 => kept(b"\x00\x00\x00\x0D\x01\x02\x02\x00\x01\x01\x00\x01\x00\xFF\x01\x00\x01"),
-        13 => kept(b"\x00\x00\x00\x08\x01\x02\x01\x00\x00\x01\x00\x01"),
-        _ => small_sheet(which),
-    }
-}
-
-// The sheet with a node more, a copy of node 0 that is not reached.
-fn with_node(s: Sheet) -> Sheet {
-    let mut t = s;
-    let n = t.n;
-    if n < 32 {
-        let row = t.rows[0];
-        t.rows[base::wide(n)] = row;
-        t.n = n + 1;
-    }
-    t
-}
-
-// The sheet, changed to deserve a refusal: 3 by its E, 5 by the C of node 0, 6 by a successor 40, 7 by the C of an unused node, 8
-// by a node that is not reached.
-fn changed(s: Sheet, refusal: u16) -> Sheet {
-    let mut t = s;
-    let mut row = t.rows[0];
-    let mut last = t.rows[31];
-    match refusal {
-        3 => {
-            t.e = 13;
-        }
-        5 => {
-            row.c = 17;
-        }
-        6 => {
-            row.succ[0] = 40;
-        }
-        7 => {
-            last.c = 1;
-        }
-        8 => {
-            return with_node(s);
-        }
-        _ => {}
-    }
-    t.rows[0] = row;
-    t.rows[31] = last;
-    t
-}
-
-// The sheet that two numbers say.
-fn sheet_of(which: u16, refusal: u16) -> Sheet {
-    changed(some_sheet(which), refusal)
-}
-
 // ---- the numbers of a line
 
-// A line so far: whether its name has ended, whether a number has begun, that number, and the numbers before it.
-struct Line {
-    named: bool,
-    begun: bool,
-    x: u16,
-    count: usize,
-    numbers: [u16; 32],
-}
-
-// A line of which nothing has come.
-fn new_line() -> Line {
-    let numbers = [0u16; 32];
-    Line {
-        named: false,
-        begun: false,
-        x: 0,
-        count: 0,
-        numbers: numbers,
-    }
-}
-
-// The line with a digit more.
-fn with_digit(line: Line, d: u8) -> Line {
-    let mut l = line;
-    if l.x < 6553 {
-        if d < 10 {
-            l.x = l.x * 10 + (d as u16);
-        }
-    }
-    l.begun = true;
-    l
-}
-
-// The line with its number at an end.
-fn with_number(line: Line) -> Line {
-    let mut l = line;
-    let at = l.count;
-    let x = l.x;
-    if l.begun {
-        if at < 32 {
-            l.numbers[at] = x;
-            l.count = at + 1;
-        }
-    }
-    l.x = 0;
-    l.begun = false;
-    l
-}
-
-// Number i of a line, 0 past its end.
-fn number(line: Line, i: usize) -> u16 {
-    if i < 32 { line.numbers[i] } else { 0 }
-}
-
-// Number i of a line as a byte.
-fn small(line: Line, i: usize) -> u8 {
-    let x = number(line, i);
-    if x < 256 { x as u8 } else { 255 }
-}
-
-// Number i of a line as a yes or no.
-fn flag(line: Line, i: usize) -> bool {
-    number(line, i) != 0
+// The sheet that two numbers of a line name: which one, and the refusal that it is changed to deserve.
+fn sheet_at(line: Line, which: usize, refusal: usize) -> Sheet {
+    run_samples::sample(
+        run_lines::number(line, which),
+        run_lines::number(line, refusal),
+    )
 }
 
 // Number i of a line as a length of at most 128.
 fn length(line: Line, i: usize) -> usize
     ensures { λ r. ⌜ r ≤ 128 ⌝ }
 {
-    let x = number(line, i);
+    let x = run_lines::number(line, i);
     if x < 128 { x as usize } else { 128 }
 }
 
@@ -265,8 +117,8 @@ fn say_listed(a: Listed, list: [u16; 128]) {
 
 // Lists the probes of a node.
 fn list_probes(line: Line) {
-    let s = sheet_of(number(line, 1), number(line, 2));
-    let node = small(line, 3);
+    let s = sheet_at(line, 1, 2);
+    let node = run_lines::small(line, 3);
     let n = length(line, 4);
     let mut list = [65535u16; 128];
     let a = probes::list(s, node, &mut list[..n]);
@@ -326,9 +178,9 @@ fn unused(trace: [u8; 128]) -> u16 {
 
 // Compares two sheets.
 fn compare_sheets(line: Line) {
-    let reference = sheet_of(number(line, 1), number(line, 2));
-    let device = sheet_of(number(line, 3), number(line, 4));
-    let trace_only = flag(line, 5);
+    let reference = sheet_at(line, 1, 2);
+    let device = sheet_at(line, 3, 4);
+    let trace_only = run_lines::flag(line, 5);
     let n = length(line, 6);
     let m = length(line, 7);
     let mut work = [65535u16; 128];
@@ -354,41 +206,31 @@ fn compare_sheets(line: Line) {
 
 // Answers a line.
 fn answer(line: Line) {
-    match number(line, 0) {
+    match run_lines::number(line, 0) {
         1 => list_probes(line),
         _ => compare_sheets(line),
     }
     say(b"\n");
 }
 
-// Writes one byte of a name; a colon ends it.
-fn with_name(line: Line, b: u8) -> Line {
-    let mut l = line;
-    let byte = [b; 1];
-    say(&byte);
-    l.named = b == b':';
-    l
-}
-
-// The line after one byte more.
+// The line after one byte more; a byte of the name is written, and at its end the line is answered.
 fn next(line: Line, b: u8) -> Line {
+    let l = run_lines::after(line, b);
     if !line.named {
-        return with_name(line, b);
+        let byte = [b; 1];
+        say(&byte);
+        return l;
     }
-    if b >= b'0' {
-        return with_digit(line, b - b'0');
-    }
-    let l = with_number(line);
     if b == b'\n' {
         answer(l);
-        return new_line();
+        return run_lines::new_line();
     }
     l
 }
 
 // Answers every line.
 fn run_all(cases: &[u8]) {
-    let mut line = new_line();
+    let mut line = run_lines::new_line();
     for i in 0..cases.len() {
         let l = next(line, cases[i]);
         line = l;

@@ -15,6 +15,7 @@
 ghost use Prim.Native.Nat.{_≤_};
 use libc::STDIN_FILENO;
 use libc::STDOUT_FILENO;
+use run_lines::Line;
 use sheet_spec::ReadSheet;
 use sheet_spec::Row;
 use sheet_spec::Sheet;
@@ -271,69 +272,9 @@ fn tally_of(s: Sheet, x: u8) -> Tally {
 
 // ---- the numbers of a line
 
-// A line so far: whether its name has ended, whether a number has begun, that number, and the numbers before it.
-struct Line {
-    named: bool,
-    begun: bool,
-    x: u16,
-    count: usize,
-    numbers: [u16; 64],
-}
-
-// A line of which nothing has come.
-fn new_line() -> Line {
-    let numbers = [0u16; 64];
-    Line {
-        named: false,
-        begun: false,
-        x: 0,
-        count: 0,
-        numbers: numbers,
-    }
-}
-
-// The line with a digit more.
-fn with_digit(line: Line, d: u8) -> Line {
-    let mut l = line;
-    if l.x < 6000 {
-        if d < 10 {
-            l.x = l.x * 10 + (d as u16);
-        }
-    }
-    l.begun = true;
-    l
-}
-
-// The line with its number at an end.
-fn with_number(line: Line) -> Line {
-    let mut l = line;
-    let at = l.count;
-    let x = l.x;
-    if l.begun {
-        if at < 64 {
-            l.numbers[at] = x;
-            l.count = at + 1;
-        }
-    }
-    l.x = 0;
-    l.begun = false;
-    l
-}
-
-// Number i of a line, 0 past its end.
-fn number(line: Line, i: usize) -> u16 {
-    if i < 64 { line.numbers[i] } else { 0 }
-}
-
-// Number i of a line as a byte.
-fn small(line: Line, i: usize) -> u8 {
-    let x = number(line, i);
-    if x < 256 { x as u8 } else { 255 }
-}
-
 // Number i of a line as a place.
 fn place(line: Line, i: usize) -> usize {
-    let x = number(line, i);
+    let x = run_lines::number(line, i);
     x as usize
 }
 
@@ -343,7 +284,7 @@ fn place(line: Line, i: usize) -> usize {
 fn spelt_bytes(line: Line) -> [u8; 63] {
     let mut bytes = [0u8; 63];
     for i in 0..63 {
-        let x = small(line, i + 1);
+        let x = run_lines::small(line, i + 1);
         bytes[i] = x;
     }
     bytes
@@ -367,19 +308,19 @@ fn spelt(line: Line) -> ReadSheet {
 fn sample_of(line: Line) -> ReadSheet {
     sample_with(
         place(line, 1),
-        small(line, 2),
+        run_lines::small(line, 2),
         place(line, 3),
-        small(line, 4),
+        run_lines::small(line, 4),
     )
 }
 
 // The plan of a line.
 fn plan_of(line: Line) -> Plan {
-    let e = small(line, 1);
-    let n = small(line, 2);
-    let c = small(line, 3);
-    let cut = small(line, 4);
-    let len = number(line, 5);
+    let e = run_lines::small(line, 1);
+    let n = run_lines::small(line, 2);
+    let c = run_lines::small(line, 3);
+    let cut = run_lines::small(line, 4);
+    let len = run_lines::number(line, 5);
     Plan {
         e: e,
         n: n,
@@ -395,13 +336,13 @@ fn with(s: Sheet, line: Line, i: usize) -> Sheet {
     if i < 60 {
         let v = place(line, i + 1);
         let at = place(line, i + 2);
-        let x = small(line, i + 3);
-        match number(line, i) {
+        let x = run_lines::small(line, i + 3);
+        match run_lines::number(line, i) {
             1 => {
                 t = with_succ(s, v, at, x);
             }
             2 => {
-                t = with_set(s, v, at, number(line, i + 3));
+                t = with_set(s, v, at, run_lines::number(line, i + 3));
             }
             3 => {
                 t = with_count(s, v, x);
@@ -453,7 +394,7 @@ fn tell_places(a: ReadSheet, x: u8) {
 
 // Answers a line.
 fn run(line: Line) {
-    match number(line, 0) {
+    match run_lines::number(line, 0) {
         1 => tell(spelt(line)),
         2 => tell(sample_of(line)),
         3 => tell(planned(plan_of(line))),
@@ -462,41 +403,31 @@ fn run(line: Line) {
         6 => tell_places(sample_of(line), 0),
         7 => tell_places(spelt(line), 255),
         8 => tell_places(planned(plan_of(line)), 255),
-        _ => tell_kept(sheet::read(b""), new_line()),
+        _ => tell_kept(sheet::read(b""), run_lines::new_line()),
     }
     say(b"\n");
 }
 
 // ---- standard input
 
-// Writes one byte of a name; a colon ends it.
-fn with_name(line: Line, b: u8) -> Line {
-    let mut l = line;
-    let byte = [b; 1];
-    say(&byte);
-    l.named = b == b':';
-    l
-}
-
-// The line after one byte more.
+// The line after one byte more; a byte of the name is written, and at its end the line is answered.
 fn next(line: Line, b: u8) -> Line {
+    let l = run_lines::after(line, b);
     if !line.named {
-        return with_name(line, b);
+        let byte = [b; 1];
+        say(&byte);
+        return l;
     }
-    if b >= b'0' {
-        return with_digit(line, b - b'0');
-    }
-    let l = with_number(line);
     if b == b'\n' {
         run(l);
-        return new_line();
+        return run_lines::new_line();
     }
     l
 }
 
 // Answers every line.
 fn run_all(cases: &[u8]) {
-    let mut line = new_line();
+    let mut line = run_lines::new_line();
     for i in 0..cases.len() {
         let l = next(line, cases[i]);
         line = l;

@@ -5,23 +5,11 @@ use lib.Seq.{length-take-le}
 use Rattle.run_lists.proofs.compare_sheets.Statement.{statement}
 use Rattle.run_lists.proofs.compare_sheets.Tie as tie
 
-number-requires : tie.Need-number-requires
-number-requires c κs = tt
+sheet-at-requires : tie.Need-sheet-at-requires
+sheet-at-requires c κs = tt
 
-number-requires-2 : tie.Need-number-requires-2
-number-requires-2 c κs = tt
-
-sheet-of-requires : tie.Need-sheet-of-requires
-sheet-of-requires c κs = tt
-
-number-requires-3 : tie.Need-number-requires-3
-number-requires-3 c κs = tt
-
-number-requires-4 : tie.Need-number-requires-4
-number-requires-4 c κs = tt
-
-sheet-of-requires-2 : tie.Need-sheet-of-requires-2
-sheet-of-requires-2 c κs = tt
+sheet-at-requires-2 : tie.Need-sheet-at-requires-2
+sheet-at-requires-2 c κs = tt
 
 flag-requires : tie.Need-flag-requires
 flag-requires c κs = tt
@@ -96,12 +84,8 @@ pub compare-sheets-spec : {M : Type 1} → statement M
 compare-sheets-spec =
     tie.close
     (tie.spec
-    number-requires
-    number-requires-2
-    sheet-of-requires
-    number-requires-3
-    number-requires-4
-    sheet-of-requires-2
+    sheet-at-requires
+    sheet-at-requires-2
     flag-requires
     length-requires
     length-requires-2

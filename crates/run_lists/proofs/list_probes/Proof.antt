@@ -5,14 +5,8 @@ use lib.Seq.{length-take-le}
 use Rattle.run_lists.proofs.list_probes.Statement.{statement}
 use Rattle.run_lists.proofs.list_probes.Tie as tie
 
-number-requires : tie.Need-number-requires
-number-requires c κs = tt
-
-number-requires-2 : tie.Need-number-requires-2
-number-requires-2 c κs = tt
-
-sheet-of-requires : tie.Need-sheet-of-requires
-sheet-of-requires c κs = tt
+sheet-at-requires : tie.Need-sheet-at-requires
+sheet-at-requires c κs = tt
 
 small-requires : tie.Need-small-requires
 small-requires c κs = tt
@@ -39,9 +33,7 @@ pub list-probes-spec : {M : Type 1} → statement M
 list-probes-spec =
     tie.close
     (tie.spec
-    number-requires
-    number-requires-2
-    sheet-of-requires
+    sheet-at-requires
     small-requires
     length-requires
     array-borrow-prefix-list

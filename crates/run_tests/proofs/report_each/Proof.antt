@@ -10,14 +10,8 @@ Inv-loop line s run₀ i₀ i-end run i = i-end ≤ 32
 abbrev μ-loop : tie.MeasureT-loop
 μ-loop line s run₀ i₀ i-end run i = i-end - i
 
-number-requires : tie.Need-number-requires Inv-loop μ-loop
-number-requires c κs = tt
-
-number-requires-2 : tie.Need-number-requires-2 Inv-loop μ-loop
-number-requires-2 c κs = tt
-
-sheet-of-requires : tie.Need-sheet-of-requires Inv-loop μ-loop
-sheet-of-requires c κs = tt
+sheet-at-requires : tie.Need-sheet-at-requires Inv-loop μ-loop
+sheet-at-requires c κs = tt
 
 opened-requires : tie.Need-opened-requires Inv-loop μ-loop
 opened-requires c κs = tt
@@ -31,8 +25,8 @@ numbers-of-requires c κs = tt
 loop-holds : tie.Need-loop-holds Inv-loop μ-loop
 loop-holds c = omega arith
 
-number-requires-3 : tie.Need-number-requires-3 Inv-loop μ-loop
-number-requires-3 c κs = tt
+number-requires : tie.Need-number-requires Inv-loop μ-loop
+number-requires c κs = tt
 
 report-of-requires : tie.Need-report-of-requires Inv-loop μ-loop
 report-of-requires c κs = tt
@@ -61,14 +55,12 @@ report-each-spec =
     (tie.spec
     Inv-loop
     μ-loop
-    number-requires
-    number-requires-2
-    sheet-of-requires
+    sheet-at-requires
     opened-requires
     say-stepped-requires
     numbers-of-requires
     loop-holds
-    number-requires-3
+    number-requires
     report-of-requires
     step-requires
     say-stepped-requires-2
