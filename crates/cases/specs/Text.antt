@@ -22,8 +22,9 @@ use Rattle.refinement_spec.specs.PairTests.{strays, hasStray, firstStray, cover
 use Rattle.comparison_spec.specs.Comparison.{pairs, nearest, nearestTrace, clearedOf, lastRow, refusalNamed, named, comparisonOf, compareFault, outcomeOf, traceAfter}
 use Rattle.text_spec.specs.Lines.{ascii, decimalIn, decimal, numberLine, sheetLine, eventList}
 use Rattle.text_spec.specs.Input.{cutInput, firstEnd, firstSheet, secondSheet}
+use Rattle.pair_lines_spec.specs.Program.{deviceLines, sheetsLines, inputLines, pairText}
 use Rattle.lines_spec.specs.Lines.{violatesLine, traceLine, refusedProbeLine, outcomeLines}
-use Rattle.lines_spec.specs.Program.{workList, traceList, comparedLines, deviceLines, sheetsLines, inputLines, compareText}
+use Rattle.lines_spec.specs.Program.{workList, traceList, comparedLines, compareText}
 use Rattle.sheet_spec.specs.Examples.{exampleReference, exampleDevice, mustLoop, stopped}
 
 -- 01's input
@@ -43,5 +44,5 @@ unfoldable pub texts : List (List ℕ)
 texts = exampleText ∷ ascii "reference 1 nodes 1 events\ndevice 1 nodes 1 events\nviolates after 0 cleared 0\ntrace\nrefused 1 by 0\n" ∷ []
 
 pub texts-hold : map compareText inputs ≡ texts
-unfolding inputs texts exampleInput exampleReference exampleDevice exampleText mustLoop stopped compareText cutInput inputLines firstSheet secondSheet firstEnd lengthField sheetsLines deviceLines comparedLines workList traceList outcomeLines numberLine sheetLine violatesLine eventList traceLine refusedProbeLine decimal decimalIn readSheet answer bytesFault headFault layoutFault nextAt startOf succOf setsOf rowAt rowOf sheetOf graphFault rangesOk countOk countsOk successorOk rowSuccessorsOk successorsOk ascends apart setOk rowSetsOk setsOk blank unusedOk blanksOk reachedOk sheetFault successor acceptance acceptances initials step bit setOf has inside meets nearer leads walk all any first upTo count outcomeOf traceAfter compareFault comparisonOf named refusalNamed lastRow clearedOf nearestTrace nearest pairs pairDistance pairTrace pairCleared onCodes product pairNext code cleared meetsIn distance later choice leastFrom leastTrace strays hasStray firstStray covers hasRefusal violates violating hits isProbe gather select probes missing orNext firstMissing firstMissed
+unfolding inputs texts exampleInput exampleReference exampleDevice exampleText mustLoop stopped compareText pairText cutInput inputLines firstSheet secondSheet firstEnd lengthField sheetsLines deviceLines comparedLines workList traceList outcomeLines numberLine sheetLine violatesLine eventList traceLine refusedProbeLine decimal decimalIn readSheet answer bytesFault headFault layoutFault nextAt startOf succOf setsOf rowAt rowOf sheetOf graphFault rangesOk countOk countsOk successorOk rowSuccessorsOk successorsOk ascends apart setOk rowSetsOk setsOk blank unusedOk blanksOk reachedOk sheetFault successor acceptance acceptances initials step bit setOf has inside meets nearer leads walk all any first upTo count outcomeOf traceAfter compareFault comparisonOf named refusalNamed lastRow clearedOf nearestTrace nearest pairs pairDistance pairTrace pairCleared onCodes product pairNext code cleared meetsIn distance later choice leastFrom leastTrace strays hasStray firstStray covers hasRefusal violates violating hits isProbe gather select probes missing orNext firstMissing firstMissed
 texts-hold = refl

@@ -2,10 +2,9 @@
 ghost use mathlib.Core.Path.{_≡_};
 ghost use Rattle.text_spec.specs.Adds.{Adds};
 ghost use Rattle.lines_spec.specs.Lines.{violatesLine, traceLine, refusedProbeLine, outcomeLines};
-ghost use Rattle.lines_spec.specs.Program.{comparedLines, deviceLines, sheetsLines, inputLines, compareText, keptText};
+ghost use Rattle.lines_spec.specs.Program.{comparedLines, compareText, keptText};
 use comparison_spec::Outcome;
 use lines_spec::Text;
-use sheet_spec::ReadSheet;
 use sheet_spec::Sheet;
 
 // Puts the first line of a violation.
@@ -69,40 +68,17 @@ fn put_compared(out: &mut [u8], at: usize, p: Sheet, q: Sheet) -> usize
     put_outcome(out, at, o, &trace)
 }
 
-// Puts the lines from the device's on, after an accepted reference.
-fn put_device(out: &mut [u8], at: usize, p: Sheet, b: ReadSheet) -> usize
-    ensures { λ r. ⌜ Adds (deviceLines p b) (now (out .entry)) at (now (out .exit)) r ⌝ }
+// Puts all lines of an input: those of its sheets, and after two accepted ones those of their comparison.
+fn put_text(out: &mut [u8], input: &[u8]) -> usize
+    ensures { λ r. ⌜ Adds (compareText (now (input .entry))) (now (out .entry)) 0 (now (out .exit)) r ⌝ }
 {
-    let k = b.refusal;
-    if k != 0 {
-        return text::put_number_line(out, at, b"device refused ", k as u16);
+    let t = pair_lines::put_pair(out, input);
+    if t.both {
+        let p = t.reference;
+        let q = t.device;
+        return put_compared(out, t.at, p, q);
     }
-    let q = b.sheet;
-    let next = text::put_sheet_line(out, at, b"device ", q.n as u16, q.e as u16);
-    put_compared(out, next, p, q)
-}
-
-// Puts all lines of two sheets as they were read.
-fn put_sheets(out: &mut [u8], a: ReadSheet, b: ReadSheet) -> usize
-    ensures { λ r. ⌜ Adds (sheetsLines a b) (now (out .entry)) 0 (now (out .exit)) r ⌝ }
-{
-    let k = a.refusal;
-    if k != 0 {
-        return text::put_number_line(out, 0, b"reference refused ", k as u16);
-    }
-    let p = a.sheet;
-    let next = text::put_sheet_line(out, 0, b"reference ", p.n as u16, p.e as u16);
-    put_device(out, next, p, b)
-}
-
-// Puts all lines of an input that is not too long.
-fn put_input(out: &mut [u8], input: &[u8]) -> usize
-    ensures { λ r. ⌜ Adds (inputLines (now (input .entry))) (now (out .entry)) 0 (now (out .exit)) r ⌝ }
-{
-    let end = text::first_end(input);
-    let a = sheet::read(&input[..end]);
-    let b = sheet::read(&input[end..]);
-    put_sheets(out, a, b)
+    t.at
 }
 
 // The program's text for an input.
@@ -110,7 +86,7 @@ pub fn compare_text(input: &[u8]) -> Text
     ensures { λ r. ⌜ r ≡ keptText (compareText (now (input .entry))) ⌝ }
 {
     let mut bytes = [0u8; 4096];
-    let len = put_input(&mut bytes, text::front(input, 4096));
+    let len = put_text(&mut bytes, input);
     Text {
         bytes: bytes,
         len: len,

@@ -24,8 +24,9 @@ use Rattle.comparison_spec.specs.Comparison.{pairs, nearest, nearestTrace, clea
 use Rattle.comparison_spec.specs.declared.Outcome.the-variants.{Refusal}
 use Rattle.text_spec.specs.Lines.{ascii, decimalIn, decimal, numberLine, sheetLine, eventList}
 use Rattle.text_spec.specs.Input.{cutInput, firstEnd, firstSheet, secondSheet}
+use Rattle.pair_lines_spec.specs.Program.{deviceLines, sheetsLines, inputLines, pairText}
 use Rattle.lines_spec.specs.Lines.{violatesLine, traceLine, refusedProbeLine, outcomeLines}
-use Rattle.lines_spec.specs.Program.{workList, traceList, comparedLines, deviceLines, sheetsLines, inputLines, compareText}
+use Rattle.lines_spec.specs.Program.{workList, traceList, comparedLines, compareText}
 
 -- inputs
 unfoldable pub inputs : List (List ℕ)
@@ -63,7 +64,7 @@ texts =
 
 -- one equation has them all
 pub texts-hold : map compareText inputs ≡ texts
-unfolding inputs texts onlyZero onlyOne mayLoop stopped compareText cutInput inputLines firstSheet secondSheet firstEnd lengthField sheetsLines deviceLines comparedLines workList traceList outcomeLines numberLine sheetLine violatesLine eventList traceLine refusedProbeLine decimal decimalIn readSheet answer bytesFault headFault layoutFault nextAt startOf succOf setsOf rowAt rowOf sheetOf graphFault rangesOk countOk countsOk successorOk rowSuccessorsOk successorsOk ascends apart setOk rowSetsOk setsOk blank unusedOk blanksOk reachedOk sheetFault successor acceptance acceptances initials step bit setOf has inside meets nearer leads walk all any first upTo count outcomeOf traceAfter compareFault comparisonOf named refusalNamed lastRow clearedOf nearestTrace nearest pairs pairDistance pairTrace pairCleared onCodes product pairNext code cleared meetsIn distance later choice leastFrom leastTrace strays hasStray firstStray covers hasRefusal violates violating
+unfolding inputs texts onlyZero onlyOne mayLoop stopped compareText pairText cutInput inputLines firstSheet secondSheet firstEnd lengthField sheetsLines deviceLines comparedLines workList traceList outcomeLines numberLine sheetLine violatesLine eventList traceLine refusedProbeLine decimal decimalIn readSheet answer bytesFault headFault layoutFault nextAt startOf succOf setsOf rowAt rowOf sheetOf graphFault rangesOk countOk countsOk successorOk rowSuccessorsOk successorsOk ascends apart setOk rowSetsOk setsOk blank unusedOk blanksOk reachedOk sheetFault successor acceptance acceptances initials step bit setOf has inside meets nearer leads walk all any first upTo count outcomeOf traceAfter compareFault comparisonOf named refusalNamed lastRow clearedOf nearestTrace nearest pairs pairDistance pairTrace pairCleared onCodes product pairNext code cleared meetsIn distance later choice leastFrom leastTrace strays hasStray firstStray covers hasRefusal violates violating
 texts-hold = refl
 
 -- the lines of an outcome that names a refused probe

@@ -9,8 +9,8 @@ use lib.Dec.{eqb, ltb, leb}
 use lib.ListN.{length, getD, take, drop, length-append}
 use lib.Pow.{pow-mono}
 use lib.Seq.{take-at}
-use borrow.Author.Tests.{eqb-true, ltb-true, eq-eqb}
-use Rattle.base.specs.Refusal.{unless, orElse}
+use borrow.Author.Tests.{ltb-true}
+use Rattle.base.specs.Refusal.{unless}
 use Rattle.base.specs.Count.{count-le}
 use Rattle.base.specs.Range.{first≤}
 use Rattle.base.specs.Table.{length-upTo, getD-upTo}
@@ -22,9 +22,7 @@ use Rattle.walks.specs.Pairs.{pairDistance, pairTrace, pairCleared, pairDistanc
 use Rattle.sheet_spec.specs.declared.Row.{Row}
 use Rattle.sheet_spec.specs.declared.Sheet.{Sheet}
 use Rattle.sheet_spec.specs.Kept.{graph, acceptance, acceptances, initials}
-use Rattle.sheet_spec.specs.Rules.{sheetFault, rangesOk, countOk, successorsOk, setsOk, reachedOk}
-use Rattle.sheet_spec.specs.Reading.{eventsOf, nodesOf, nodesAt, version, lengthField, headFault, countAt, nextAt, layoutFault, graphFault, bytesFault, sheetOf, answer, readSheet}
-use Rattle.sheet_spec.specs.Accepted.{read-accepted}
+use Rattle.sheet_spec.specs.Rules.{sheetFault}
 use Rattle.sheet_spec.specs.Sound.{check-sound}
 use Rattle.probes_spec.specs.declared.Missed.{Missed}
 use Rattle.probes_spec.specs.declared.Missed.the-variants.{Nothing, Found}
@@ -36,12 +34,12 @@ use Rattle.events.specs.Sets.{has}
 use Rattle.refinement_spec.specs.PairTests.{strays, hasStray, firstStray, violating}
 use Rattle.comparison_spec.specs.declared.Outcome.the-variants.{Refines, Stray, Denied}
 use Rattle.comparison_spec.specs.Comparison.{pairs, nearest, nearestTrace, clearedOf, lastRow, refusalNamed, named, comparisonOf, compareFault, outcomeOf, traceAfter}
-use Rattle.text_spec.specs.Lines.{ascii, decimal, numberLine, sheetLine, eventList}
+use Rattle.text_spec.specs.Lines.{ascii, decimal, numberLine, eventList}
 use Rattle.text_spec.specs.DecimalLaws.{decimal-few}
-use Rattle.text_spec.specs.Input.{cutInput, firstSheet, secondSheet}
-use Rattle.text_spec.specs.LengthLaws.{number-length, sheet-length}
+use Rattle.text_spec.specs.LengthLaws.{number-length}
+use Rattle.pair_lines_spec.specs.ProgramLaws.{pair-length}
 use Rattle.lines_spec.specs.Lines.{violatesLine, traceLine, refusedProbeLine, outcomeLines}
-use Rattle.lines_spec.specs.Program.{workList, traceList, comparedLines, deviceLines, sheetsLines, inputLines, compareText}
+use Rattle.lines_spec.specs.Program.{workList, traceList, comparedLines, compareText}
 
 -- each line, by the digits of its numbers
 violates-length : (d c : ℕ) → d < 10000 → c < 10000 → length (violatesLine d c) ≤ 33
@@ -92,28 +90,6 @@ least-length g bad h (suc j) n =
 unless-le : (t : Bool) (k r m : ℕ) → k ≤ m → r ≤ m → unless t k r ≤ m
 unless-le true k r m p q = q
 unless-le false k r m p q = p
-
-orElse-le : (k r m : ℕ) → k ≤ m → r ≤ m → orElse k r ≤ m
-orElse-le zero r m p q = q
-orElse-le (suc k) r m p q = p
-
-layout-le : (b : List ℕ) (e k at : ℕ) → layoutFault b e k at ≤ 8
-unfolding layoutFault
-layout-le b e zero at = unless-le (eqb at (length b)) 4 0 8 (omega arith) (omega arith)
-layout-le b e (suc k) at =
-    unless-le (ltb (at + e) (length b)) 4 _ 8 (omega arith)
-    (unless-le (countOk (countAt b e at)) 5 _ 8 (omega arith)
-    (unless-le (leb (nextAt b e at) (length b)) 4 _ 8 (omega arith) (layout-le b e k (nextAt b e at))))
-
-fault-le : (b : List ℕ) → bytesFault b ≤ 8
-unfolding bytesFault headFault graphFault
-fault-le b =
-    orElse-le _ _ 8
-    (unless-le (leb 7 (length b) && eqb (lengthField b + 4) (length b)) 1 _ 8 (omega arith)
-    (unless-le (eqb (version b) 1) 2 _ 8 (omega arith) (unless-le (rangesOk (eventsOf b) (nodesOf b)) 3 0 8 (omega arith) (omega arith))))
-    (orElse-le _ _ 8 (layout-le b (eventsOf b) (nodesOf b) nodesAt)
-    (unless-le (successorsOk (sheetOf b)) 6 _ 8 (omega arith)
-    (unless-le (setsOk (sheetOf b)) 7 _ 8 (omega arith) (unless-le (reachedOk (sheetOf b)) 8 0 8 (omega arith) (omega arith)))))
 
 module _ (P Q : Sheet) (hP : sheetFault P ≡ 0) (hQ : sheetFault Q ≡ 0) where
   -- there are at most 1,024 pairs
@@ -213,56 +189,10 @@ module _ (P Q : Sheet) (hP : sheetFault P ≡ 0) (hQ : sheetFault Q ≡ 0) where
       go true false e = omega (arith, number-length (ascii "refines cleared ") 3 (clearedOf false P Q) (omega (arith, cleared-le)))
       go false y e = omega (arith, number-length (ascii "comparison refused ") 1 k (omega (arith, compare-le workList traceList)))
 
--- what an accepted reading holds
-read-sheet : (b : List ℕ) → bytesFault b ≡ 0 → readSheet b .sheet ≡ sheetOf b
-unfolding readSheet answer
-read-sheet b h = rw (eq-eqb (bytesFault b) 0 h)
-
-module _ (b : List ℕ) (h : bytesFault b ≡ 0) where
-  accepted : sheetFault (readSheet b .sheet) ≡ 0
-  accepted = rw (read-sheet b h) (read-accepted b h)
-
-  line-length : (who : List ℕ) → length (sheetLine who (readSheet b .sheet .n) (readSheet b .sheet .e)) ≤ length who + 19
-  line-length who =
-      let s = check-sound (readSheet b .sheet) accepted .ranges in
-      sheet-length who (readSheet b .sheet .n) (readSheet b .sheet .e) (omega (arith, s .n-high)) (omega (arith, s .e-high))
-
-device-length : (P : Sheet) → sheetFault P ≡ 0 → (b : List ℕ) → length (deviceLines P (readSheet b)) ≤ 3155
-unfolding deviceLines readSheet answer
-device-length P hP b = go (eqb (bytesFault b) 0) refl
-  where
-    go : (x : Bool) → eqb (bytesFault b) 0 ≡ x
-        → length (cond x (sheetLine (ascii "device ") (readSheet b .sheet .n) (readSheet b .sheet .e) ++ comparedLines P (readSheet b .sheet)) (numberLine (ascii "device refused ") (bytesFault b))) ≤ 3155
-    go true e =
-        let h = eqb-true (bytesFault b) 0 e in
-        omega (
-          arith,
-          length-append (sheetLine (ascii "device ") (readSheet b .sheet .n) (readSheet b .sheet .e)) (comparedLines P (readSheet b .sheet)),
-          line-length b h (ascii "device "),
-          compared-length P (readSheet b .sheet) hP (accepted b h),
-        )
-    go false e = omega (arith, number-length (ascii "device refused ") 0 (bytesFault b) (omega (arith, fault-le b)))
-
-sheets-length : (a b : List ℕ) → length (sheetsLines (readSheet a) (readSheet b)) ≤ 3184
-unfolding sheetsLines readSheet answer
-sheets-length a b = go (eqb (bytesFault a) 0) refl
-  where
-    go : (x : Bool) → eqb (bytesFault a) 0 ≡ x
-        → length (cond x (sheetLine (ascii "reference ") (readSheet a .sheet .n) (readSheet a .sheet .e) ++ deviceLines (readSheet a .sheet) (readSheet b)) (numberLine (ascii "reference refused ") (bytesFault a))) ≤ 3184
-    go true e =
-        let h = eqb-true (bytesFault a) 0 e in
-        omega (
-          arith,
-          length-append (sheetLine (ascii "reference ") (readSheet a .sheet .n) (readSheet a .sheet .e)) (deviceLines (readSheet a .sheet) (readSheet b)),
-          line-length a h (ascii "reference "),
-          device-length (readSheet a .sheet) (accepted a h) b,
-        )
-    go false e = omega (arith, number-length (ascii "reference refused ") 0 (bytesFault a) (omega (arith, fault-le a)))
-
 -- every text has at most 3,184 bytes
 pub text-length : (input : List ℕ) → length (compareText input) ≤ 3184
-unfolding compareText inputLines
-text-length input = sheets-length (firstSheet (cutInput input)) (secondSheet (cutInput input))
+unfolding compareText
+text-length input = pair-length comparedLines 3129 compared-length input
 
 -- so it fits where 4,096 bytes are kept
 pub text-fits : (input : List ℕ) → length (compareText input) ≤ 4096

@@ -1,17 +1,11 @@
--- Bytes behind 4,096 play no part; and how a text is kept.
-use mathlib.Core.Path.{_≡_, ap}
-use mathlib.Core.List.{List, _++_}
+-- How a text is kept.
+use mathlib.Core.Path.{_≡_}
+use mathlib.Core.List.{List}
 use Prim.Native.Nat.{ℕ, _-_, _≤_}
 use native.Mathlib.Omega.{arith}
 use lib.ListN.{length, take, replicate, length-append, length-replicate}
 use lib.Seq.{take-append-seam}
-use Rattle.text_spec.specs.InputLaws.{cut-more}
-use Rattle.lines_spec.specs.Program.{inputLines, compareText, keptText}
-
--- later bytes count as absent
-pub later-absent : (input more : List ℕ) → length input ≡ 4096 → compareText (input ++ more) ≡ compareText input
-unfolding compareText
-later-absent input more h = ap inputLines (cut-more input more h)
+use Rattle.lines_spec.specs.Program.{keptText}
 
 -- a kept text lies within its bytes
 pub kept-inside : (t : List ℕ) → keptText t .len ≤ length (keptText t .bytes)

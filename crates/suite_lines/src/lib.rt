@@ -6,9 +6,8 @@ ghost use lib.Dec.{eqb};
 ghost use lib.ListN.{length};
 ghost use Rattle.text_spec.specs.Adds.{Adds, Holds};
 ghost use Rattle.suite_lines_spec.specs.Lines.{testLine, testLines, passedOf, lastWords, lastLine, suiteLines};
-ghost use Rattle.suite_lines_spec.specs.Program.{judgedLines, deviceLines, sheetsLines, inputLines, suiteText};
+ghost use Rattle.suite_lines_spec.specs.Program.{judgedLines, suiteText};
 ghost use Rattle.suite_lines.specs.Shapes.{Room};
-use sheet_spec::ReadSheet;
 use sheet_spec::Sheet;
 use verdicts_spec::Suite;
 
@@ -116,45 +115,15 @@ fn put_judged(out: &mut [u8], at: usize, p: Sheet, q: Sheet) -> usize
     put_suite(out, at, tests_of(p.n, q.n), s, &verdicts)
 }
 
-// Puts the lines from the device's on, after an accepted reference.
-fn put_device(out: &mut [u8], at: usize, p: Sheet, b: ReadSheet) -> usize
-    ensures { λ r. ⌜ Adds (deviceLines p b) (now (out .entry)) at (now (out .exit)) r ⌝ }
-{
-    let k = b.refusal;
-    if k != 0 {
-        return text::put_number_line(out, at, b"device refused ", k as u16);
-    }
-    let q = b.sheet;
-    let next = text::put_sheet_line(out, at, b"device ", q.n as u16, q.e as u16);
-    put_judged(out, next, p, q)
-}
-
-// Puts all lines of two sheets as they were read.
-fn put_sheets(out: &mut [u8], a: ReadSheet, b: ReadSheet) -> usize
-    ensures { λ r. ⌜ Adds (sheetsLines a b) (now (out .entry)) 0 (now (out .exit)) r ⌝ }
-{
-    let k = a.refusal;
-    if k != 0 {
-        return text::put_number_line(out, 0, b"reference refused ", k as u16);
-    }
-    let p = a.sheet;
-    let next = text::put_sheet_line(out, 0, b"reference ", p.n as u16, p.e as u16);
-    put_device(out, next, p, b)
-}
-
-// Puts all lines of an input that is not too long.
-fn put_input(out: &mut [u8], input: &[u8]) -> usize
-    ensures { λ r. ⌜ Adds (inputLines (now (input .entry))) (now (out .entry)) 0 (now (out .exit)) r ⌝ }
-{
-    let end = text::first_end(input);
-    let a = sheet::read(&input[..end]);
-    let b = sheet::read(&input[end..]);
-    put_sheets(out, a, b)
-}
-
 // Puts the program's text for an input over the front of the lent list, and answers how many bytes of it stand there.
 pub fn suite_text(input: &[u8], out: &mut [u8]) -> usize
     ensures { λ r. ⌜ Holds (now (out .entry)) (suiteText (now (input .entry))) (now (out .exit)) r ⌝ }
 {
-    put_input(out, text::front(input, 4096))
+    let t = pair_lines::put_pair(out, input);
+    if t.both {
+        let p = t.reference;
+        let q = t.device;
+        return put_judged(out, t.at, p, q);
+    }
+    t.at
 }

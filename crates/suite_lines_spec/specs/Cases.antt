@@ -18,8 +18,9 @@ use Rattle.base.specs.Count.{count}
 use Rattle.verdicts_spec.specs.Suites.{tests, verdictNumber, suiteFault, suiteOf, verdictsAfter}
 use Rattle.text_spec.specs.Lines.{ascii, decimalIn, decimal, numberLine, sheetLine}
 use Rattle.text_spec.specs.Input.{cutInput, firstEnd, firstSheet, secondSheet}
+use Rattle.pair_lines_spec.specs.Program.{deviceLines, sheetsLines, inputLines, pairText}
 use Rattle.suite_lines_spec.specs.Lines.{testLine, testLines, passedOf, lastWords, lastLine, suiteLines}
-use Rattle.suite_lines_spec.specs.Program.{verdictList, judgedLines, deviceLines, sheetsLines, inputLines, suiteText}
+use Rattle.suite_lines_spec.specs.Program.{verdictList, judgedLines, suiteText}
 
 -- inputs: 01's example; its reference against itself; unequal E; no byte of a device; no byte at all; a length field that exceeds the input
 unfoldable pub inputs : List (List ℕ)
@@ -45,5 +46,5 @@ texts =
 
 -- one equation has them all
 pub texts-hold : map suiteText inputs ≡ texts
-unfolding inputs texts suiteText cutInput inputLines firstSheet secondSheet firstEnd sheetsLines deviceLines judgedLines verdictList suiteLines testLines testLine passedOf lastWords lastLine numberLine sheetLine decimal decimalIn count tests verdictNumber suiteFault suiteOf verdictsAfter exampleReference exampleDevice stopped readSheet answer bytesFault headFault lengthField layoutFault nextAt startOf succOf setsOf rowAt rowOf sheetOf graphFault rangesOk countOk countsOk successorsOk rowSuccessorsOk successorOk setsOk rowSetsOk setOk ascends apart blank unusedOk blanksOk reachedOk sheetFault successor acceptance acceptances initials mayStop step bit has inside meets setOf nearer leads all any upTo strays hasStray covers hasRefusal violates violating failsFrom verdictFault verdictOf judged
+unfolding inputs texts suiteText pairText cutInput inputLines firstSheet secondSheet firstEnd sheetsLines deviceLines judgedLines verdictList suiteLines testLines testLine passedOf lastWords lastLine numberLine sheetLine decimal decimalIn count tests verdictNumber suiteFault suiteOf verdictsAfter exampleReference exampleDevice stopped readSheet answer bytesFault headFault lengthField layoutFault nextAt startOf succOf setsOf rowAt rowOf sheetOf graphFault rangesOk countOk countsOk successorsOk rowSuccessorsOk successorOk setsOk rowSetsOk setOk ascends apart blank unusedOk blanksOk reachedOk sheetFault successor acceptance acceptances initials mayStop step bit has inside meets setOf nearer leads all any upTo strays hasStray covers hasRefusal violates violating failsFrom verdictFault verdictOf judged
 texts-hold = refl

@@ -1,5 +1,5 @@
 -- How long the text can be: at most 17,495 bytes.
-use mathlib.Core.Path.{_≡_, refl, sym, _∙_}
+use mathlib.Core.Path.{_≡_}
 use mathlib.Core.Bool.{Bool, true, false, cond}
 use mathlib.Core.List.{List, _++_}
 use Prim.Native.Nat.{ℕ, zero, suc, _+_, _-_, _*_, _≤_, _<_}
@@ -7,22 +7,16 @@ use native.Mathlib.Omega.{arith}
 use native.Mathlib.Decide.{ℕ-discrete}
 use lib.Dec.{eqb}
 use lib.ListN.{length, getD, length-append}
-use borrow.Author.Tests.{eqb-true, eq-eqb}
 use Rattle.sheet_spec.specs.declared.Sheet.{Sheet}
 use Rattle.sheet_spec.specs.Rules.{sheetFault}
-use Rattle.sheet_spec.specs.Reading.{bytesFault, answer, readSheet}
-use Rattle.sheet_spec.specs.Accepted.{read-accepted}
-use Rattle.sheet_spec.specs.AnswerLaws.{read-refusal}
-use Rattle.sheet_spec.specs.ReadLaws.{read-numbers}
-use Rattle.sheet_spec.specs.Sound.{check-sound}
-use Rattle.text_spec.specs.Lines.{ascii, decimal, numberLine, sheetLine}
+use Rattle.text_spec.specs.Lines.{ascii, decimal, numberLine}
 use Rattle.text_spec.specs.DecimalLaws.{decimal-few}
-use Rattle.text_spec.specs.LengthLaws.{number-length, sheet-length}
-use Rattle.text_spec.specs.Input.{cutInput, firstSheet, secondSheet}
+use Rattle.text_spec.specs.LengthLaws.{number-length}
 use Rattle.verdicts_spec.specs.Suites.{tests, verdictsAfter}
 use Rattle.verdicts_spec.specs.Complete.{tests-few}
+use Rattle.pair_lines_spec.specs.ProgramLaws.{pair-length}
 use Rattle.suite_lines_spec.specs.Lines.{testLine, testLines, passedOf, lastWords, lastLine}
-use Rattle.suite_lines_spec.specs.Program.{verdictList, judgedLines, deviceLines, sheetsLines, inputLines, suiteText}
+use Rattle.suite_lines_spec.specs.Program.{verdictList, judgedLines, suiteText}
 use Rattle.suite_lines_spec.specs.ProgramLaws.{passed-few, unequal-lines, equal-lines}
 
 -- the line of a test
@@ -80,54 +74,7 @@ module _ (P Q : Sheet) (accP : sheetFault P ≡ 0) (accQ : sheetFault Q ≡ 0) w
           vs = verdictsAfter false P Q verdictList
       go (no n) = rw (unequal-lines P Q accP accQ n) (omega (arith, number-length (ascii "suite refused ") 1 11 (omega arith)))
 
-module _ (b : List ℕ) (h : bytesFault b ≡ 0) where
-  -- what an accepted reading holds, and its line
-  accepted : sheetFault (readSheet b .sheet) ≡ 0
-  unfolding readSheet answer
-  accepted = rw (eq-eqb (bytesFault b) 0 h) (read-accepted b h)
-
-  line-length : (who : List ℕ) → length (sheetLine who (readSheet b .sheet .n) (readSheet b .sheet .e)) ≤ length who + 19
-  line-length who =
-      let s = check-sound (readSheet b .sheet) accepted .ranges in
-      sheet-length who (readSheet b .sheet .n) (readSheet b .sheet .e) (omega (arith, s .n-high)) (omega (arith, s .e-high))
-
--- the line of a refused sheet
-refused-length : (who : List ℕ) (b : List ℕ) → length (numberLine who (readSheet b .refusal)) ≤ length who + 2
-refused-length who b = omega (arith, number-length who 0 (readSheet b .refusal) (omega (arith, read-refusal b, read-numbers b)))
-
-device-length : (P : Sheet) → sheetFault P ≡ 0 → (b : List ℕ) → length (deviceLines P (readSheet b)) ≤ 17466
-unfolding deviceLines
-device-length P accP b = go (eqb (readSheet b .refusal) 0) refl
-  where
-    go : (x : Bool) → eqb (readSheet b .refusal) 0 ≡ x
-        → length (cond x (sheetLine (ascii "device ") (readSheet b .sheet .n) (readSheet b .sheet .e) ++ judgedLines P (readSheet b .sheet)) (numberLine (ascii "device refused ") (readSheet b .refusal))) ≤ 17466
-    go true e =
-        let h = sym (read-refusal b) ∙ eqb-true (readSheet b .refusal) 0 e in
-        omega (
-          arith,
-          length-append (sheetLine (ascii "device ") (readSheet b .sheet .n) (readSheet b .sheet .e)) (judgedLines P (readSheet b .sheet)),
-          line-length b h (ascii "device "),
-          judged-length P (readSheet b .sheet) accP (accepted b h),
-        )
-    go false e = omega (arith, refused-length (ascii "device refused ") b)
-
-sheets-length : (a b : List ℕ) → length (sheetsLines (readSheet a) (readSheet b)) ≤ 17495
-unfolding sheetsLines
-sheets-length a b = go (eqb (readSheet a .refusal) 0) refl
-  where
-    go : (x : Bool) → eqb (readSheet a .refusal) 0 ≡ x
-        → length (cond x (sheetLine (ascii "reference ") (readSheet a .sheet .n) (readSheet a .sheet .e) ++ deviceLines (readSheet a .sheet) (readSheet b)) (numberLine (ascii "reference refused ") (readSheet a .refusal))) ≤ 17495
-    go true e =
-        let h = sym (read-refusal a) ∙ eqb-true (readSheet a .refusal) 0 e in
-        omega (
-          arith,
-          length-append (sheetLine (ascii "reference ") (readSheet a .sheet .n) (readSheet a .sheet .e)) (deviceLines (readSheet a .sheet) (readSheet b)),
-          line-length a h (ascii "reference "),
-          device-length (readSheet a .sheet) (accepted a h) b,
-        )
-    go false e = omega (arith, refused-length (ascii "reference refused ") a)
-
 -- every text has at most 17,495 bytes
 pub text-length : (input : List ℕ) → length (suiteText input) ≤ 17495
-unfolding suiteText inputLines
-text-length input = sheets-length (firstSheet (cutInput input)) (secondSheet (cutInput input))
+unfolding suiteText
+text-length input = pair-length judgedLines 17440 judged-length input

@@ -1,6 +1,6 @@
--- What the text says: bytes behind 4,096 play no part; two accepted sheets with the same E get a line for each test and the last line,
--- which says "all pass" exactly if the device refines the reference; with another E they get the refusal 11.
-use mathlib.Core.Path.{_≡_, ap}
+-- What the text says after two accepted sheets: with the same E they get a line for each test and the last line, which says "all pass"
+-- exactly if the device refines the reference; with another E they get the refusal 11.
+use mathlib.Core.Path.{_≡_}
 use mathlib.Core.Logic.{_≢_, _↔_}
 use mathlib.Core.Bool.{Bool, false}
 use mathlib.Core.List.{List, _++_}
@@ -14,17 +14,11 @@ use Rattle.sheet_spec.specs.declared.Sheet.{Sheet}
 use Rattle.sheet_spec.specs.Rules.{sheetFault}
 use Rattle.refinement_spec.specs.Refinement.{RefinesIn}
 use Rattle.text_spec.specs.Lines.{ascii, numberLine}
-use Rattle.text_spec.specs.InputLaws.{cut-more}
 use Rattle.verdicts_spec.specs.Suites.{tests, suiteFault, verdictsAfter}
 use Rattle.verdicts_spec.specs.SuiteLaws.{suite-11, suite-fits, denied-suite, given-suite}
 use Rattle.verdicts_spec.specs.Complete.{tests-few, suite-complete}
 use Rattle.suite_lines_spec.specs.Lines.{testLines, passedOf, lastWords, lastLine, suiteLines}
-use Rattle.suite_lines_spec.specs.Program.{verdictList, judgedLines, inputLines, suiteText}
-
--- later bytes count as absent
-pub later-absent : (input more : List ℕ) → length input ≡ 4096 → suiteText (input ++ more) ≡ suiteText input
-unfolding suiteText
-later-absent input more h = ap inputLines (cut-more input more h)
+use Rattle.suite_lines_spec.specs.Program.{verdictList, judgedLines}
 
 -- no more pass than there are
 pub passed-few : (vs : List ℕ) (n : ℕ) → passedOf vs n ≤ n

@@ -1,10 +1,11 @@
--- A refusal, or the line of the sheet and what follows.
+-- A refusal, or the line of the sheet.
 use native.Mathlib.Omega.{arith}
 use borrow.Author.Tests.{eq-eqb, ne-eqb}
-use Rattle.suite_lines_spec.specs.Program.{deviceLines}
-use Rattle.text_spec.specs.AddsLaws.{adds-then}
-use Rattle.suite_lines.proofs.put_device.Statement.{statement}
-use Rattle.suite_lines.proofs.put_device.Tie as tie
+use Rattle.pair_lines_spec.specs.Program.{deviceLines}
+use Rattle.pair_lines_spec.specs.Opening.{silent}
+use Rattle.text_spec.specs.AddsLaws.{adds-none, adds-then}
+use Rattle.pair_lines.proofs.put_device.Statement.{statement}
+use Rattle.pair_lines.proofs.put_device.Tie as tie
 
 slice-aggregate-put-number-line : tie.Need-slice-aggregate-put-number-line
 slice-aggregate-put-number-line c = omega arith
@@ -20,7 +21,7 @@ same-length c = omega arith
 
 returns : tie.Need-returns
 unfolding deviceLines
-returns c = rw (ne-eqb (c .before .before .before .before .before .before .before .args .b .refusal) 0 (c .before .before .before .before .before .if1 .taken)) (c .before .before .put-number-line .ensures)
+returns c P = rw (ne-eqb (c .before .before .before .before .before .before .before .args .b .refusal) 0 (c .before .before .before .before .before .if1 .taken)) (c .before .before .put-number-line .ensures)
 
 slice-aggregate-put-sheet-line : tie.Need-slice-aggregate-put-sheet-line
 slice-aggregate-put-sheet-line c = omega arith
@@ -34,17 +35,14 @@ cast-put-sheet-line-2 c = omega arith
 put-sheet-line-requires : tie.Need-put-sheet-line-requires
 put-sheet-line-requires c κs = tt
 
-put-judged-requires : tie.Need-put-judged-requires
-put-judged-requires c κs = tt
-
 same-length-2 : tie.Need-same-length-2
 same-length-2 c = omega arith
 
 returns-2 : tie.Need-returns-2
-unfolding deviceLines
-returns-2 c =
-    rw (eq-eqb (c .before .before .before .before .before .before .before .before .before .before .before .before .before .before .args .b .refusal) 0 (c .before .before .before .before .before .before .before .before .before .before .before .before .if1 .left))
-    (adds-then (c .before .before .before .before .before .before .put-sheet-line .ensures) (c .before .before .put-judged .ensures))
+unfolding deviceLines silent
+returns-2 c P =
+    rw (eq-eqb (c .before .before .before .before .before .before .before .before .before .before .args .b .refusal) 0 (c .before .before .before .before .before .before .before .before .if1 .left))
+    (adds-then (c .before .before .put-sheet-line .ensures) (adds-none _ _))
 
 pub put-device-spec : {M : Type 1} → statement M
 put-device-spec =
@@ -59,6 +57,5 @@ put-device-spec =
     cast-put-sheet-line
     cast-put-sheet-line-2
     put-sheet-line-requires
-    put-judged-requires
     same-length-2
     returns-2)

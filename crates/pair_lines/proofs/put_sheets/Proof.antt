@@ -1,10 +1,10 @@
 -- A refusal, or the line of the sheet and what follows.
 use native.Mathlib.Omega.{arith}
 use borrow.Author.Tests.{eq-eqb, ne-eqb}
-use Rattle.lines_spec.specs.Program.{sheetsLines}
+use Rattle.pair_lines_spec.specs.Program.{sheetsLines}
 use Rattle.text_spec.specs.AddsLaws.{adds-then}
-use Rattle.lines.proofs.put_sheets.Statement.{statement}
-use Rattle.lines.proofs.put_sheets.Tie as tie
+use Rattle.pair_lines.proofs.put_sheets.Statement.{statement}
+use Rattle.pair_lines.proofs.put_sheets.Tie as tie
 
 slice-aggregate-put-number-line : tie.Need-slice-aggregate-put-number-line
 slice-aggregate-put-number-line c = omega arith
@@ -44,7 +44,7 @@ returns-2 : tie.Need-returns-2
 unfolding sheetsLines
 returns-2 c =
     rw (eq-eqb (c .before .before .before .before .before .before .before .before .before .before .before .before .before .before .args .a .refusal) 0 (c .before .before .before .before .before .before .before .before .before .before .before .before .if1 .left))
-    (adds-then (c .before .before .before .before .before .before .put-sheet-line .ensures) (c .before .before .put-device .ensures))
+    (adds-then (c .before .before .before .before .before .before .put-sheet-line .ensures) (c .before .before .put-device .ensures (c .before .before .before .before .before .before .before .before .before .before .before .before .before .before .args .a .sheet)))
 
 pub put-sheets-spec : {M : Type 1} → statement M
 put-sheets-spec =

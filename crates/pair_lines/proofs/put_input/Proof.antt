@@ -3,10 +3,10 @@ use mathlib.Core.Path.{sym, ap, _∙_}
 use native.Mathlib.Omega.{arith}
 use lib.Seq.{length-take-le}
 use Rattle.sheet_spec.specs.Reading.{readSheet}
-use Rattle.suite_lines_spec.specs.Program.{inputLines}
 use Rattle.text_spec.specs.InputLaws.{first-is, second-is}
-use Rattle.suite_lines.proofs.put_input.Statement.{statement}
-use Rattle.suite_lines.proofs.put_input.Tie as tie
+use Rattle.pair_lines.proofs.Parts.{opens-of}
+use Rattle.pair_lines.proofs.put_input.Statement.{statement}
+use Rattle.pair_lines.proofs.put_input.Tie as tie
 
 first-end-requires : tie.Need-first-end-requires
 first-end-requires c κs = tt
@@ -32,15 +32,18 @@ read-requires-2 c κs = tt
 put-sheets-requires : tie.Need-put-sheets-requires
 put-sheets-requires c κs = tt
 
+none-refused-requires : tie.Need-none-refused-requires
+none-refused-requires c κs = tt
+
 same-length : tie.Need-same-length
 same-length c = omega arith
 
 returns : tie.Need-returns
-unfolding inputLines
 returns c =
-    let i = c .before .before .before .before .before .before .before .before .before .before .before .args .input .now in
-    let e = c .before .before .before .before .before .before .before .before .first-end .ensures .0 in
-    rw (c .before .before .before .before .before .before .read .ensures ∙ ap readSheet (first-is i e), c .before .before .before .before .read2 .ensures ∙ ap readSheet (second-is i e)) at (c .before .before .put-sheets .ensures)
+    let i = c .before .before .before .before .before .before .before .before .before .before .before .before .before .before .args .input .now in
+    let e = c .before .before .before .before .before .before .before .before .before .before .before .first-end .ensures .0 in
+    opens-of i (c .before .before .before .before .before .before .before .before .before .read .ensures ∙ ap readSheet (first-is i e)) (c .before .before .before .before .before .before .before .read2 .ensures ∙ ap readSheet (second-is i e)) (c .none-refused .ensures)
+    (c .before .before .before .before .before .put-sheets .ensures)
 
 pub put-input-spec : {M : Type 1} → statement M
 put-input-spec =
@@ -54,5 +57,6 @@ put-input-spec =
     part-read-end
     read-requires-2
     put-sheets-requires
+    none-refused-requires
     same-length
     returns)

@@ -1,0 +1,5 @@
+pub mod Program
+pub mod Opening
+pub mod ProgramLaws
+pub mod OpeningLaws
+pub mod Cases

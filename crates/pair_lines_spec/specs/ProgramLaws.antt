@@ -1,0 +1,104 @@
+-- What the text says, whatever the judge: bytes behind 4,096 play no part; a refused sheet's line is the last; after two accepted sheets
+-- come the judge's lines, and the text is longer than these by at most 55 bytes.
+use mathlib.Core.Path.{_≡_, refl, ap}
+use mathlib.Core.Logic.{_≢_}
+use mathlib.Core.Bool.{Bool, true, false, cond}
+use mathlib.Core.List.{List, _++_}
+use Prim.Native.Nat.{ℕ, _+_, _≤_}
+use native.Mathlib.Omega.{arith}
+use lib.Dec.{eqb}
+use lib.ListN.{length, length-append}
+use borrow.Author.Tests.{eqb-true, eq-eqb, ne-eqb}
+use Rattle.sheet_spec.specs.declared.Sheet.{Sheet}
+use Rattle.sheet_spec.specs.declared.ReadSheet.{ReadSheet}
+use Rattle.sheet_spec.specs.Rules.{sheetFault}
+use Rattle.sheet_spec.specs.Reading.{readSheet}
+use Rattle.sheet_spec.specs.AnswerLaws.{read-refusal, read-kept}
+use Rattle.sheet_spec.specs.ReadLaws.{read-numbers}
+use Rattle.sheet_spec.specs.Sound.{check-sound}
+use Rattle.text_spec.specs.Lines.{ascii, numberLine, sheetLine}
+use Rattle.text_spec.specs.Input.{cutInput, firstSheet, secondSheet}
+use Rattle.text_spec.specs.InputLaws.{cut-more}
+use Rattle.text_spec.specs.LengthLaws.{number-length, sheet-length}
+use Rattle.pair_lines_spec.specs.Program.{Judge, deviceLines, sheetsLines, inputLines, pairText}
+
+-- later bytes count as absent
+pub later-absent : (judge : Judge) (input more : List ℕ) → length input ≡ 4096 → pairText judge (input ++ more) ≡ pairText judge input
+unfolding pairText
+later-absent judge input more h = ap (inputLines judge) (cut-more input more h)
+
+module _ (input : List ℕ) where
+  -- the two sheets of an input as they are read
+  abbrev pub reference : ReadSheet
+  reference = readSheet (firstSheet (cutInput input))
+
+  abbrev pub device : ReadSheet
+  device = readSheet (secondSheet (cutInput input))
+
+  module _ (judge : Judge) where
+    -- a refused reference: its refusal alone
+    pub reference-refused : reference .refusal ≢ 0 → pairText judge input ≡ numberLine (ascii "reference refused ") (reference .refusal)
+    unfolding pairText inputLines sheetsLines
+    reference-refused n = rw (ne-eqb (reference .refusal) 0 n)
+
+    module _ (h : reference .refusal ≡ 0) where
+      -- an accepted reference and a refused device: the size of the one, the refusal of the other
+      pub device-refused : device .refusal ≢ 0
+          → pairText judge input ≡ sheetLine (ascii "reference ") (reference .sheet .n) (reference .sheet .e) ++ numberLine (ascii "device refused ") (device .refusal)
+      unfolding pairText inputLines sheetsLines deviceLines
+      device-refused n = rw (eq-eqb (reference .refusal) 0 h, ne-eqb (device .refusal) 0 n)
+
+      -- two accepted sheets: their sizes, and the judge's lines
+      pub both-accepted : device .refusal ≡ 0
+          → pairText judge input ≡ sheetLine (ascii "reference ") (reference .sheet .n) (reference .sheet .e) ++ (sheetLine (ascii "device ") (device .sheet .n) (device .sheet .e) ++ judge (reference .sheet) (device .sheet))
+      unfolding pairText inputLines sheetsLines deviceLines
+      both-accepted k = rw (eq-eqb (reference .refusal) 0 h, eq-eqb (device .refusal) 0 k)
+
+-- the line of an accepted sheet
+line-length : (who b : List ℕ) → readSheet b .refusal ≡ 0 → length (sheetLine who (readSheet b .sheet .n) (readSheet b .sheet .e)) ≤ length who + 19
+line-length who b h =
+    let s = check-sound (readSheet b .sheet) (read-kept b h) .ranges in
+    sheet-length who (readSheet b .sheet .n) (readSheet b .sheet .e) (omega (arith, s .n-high)) (omega (arith, s .e-high))
+
+-- the line of a refused sheet
+refused-length : (who b : List ℕ) → length (numberLine who (readSheet b .refusal)) ≤ length who + 2
+refused-length who b = omega (arith, number-length who 0 (readSheet b .refusal) (omega (arith, read-refusal b, read-numbers b)))
+
+-- a judge whose lines have at most m bytes after every two accepted sheets
+module _ (judge : Judge) (m : ℕ) (few : (P Q : Sheet) → sheetFault P ≡ 0 → sheetFault Q ≡ 0 → length (judge P Q) ≤ m) where
+  device-length : (P : Sheet) → sheetFault P ≡ 0 → (b : List ℕ) → length (deviceLines judge P (readSheet b)) ≤ m + 26
+  unfolding deviceLines
+  device-length P accP b = go (eqb (readSheet b .refusal) 0) refl
+    where
+      go : (x : Bool) → eqb (readSheet b .refusal) 0 ≡ x
+          → length (cond x (sheetLine (ascii "device ") (readSheet b .sheet .n) (readSheet b .sheet .e) ++ judge P (readSheet b .sheet)) (numberLine (ascii "device refused ") (readSheet b .refusal))) ≤ m + 26
+      go true e =
+          let h = eqb-true (readSheet b .refusal) 0 e in
+          omega (
+            arith,
+            length-append (sheetLine (ascii "device ") (readSheet b .sheet .n) (readSheet b .sheet .e)) (judge P (readSheet b .sheet)),
+            line-length (ascii "device ") b h,
+            few P (readSheet b .sheet) accP (read-kept b h),
+          )
+      go false e = omega (arith, refused-length (ascii "device refused ") b)
+
+  sheets-length : (a b : List ℕ) → length (sheetsLines judge (readSheet a) (readSheet b)) ≤ m + 55
+  unfolding sheetsLines
+  sheets-length a b = go (eqb (readSheet a .refusal) 0) refl
+    where
+      go : (x : Bool) → eqb (readSheet a .refusal) 0 ≡ x
+          → length (cond x (sheetLine (ascii "reference ") (readSheet a .sheet .n) (readSheet a .sheet .e) ++ deviceLines judge (readSheet a .sheet) (readSheet b)) (numberLine (ascii "reference refused ") (readSheet a .refusal))) ≤ m + 55
+      go true e =
+          let h = eqb-true (readSheet a .refusal) 0 e in
+          omega (
+            arith,
+            length-append (sheetLine (ascii "reference ") (readSheet a .sheet .n) (readSheet a .sheet .e)) (deviceLines judge (readSheet a .sheet) (readSheet b)),
+            line-length (ascii "reference ") a h,
+            device-length (readSheet a .sheet) (read-kept a h) b,
+          )
+      go false e = omega (arith, refused-length (ascii "reference refused ") a)
+
+  -- the lines of the sheets add at most 55 bytes to the judge's
+  pub pair-length : (input : List ℕ) → length (pairText judge input) ≤ m + 55
+  unfolding pairText inputLines
+  pair-length input = sheets-length (firstSheet (cutInput input)) (secondSheet (cutInput input))

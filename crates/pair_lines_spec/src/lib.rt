@@ -1,0 +1,12 @@
+// The text of a program that reads two sheets, back to back: their sizes, or a refusal, and after two accepted sheets the lines of a
+// judge. `compare` and `suite` differ in the judge alone. The crate has the type of two sheets so read; its specs say which text an
+// input gives, for every judge. It has no function.
+use sheet_spec::Sheet;
+
+// Two sheets as they were read, each all 0 where it is refused; whether both are accepted; and the place after the lines of the sheets.
+pub struct TwoSheets {
+    pub both: bool,
+    pub reference: Sheet,
+    pub device: Sheet,
+    pub at: usize,
+}
