@@ -7,14 +7,7 @@
 set -eu
 cd "$(dirname "$0")/.."
 
-if [ ! -f target/staticlib/libedge.a ]; then
-    echo "speed: rt staticlib edge"
-    mkdir -p target/speed
-    rt staticlib edge > target/speed/staticlib.out 2>&1 || {
-        cat target/speed/staticlib.out
-        exit 1
-    }
-fi
+sh tests/archive
 
 # cargo writes only here, whoever runs it.
 export CARGO_HOME="$PWD/target/cargo" CARGO_TARGET_DIR="$PWD/model/target"

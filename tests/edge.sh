@@ -3,12 +3,8 @@
 set -eu
 cd "$(dirname "$0")/.."
 
-echo "edge: rt staticlib edge"
+sh tests/archive
 mkdir -p target/examples
-rt staticlib edge > target/examples/staticlib.out 2>&1 || {
-    cat target/examples/staticlib.out
-    exit 1
-}
 
 for source in examples/*.c; do
     name=$(basename "$source" .c)

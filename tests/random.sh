@@ -5,12 +5,8 @@
 set -eu
 cd "$(dirname "$0")/.."
 
-echo "random: rt staticlib edge"
+sh tests/archive
 mkdir -p target/random
-rt staticlib edge > target/random/staticlib.out 2>&1 || {
-    cat target/random/staticlib.out
-    exit 1
-}
 
 echo "random: rt check compare"
 rt check compare > target/random/compare.out 2>&1 || {

@@ -3,7 +3,6 @@ pub mod Head
 pub mod Show
 pub mod Node
 pub mod JoinedLaws
-pub mod HoldsLaws
 pub mod ShowLaws
 pub mod NodeLaws
 pub mod Lengths

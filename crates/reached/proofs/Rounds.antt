@@ -18,7 +18,7 @@ use Rattle.sheet_spec.specs.declared.Sheet.{Sheet}
 use Rattle.sheet_spec.specs.Kept.{row, successor, step, graph}
 use Rattle.sheet_spec.specs.Rules.{reachedOk}
 use Rattle.row_rules.specs.Targets.{targets-is}
-use Rattle.reached.specs.Shapes.{targetsOf, joined, grown, rounds}
+use Rattle.reached.specs.Shapes.{targetsOf, withTargets, grown, rounds}
 
 -- tests that agree below a bound
 module _ (f g : ℕ → Bool) where
@@ -35,7 +35,7 @@ module _ (f g : ℕ → Bool) where
 -- one round over the first k nodes: node 0, and the nodes to which t leads from a node that was seen
 module _ (sets : List ℕ) (t : ℕ → ℕ → Bool) (h : (u : ℕ) → u < 32 → getD sets u 0 ≡ setOf (t u) 32) (seen : ℕ → Bool) where
   grown-is : (k : ℕ) → k ≤ 32 → grown sets (setOf seen 32) k ≡ setOf (λ v. eqb v 0 || any (λ u. t u v && seen u) k) 32
-  unfolding grown joined any
+  unfolding grown withTargets any
   grown-is zero l = unfold setOf in refl
   grown-is (suc k) l = rw (grown-is k (omega arith), h k l, has-setOf seen 32 k l) (go (seen k))
     where

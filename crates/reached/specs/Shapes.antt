@@ -14,13 +14,13 @@ unfoldable pub targetsOf : Sheet → ℕ → ℕ
 targetsOf s v = targets (s .e) (row s v)
 
 -- the nodes of a set join, if u was seen
-unfoldable pub joined : ℕ → ℕ → ℕ → ℕ → ℕ
-joined next seen u set = cond (has seen u) (bitOr next set) next
+unfoldable pub withTargets : ℕ → ℕ → ℕ → ℕ → ℕ
+withTargets next seen u set = cond (has seen u) (bitOr next set) next
 
 -- one round over the first n nodes
 unfoldable pub grown : List ℕ → ℕ → ℕ → ℕ
 grown sets seen zero = 1
-grown sets seen (suc u) = joined (grown sets seen u) seen u (getD sets u 0)
+grown sets seen (suc u) = withTargets (grown sets seen u) seen u (getD sets u 0)
 
 -- k rounds, from nothing seen
 unfoldable pub rounds : List ℕ → ℕ → ℕ → ℕ

@@ -4,7 +4,7 @@ ghost use Prim.Native.Nat.{_≤_, _<_};
 ghost use Rattle.base.specs.Table.{upTo};
 ghost use Rattle.events.specs.Sets.{has};
 ghost use Rattle.sheet_spec.specs.Rules.{reachedOk};
-ghost use Rattle.reached.specs.Shapes.{targetsOf, joined, grown, rounds};
+ghost use Rattle.reached.specs.Shapes.{targetsOf, withTargets, grown, rounds};
 use sheet_spec::Sheet;
 
 // For each node the set of nodes to which one event leads.
@@ -32,7 +32,7 @@ fn has_node(set: u32, v: usize) -> bool
 // The nodes of `set` join `next`, if node `u` is among those seen.
 fn join(next: u32, seen: u32, u: usize, set: u32) -> u32
     requires { ⌜ u < 32 ⌝ }
-    ensures { λ r. ⌜ r ≡ joined next seen u set ⌝ }
+    ensures { λ r. ⌜ r ≡ withTargets next seen u set ⌝ }
 {
     if has_node(seen, u) { next | set } else { next }
 }

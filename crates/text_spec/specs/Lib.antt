@@ -6,5 +6,6 @@ pub mod DecimalLaws
 pub mod SetLaws
 pub mod InputLaws
 pub mod AddsLaws
+pub mod HoldsLaws
 pub mod LengthLaws
 pub mod Cases

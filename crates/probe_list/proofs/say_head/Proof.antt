@@ -1,6 +1,6 @@
 -- What is written is the line that was put.
 use borrow.Author.Needs.{needs}
-use Rattle.node_lines_spec.specs.HoldsLaws.{adds-within, adds-front}
+use Rattle.text_spec.specs.HoldsLaws.{adds-within, adds-front}
 use Rattle.probe_list.proofs.say_head.Statement.{statement}
 use Rattle.probe_list.proofs.say_head.Tie as tie
 

@@ -3,7 +3,7 @@ use mathlib.Core.Path.{_≡_, sym}
 use Prim.Native.Nat.{_-_, _≤_}
 use native.Mathlib.Omega.{arith}
 use lib.ListN.{length}
-use Rattle.node_lines_spec.specs.HoldsLaws.{holds-inside, holds-front}
+use Rattle.text_spec.specs.HoldsLaws.{holds-inside, holds-front}
 use Rattle.probe_list.proofs.say_nodes.Statement.{statement}
 use Rattle.probe_list.proofs.say_nodes.Tie as tie
 

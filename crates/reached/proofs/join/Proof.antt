@@ -1,6 +1,6 @@
 -- The test is that of the definition.
 use native.Mathlib.Omega.{arith}
-use Rattle.reached.specs.Shapes.{joined}
+use Rattle.reached.specs.Shapes.{withTargets}
 use Rattle.reached.proofs.join.Statement.{statement}
 use Rattle.reached.proofs.join.Tie as tie
 
@@ -8,11 +8,11 @@ has-node-requires : tie.Need-has-node-requires
 has-node-requires c κs = omega arith
 
 returns : tie.Need-returns
-unfolding joined
+unfolding withTargets
 returns c = rw (← c .before .has-node .ensures, c .if1 .taken)
 
 returns-2 : tie.Need-returns-2
-unfolding joined
+unfolding withTargets
 returns-2 c = rw (← c .before .has-node .ensures, c .if1 .left)
 
 pub join-spec : {M : Type 1} → statement M

@@ -1,6 +1,6 @@
 -- What is written is the text that was put.
 use borrow.Author.Needs.{needs}
-use Rattle.node_lines_spec.specs.HoldsLaws.{holds-front}
+use Rattle.text_spec.specs.HoldsLaws.{holds-front}
 use Rattle.show.proofs.main.Statement.{statement}
 use Rattle.show.proofs.main.Tie as tie
 

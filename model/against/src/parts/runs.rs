@@ -137,46 +137,22 @@ fn play(rng: &mut Rng, findings: &mut Findings, reference: &Sheet, device: &Shee
     let opened = try_open(findings, reference, k, h, traces);
     let (mut record, mut offer, mut at) = (opened.run, opened.answer.value, 0u8);
     for count in 0..=u64::from(k) {
-        if rng.one_in(8) {
-            let code = any_code(rng, reference);
-            let refused = step_numbers(reference, &record, code).answer.refusal != 0;
-            if refused {
-                try_step(findings, reference, &record, code);
-            }
-        }
-        let mut reports = device_reports(&device.row(at), device.e, offer);
-        let on = |report: &Report| {
-            let Report::Event(event) = *report else {
-                return false;
-            };
-            after(reference, record.node, event).is_some()
-        };
-        // Strays and blocks come late, so that runs go deep.
-        if reports.iter().any(on) && record.depth < record.k && !rng.one_in(30) {
-            reports.retain(on);
-        }
-        if reports.is_empty() {
+        refuse_between(rng, findings, reference, &record);
+        let reports = device_reports(&device.row(at), device.e, offer);
+        let Some(report) = next_report(rng, reference, &record, reports) else {
             return;
-        }
-        let report = rng.pick(&reports);
-        let code = match report {
-            Report::Event(event) => u16::from(event),
-            Report::Blocked => rng.pick(&[256, 256, 256, 300, 65_535]),
         };
+        let code = code_of(rng, report);
         let answered = try_step(findings, reference, &record, code);
         record = answered.run;
         offer = answered.answer.value;
-        let kind = u64::from(answered.answer.kind);
-        match (kind, report) {
+        match (answered.answer.kind, report) {
             (1, Report::Event(event)) => match after(device, at, event) {
                 Some(next) => at = next,
                 None => return,
             },
-            _ => {
-                let by_block = kind == 4 && report == Report::Blocked;
-                let group = if trace_only { TRACES } else { RUNS };
-                findings.count(group, kind + u64::from(by_block));
-                findings.count(DEEP, digits(count));
+            (kind, _) => {
+                count_ending(findings, trace_only, u64::from(kind), report, count);
                 let code = any_code(rng, reference);
                 try_step(findings, reference, &record, code);
                 return;
@@ -185,6 +161,63 @@ fn play(rng: &mut Rng, findings: &mut Findings, reference: &Sheet, device: &Shee
     }
 }
 
+/// At times a report in between that is refused.
+fn refuse_between(rng: &mut Rng, findings: &mut Findings, reference: &Sheet, record: &Record) {
+    if rng.one_in(8) {
+        let code = any_code(rng, reference);
+        let refused = step_numbers(reference, record, code).answer.refusal != 0;
+        if refused {
+            try_step(findings, reference, record, code);
+        }
+    }
+}
+
+/// One of the reports that the device can give. Strays and blocks come late, so that runs
+/// go deep.
+fn next_report(
+    rng: &mut Rng,
+    reference: &Sheet,
+    record: &Record,
+    mut reports: Vec<Report>,
+) -> Option<Report> {
+    let on = |report: &Report| {
+        let Report::Event(event) = *report else {
+            return false;
+        };
+        after(reference, record.node, event).is_some()
+    };
+    if reports.iter().any(on) && record.depth < record.k && !rng.one_in(30) {
+        reports.retain(on);
+    }
+    if reports.is_empty() {
+        return None;
+    }
+    Some(rng.pick(&reports))
+}
+
+/// The code of a report: an event's number, or some number for blocked.
+fn code_of(rng: &mut Rng, report: Report) -> u16 {
+    match report {
+        Report::Event(event) => u16::from(event),
+        Report::Blocked => rng.pick(&[256, 256, 256, 300, 65_535]),
+    }
+}
+
+/// Counts how a run ended, and after how many reports.
+fn count_ending(
+    findings: &mut Findings,
+    trace_only: bool,
+    kind: u64,
+    report: Report,
+    count: u64,
+) {
+    let by_block = kind == 4 && report == Report::Blocked;
+    let group = if trace_only { TRACES } else { RUNS };
+    findings.count(group, kind + u64::from(by_block));
+    findings.count(DEEP, digits(count));
+}
+
+/// How many digits a count has, 0 for none.
 fn digits(count: u64) -> u64 {
     match count {
         0 => 0,
