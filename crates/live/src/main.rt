@@ -99,7 +99,7 @@ fn asked_for(four: bool) -> Asked {
     let a = os::arg(2, &mut k);
     let b = os::arg(3, &mut h);
     let c = os::arg(4, &mut word);
-    live_lines::asked_of(
+    live_words::asked_of(
         text::front(&k, a),
         text::front(&h, b),
         four,
@@ -170,7 +170,7 @@ fn has_ended(got: Got) -> bool {
 
 // One turn: hears a line, steps the run and writes the answer.
 fn take_turn(sheet: Sheet, run: Run, line: &[u8]) -> Turn {
-    let stepped = tests::step(sheet, run, live_lines::heard(line));
+    let stepped = tests::step(sheet, run, live_words::heard(line));
     let a = stepped.answer;
     let after = stepped.run;
     say_answer(a);

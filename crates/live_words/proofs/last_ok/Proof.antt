@@ -1,9 +1,9 @@
 -- There is no such word, or it is `traces`.
 use native.Mathlib.Omega.{arith}
 use Rattle.base.specs.Truth.{not-f, f-not}
-use Rattle.live_lines.proofs.Parts.{last-none, last-some}
-use Rattle.live_lines.proofs.last_ok.Statement.{statement}
-use Rattle.live_lines.proofs.last_ok.Tie as tie
+use Rattle.live_words.proofs.Parts.{last-none, last-some}
+use Rattle.live_words.proofs.last_ok.Statement.{statement}
+use Rattle.live_words.proofs.last_ok.Tie as tie
 
 returns : tie.Need-returns
 returns c = last-none (c .before .before .args .there) (c .before .before .args .word .now) (not-f _ (c .if1 .taken))

@@ -1,9 +1,9 @@
 -- No digits, a number that is too large, or the number.
 use native.Mathlib.Omega.{arith}
 use Rattle.base.specs.Truth.{not-f, f-not}
-use Rattle.live_lines.proofs.Parts.{few-five, in-not, in-over, in-is}
-use Rattle.live_lines.proofs.number_in.Statement.{statement}
-use Rattle.live_lines.proofs.number_in.Tie as tie
+use Rattle.live_words.proofs.Parts.{few-five, in-not, in-over, in-is}
+use Rattle.live_words.proofs.number_in.Statement.{statement}
+use Rattle.live_words.proofs.number_in.Tie as tie
 
 few-digits-requires : tie.Need-few-digits-requires
 few-digits-requires c κs = tt

@@ -7,9 +7,9 @@ use lib.ListN.{length}
 use Rattle.base.specs.Truth.{not-f, f-not}
 use Rattle.base.specs.Range.{all}
 use Rattle.live_lines_spec.specs.Numbers.{digitAt}
-use Rattle.live_lines.proofs.Loops.{digits-stop, digits-more, digits-done}
-use Rattle.live_lines.proofs.all_digits.Statement.{statement}
-use Rattle.live_lines.proofs.all_digits.Tie as tie
+use Rattle.live_words.proofs.Loops.{digits-stop, digits-more, digits-done}
+use Rattle.live_words.proofs.all_digits.Statement.{statement}
+use Rattle.live_words.proofs.all_digits.Tie as tie
 
 abbrev Inv-loop : tie.InvT-loop
 Inv-loop bytes i₀ i = (i ≤ length bytes) × (all (digitAt bytes) i ≡ true)

@@ -1,9 +1,9 @@
 -- A word that is bad, or the test.
 use native.Mathlib.Omega.{arith}
 use Rattle.base.specs.Truth.{not-f, f-not}
-use Rattle.live_lines.proofs.Parts.{asked-k, asked-h, asked-last, asked-all}
-use Rattle.live_lines.proofs.asked_of.Statement.{statement}
-use Rattle.live_lines.proofs.asked_of.Tie as tie
+use Rattle.live_words.proofs.Parts.{asked-k, asked-h, asked-last, asked-all}
+use Rattle.live_words.proofs.asked_of.Statement.{statement}
+use Rattle.live_words.proofs.asked_of.Tie as tie
 
 number-of-requires : tie.Need-number-of-requires
 number-of-requires c κs = tt

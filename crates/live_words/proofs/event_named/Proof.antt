@@ -2,9 +2,9 @@
 use Prim.Native.Nat.{_<_}
 use native.Mathlib.Omega.{arith}
 use Rattle.base.specs.Truth.{not-f, f-not}
-use Rattle.live_lines.proofs.Parts.{named-not, named-long, named-is, named-byte}
-use Rattle.live_lines.proofs.event_named.Statement.{statement}
-use Rattle.live_lines.proofs.event_named.Tie as tie
+use Rattle.live_words.proofs.Parts.{named-not, named-long, named-is, named-byte}
+use Rattle.live_words.proofs.event_named.Statement.{statement}
+use Rattle.live_words.proofs.event_named.Tie as tie
 
 front-requires : tie.Need-front-requires
 front-requires c κs = tt

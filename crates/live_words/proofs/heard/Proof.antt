@@ -1,8 +1,8 @@
 -- `blocked`, or an event.
 use native.Mathlib.Omega.{arith}
-use Rattle.live_lines.proofs.Parts.{is-blocked, is-event}
-use Rattle.live_lines.proofs.heard.Statement.{statement}
-use Rattle.live_lines.proofs.heard.Tie as tie
+use Rattle.live_words.proofs.Parts.{is-blocked, is-event}
+use Rattle.live_words.proofs.heard.Statement.{statement}
+use Rattle.live_words.proofs.heard.Tie as tie
 
 slice-aggregate-same-text : tie.Need-slice-aggregate-same-text
 slice-aggregate-same-text c = omega arith
