@@ -1,19 +1,18 @@
 -- From the tables to the definitions: the graph that a sheet's table draws is the sheet's, the table of violating pairs holds what
 -- the definition says, and so a search over them gives the answer and leaves the lists as they are defined.
-use mathlib.Core.Path.{_≡_, refl, sym, ap, _∙_, fun-ext}
+use mathlib.Core.Path.{_≡_, sym, ap, _∙_, fun-ext}
 use mathlib.Core.Logic.{_⊎_, inl, inr, _≢_}
-use mathlib.Core.Bool.{Bool, true, false, cond}
+use mathlib.Core.Bool.{Bool}
 use mathlib.Core.List.{List}
-use Prim.Native.Nat.{ℕ, zero, suc, _+_, _-_, _*_, _≤_, _<_}
+use Prim.Native.Nat.{ℕ, _+_, _*_, _≤_, _<_}
 use native.Mathlib.Omega.{arith}
 use native.Mathlib.Decide.{ℕ-discrete}
 use native.Mathlib.Nat.{mul-le-mul-right}
-use lib.Arith.{digits-lt, digits-div, digits-mod}
-use lib.ListN.{length, getD, replicate, List·getD-append}
+use lib.ListN.{length, getD}
 use borrow.Author.Tests.{lt-ltb, le-ltb}
 use Rattle.base.specs.Truth.{lt-or-ge}
 use Rattle.base.specs.Count.{count-le}
-use Rattle.base.specs.Table.{upTo, length-upTo, getD-upTo}
+use Rattle.base.specs.Table.{upTo}
 use Rattle.walks.specs.Graph.{Graph}
 use Rattle.walks.specs.Cleared.{cleared}
 use Rattle.walks.specs.Product.{product}
@@ -33,7 +32,9 @@ use Rattle.search_spec.specs.Tables.{tableNext, tableGraph, badIn}
 use Rattle.search_spec.specs.Found.{foundOf, Searched, traceFound, workFound}
 use Rattle.search_spec.specs.Read.{SearchOk}
 use Rattle.rows.specs.Flat.{flatAt, flat-holds}
-use Rattle.comparison.specs.Shapes.{faultOn, badAt, badTable, told, Fits}
+use Rattle.bad_pairs.specs.Table.{badTable, table-holds}
+use Rattle.outcomes.specs.Told.{told, Fits}
+use Rattle.comparison_faults.specs.FaultOn.{faultOn, fault-is}
 use Rattle.comparison_spec.specs.Contract.{Compares}
 use Rattle.comparison.specs.Agree.{Agree, distance-same, trace-same}
 
@@ -55,12 +56,8 @@ flat-graph s n e = ap (λ (f : ℕ → ℕ → ℕ). record { events = s .e; siz
 
 -- the table of violating pairs agrees with the definition at the pairs of nodes
 pub bad-agree : (traceOnly : Bool) (P Q : Sheet) → Agree (graph P) (graph Q) (badIn (badTable traceOnly P Q) (Q .n)) (violating traceOnly P Q)
-unfolding badIn badTable badAt
-bad-agree traceOnly P Q n m h k =
-    let l : n * Q .n + m < P .n * Q .n = digits-lt h k in
-    let f = badAt traceOnly P Q in
-    List·getD-append (upTo f (P .n * Q .n)) (replicate (1024 - P .n * Q .n) false) false (n * Q .n + m) (omega (arith, length-upTo f (P .n * Q .n)))
-    ∙ getD-upTo f (P .n * Q .n) (n * Q .n + m) false l ∙ rw (digits-div n k, digits-mod n k)
+unfolding badIn
+bad-agree traceOnly P Q n m h k = table-holds traceOnly P Q n m h k
 
 -- ---- what is found
 
@@ -118,21 +115,17 @@ module _ (traceOnly : Bool) (P Q : Sheet) (op : Sound P) (oq : Sound Q) where
 -- ---- the call
 
 module _ (P Q : Sheet) (work trace : List ℕ) where
-  fault-is : faultOn P Q (length work) (length trace) ≡ compareFault P Q work trace
-  unfolding faultOn compareFault pairs
-  fault-is = refl
-
   -- a call that is refused
   pub compares-denied : (traceOnly : Bool) (k : ℕ) → k ≡ faultOn P Q (length work) (length trace) → k ≢ 0 → Compares traceOnly P Q work trace work trace (Denied k)
   compares-denied traceOnly k e n =
-      let f = e ∙ fault-is in
+      let f = e ∙ fault-is P Q work trace in
       let m : compareFault P Q work trace ≢ 0 = λ z. n (f ∙ z) in
       let a = ap Denied f ∙ sym (denied-outcome P Q work trace traceOnly m) in
       record { answer = a; numbers = ap compared a; traced = sym (denied-trace P Q work trace traceOnly m); zeroed = sym (denied-work P Q work trace traceOnly m) }
 
   -- one that is not
   pub passed : (k : ℕ) → k ≡ faultOn P Q (length work) (length trace) → k ≡ 0 → compareFault P Q work trace ≡ 0
-  passed k e z = sym fault-is ∙ sym e ∙ z
+  passed k e z = sym (fault-is P Q work trace) ∙ sym e ∙ z
 
   module _ (z : compareFault P Q work trace ≡ 0) where
     pub both-accepted : (sheetFault P ≡ 0) × (sheetFault Q ≡ 0)

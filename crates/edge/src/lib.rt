@@ -12,6 +12,7 @@ ghost use Rattle.tests_spec.specs.Verdicts.{verdictOf};
 ghost use Rattle.tests_spec.specs.Numbers.{said, judged};
 ghost use Rattle.verdicts_spec.specs.Suites.{suiteOf, verdictsAfter};
 ghost use Rattle.verdicts_spec.specs.Numbers.{suited};
+ghost use Rattle.comparison_spec.specs.declared.Outcome.the-variants.{Denied};
 ghost use Rattle.comparison_spec.specs.Comparison.{outcomeOf, traceAfter, workAfter};
 ghost use Rattle.comparison_spec.specs.Numbers.{compared};
 ghost use Rattle.edge.specs.Flat.{reportFlat, listedFlat, saidFlat, steppedFlat, suitedFlat, comparedFlat};
@@ -265,6 +266,21 @@ pub struct BenchCompared {
     pub acceptance: u16,
 }
 
+// The numbers of a comparison that is refused.
+fn denied_flat(n: u8) -> BenchCompared
+    ensures { λ r. ⌜ r ≡ comparedFlat (compared (Denied n)) ⌝ }
+{
+    BenchCompared {
+        refusal: n,
+        kind: 0,
+        d: 0,
+        cleared: 0,
+        event: 0,
+        probe: 0,
+        acceptance: 0,
+    }
+}
+
 // The numbers of a comparison's answer.
 fn compared_flat(o: Outcome) -> BenchCompared
     ensures { λ r. ⌜ r ≡ comparedFlat (compared o) ⌝ }
@@ -297,15 +313,7 @@ fn compared_flat(o: Outcome) -> BenchCompared
             probe: x,
             acceptance: a,
         },
-        Outcome::Denied(n) => BenchCompared {
-            refusal: n,
-            kind: 0,
-            d: 0,
-            cleared: 0,
-            event: 0,
-            probe: 0,
-            acceptance: 0,
-        },
+        Outcome::Denied(n) => denied_flat(n),
     }
 }
 

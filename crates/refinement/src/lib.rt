@@ -1,8 +1,10 @@
 // When a pair of nodes is violating: what the device does or may refuse at its node and the reference does not at its own.
-// Every function takes every row.
+// Every public function takes every row.
 ghost use mathlib.Core.Path.{_≡_};
-ghost use Rattle.sheet_spec.specs.Kept.{acceptance};
-ghost use Rattle.refinement_spec.specs.PairTests.{strays, covers, hasRefusal, violates};
+ghost use Prim.Native.Nat.{ℕ, _≤_};
+ghost use Rattle.sheet_spec.specs.Kept.{initials};
+ghost use Rattle.refinement_spec.specs.PairTests.{strays, hasRefusal, violates};
+ghost use Rattle.refinement.specs.Shapes.{covering, refusing};
 use sheet_spec::Row;
 
 // The events of the device's initials that are not among the reference's.
@@ -12,41 +14,56 @@ pub fn stray_events(reference: u16, device: u16) -> u16
     device - (reference & device)
 }
 
-// Whether the set includes one of the row's acceptances.
-pub fn is_covering(row: Row, set: u16) -> bool
-    ensures { λ r. ⌜ r ≡ covers row set ⌝ }
+// Whether a set includes one of the first `c` sets; they are lent, so that a call for each acceptance copies no row.
+fn is_covering(sets: &[u16; 16], c: usize, set: u16) -> bool
+    requires { ⌜ c ≤ 16 ⌝ }
+    ensures { λ r. ⌜ r ≡ covering (now (sets .entry)) c set ⌝ }
 {
-    let c = base::wide(row.c);
     for l in 0..c {
-        if events::is_inside(rows::acceptance_at(row, l), set) {
+        if events::is_inside(sets[l], set) {
             return true;
         }
     }
     false
 }
 
-// Whether some acceptance of the device includes none of the reference's.
+// Whether one of the first `d` of the others includes none of the first `c` sets.
+fn is_refusing(sets: &[u16; 16], c: usize, others: &[u16; 16], d: usize) -> bool
+    requires { ⌜ (c ≤ 16) × (d ≤ 16) ⌝ }
+    ensures { λ r. ⌜ r ≡ refusing (now (sets .entry)) c (now (others .entry)) d ⌝ }
+{
+    for j in 0..d {
+        if !is_covering(sets, c, others[j]) {
+            return true;
+        }
+    }
+    false
+}
+
+// Whether some acceptance of the device includes none of the reference's. A place from 16 on holds the empty set: every set
+// includes it, and it includes no other. (The sets are copied out first: lent inside their rows they are read more slowly.)
 pub fn has_refusal(reference: Row, device: Row) -> bool
     ensures { λ r. ⌜ r ≡ hasRefusal reference device ⌝ }
 {
-    let c = base::wide(device.c);
-    for j in 0..c {
-        if !is_covering(reference, rows::acceptance_at(device, j)) {
-            return true;
-        }
+    let c = base::wide(reference.c);
+    let d = base::wide(device.c);
+    let sets = reference.sets;
+    let others = device.sets;
+    if c > 16 {
+        return false;
     }
-    false
+    if d > 16 {
+        return !is_covering(&sets, c, 0);
+    }
+    is_refusing(&sets, c, &others, d)
 }
 
-// Whether the pair of rows is violating; with traces alone only strays count.
-pub fn is_violating(reference: Row, device: Row, e: usize, trace_only: bool) -> bool
-    ensures { λ r. ⌜ r ≡ violates «trace_only» e reference device ⌝ }
+// Whether a pair of rows is violating, by the initials `x` of the reference and `y` of the device; with traces alone only strays
+// count.
+pub fn is_violating(x: u16, y: u16, reference: Row, device: Row, trace_only: bool) -> bool
+    ensures { λ r. ⌜ ((e : ℕ) → x ≡ initials e reference → y ≡ initials e device → r ≡ violates «trace_only» e reference device) ⌝ }
 {
-    let strays = stray_events(
-        rows::initials_of(reference, e),
-        rows::initials_of(device, e),
-    );
-    if strays != 0 {
+    if stray_events(x, y) != 0 {
         return true;
     }
     if trace_only {

@@ -20,8 +20,8 @@ flat-requires c κs = tt
 flat-requires-2 : tie.Need-flat-requires-2
 flat-requires-2 c κs = tt
 
-bad-pairs-requires : tie.Need-bad-pairs-requires
-bad-pairs-requires c κs =
+table-requires : tie.Need-table-requires
+table-requires c κs =
     let s = c .before .before .before .before .before .before .before .before .before in
     let a = s .args in
     both-accepted (a .reference) (a .device) (now (a .work)) (now (a .trace)) (s .pre)
@@ -40,7 +40,7 @@ tell-requires c κs =
     let s = w .before .before .before .before .before in
     let a = s .args in
     let z = both-accepted (a .reference) (a .device) (now (a .work)) (now (a .trace)) (s .pre) in
-    (z .0, z .1, answer-fits (a .reference) (a .device) (now (a .work)) (now (a .trace)) (s .pre) (w .before .wide2 .ensures) (w .wide3 .ensures) (w .before .before .wide .ensures) (a .trace-only) (b .before .before .flat .ensures) (b .before .flat2 .ensures) (b .bad-pairs .ensures) (c .before .before .before .before .search .ensures))
+    (z .0, z .1, answer-fits (a .reference) (a .device) (now (a .work)) (now (a .trace)) (s .pre) (w .before .wide2 .ensures) (w .wide3 .ensures) (w .before .before .wide .ensures) (a .trace-only) (b .before .before .flat .ensures) (b .before .flat2 .ensures) (b .table .ensures) (c .before .before .before .before .search .ensures))
 
 same-length : tie.Need-same-length
 same-length c = omega arith
@@ -54,7 +54,7 @@ returns c =
     let w = b .before .before .before .before .before in
     let s = w .before .before .before .before .before in
     let a = s .args in
-    compares-found (a .reference) (a .device) (now (a .work)) (now (a .trace)) (s .pre) (w .before .wide2 .ensures) (w .wide3 .ensures) (w .before .before .wide .ensures) (a .trace-only) (b .before .before .flat .ensures) (b .before .flat2 .ensures) (b .bad-pairs .ensures) (c .before .before .before .before .before .search .ensures) _ (c .tell .ensures)
+    compares-found (a .reference) (a .device) (now (a .work)) (now (a .trace)) (s .pre) (w .before .wide2 .ensures) (w .wide3 .ensures) (w .before .before .wide .ensures) (a .trace-only) (b .before .before .flat .ensures) (b .before .flat2 .ensures) (b .table .ensures) (c .before .before .before .before .before .search .ensures) _ (c .tell .ensures)
 
 pub judge-spec : {M : Type 1} → statement M
 judge-spec =
@@ -65,7 +65,7 @@ judge-spec =
     wide-requires-3
     flat-requires
     flat-requires-2
-    bad-pairs-requires
+    table-requires
     search-requires
     tell-requires
     same-length

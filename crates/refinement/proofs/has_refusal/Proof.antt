@@ -1,79 +1,48 @@
--- `refinement::has_refusal`. The loop's invariant: every acceptance of the device before place `j` includes one of the reference's.
-use mathlib.Core.Path.{_≡_, refl, sym}
-use mathlib.Core.Bool.{Bool, false, not}
-use Prim.Native.Nat.{ℕ, _-_, _≤_}
+-- `refinement::has_refusal`: rows of at most 16 sets are tested set by set; of those with more each has its own law.
 use native.Mathlib.Omega.{arith}
-use Rattle.base.specs.Range.{any, any←, any-more, any-done}
-use Rattle.sheet_spec.specs.Kept.{acceptance}
-use Rattle.sheet_spec.specs.declared.Row.{Row}
-use Rattle.refinement_spec.specs.PairTests.{covers, hasRefusal}
+use Rattle.refinement.proofs.Refusals.{reference-over, device-over, covering-is, refusing-is}
 use Rattle.refinement.proofs.has_refusal.Statement.{statement}
 use Rattle.refinement.proofs.has_refusal.Tie as tie
 
--- the acceptance of the device at place j includes none of the reference's
-abbrev lacks : Row → Row → ℕ → Bool
-lacks reference device j = not (covers reference (acceptance device j))
-
-abbrev Inv-loop : tie.InvT-loop
-Inv-loop reference device c j₀ j = (j ≤ c) × (any (lacks reference device) j ≡ false)
-
-abbrev μ-loop : tie.MeasureT-loop
-μ-loop reference device c j₀ j = c - j
-
-wide-requires : tie.Need-wide-requires Inv-loop μ-loop
+wide-requires : tie.Need-wide-requires
 wide-requires c κs = tt
 
-loop-holds : tie.Need-loop-holds Inv-loop μ-loop
-unfolding any
-loop-holds c = (omega arith, refl)
+wide-requires-2 : tie.Need-wide-requires-2
+wide-requires-2 c κs = tt
 
-acceptance-at-requires : tie.Need-acceptance-at-requires Inv-loop μ-loop
-acceptance-at-requires c κs = tt
-
-is-covering-requires : tie.Need-is-covering-requires Inv-loop μ-loop
-is-covering-requires c κs = tt
-
-returns : tie.Need-returns Inv-loop μ-loop
-unfolding hasRefusal
+returns : tie.Need-returns
 returns c =
-    let l = c .before .before .before .before .loop in
-    let a = c .before .before .before .before .before .before .args in
-    let x = c .before .before .acceptance-at in
-    sym
-    (any← (lacks (a .reference) (a .device)) (a .device .c) (l .j) (omega arith) (rw (← x .ensures, ← c .before .is-covering .ensures) (c .if1 .taken)))
+    let w = c .before .before .before in
+    let s = w .before .before in
+    reference-over (s .args .reference) (s .args .device) _ (s .good .0) (omega (arith, c .if1 .taken, w .before .wide .ensures))
 
-add-j : tie.Need-add-j Inv-loop μ-loop
-add-j c = omega arith
+is-covering-requires : tie.Need-is-covering-requires
+is-covering-requires c κs = omega arith
 
-loop-less : tie.Need-loop-less Inv-loop μ-loop
-loop-less c = omega arith
-
-loop-again : tie.Need-loop-again Inv-loop μ-loop
-loop-again c =
-    let l = c .before .before .before .before .loop in
-    let a = c .before .before .before .before .before .before .args in
-    let x = c .before .before .acceptance-at in
-    (omega arith, any-more (lacks (a .reference) (a .device)) (l .j) (l .inv .1) (rw (← x .ensures, ← c .before .is-covering .ensures) (c .if1 .left)))
-
-returns-2 : tie.Need-returns-2 Inv-loop μ-loop
-unfolding hasRefusal
+returns-2 : tie.Need-returns-2
 returns-2 c =
-    let l = c .before .loop in
-    let a = c .before .before .before .args in
-    sym (any-done (lacks (a .reference) (a .device)) (a .device .c) (l .j) (omega arith) (omega arith) (l .inv .1))
+    let w = c .before .before .before .before .before .before in
+    let s = w .before .before in
+    device-over (s .args .reference) (s .args .device) _ (s .good .1 .0) (omega (arith, c .before .before .if2 .taken, w .wide2 .ensures))
+    (covering-is (s .args .reference) 0 (w .before .wide .ensures) (c .is-covering .ensures))
+
+is-refusing-requires : tie.Need-is-refusing-requires
+is-refusing-requires c κs = (omega arith, omega arith)
+
+returns-3 : tie.Need-returns-3
+returns-3 c =
+    let w = c .before .before .before .before .before .before .before in
+    let s = w .before .before in
+    refusing-is (s .args .reference) (s .args .device) (w .before .wide .ensures) (w .wide2 .ensures) (c .is-refusing .ensures)
 
 pub has-refusal-spec : {M : Type 1} → statement M
 has-refusal-spec =
     tie.close
     (tie.spec
-    Inv-loop
-    μ-loop
     wide-requires
-    loop-holds
-    acceptance-at-requires
-    is-covering-requires
+    wide-requires-2
     returns
-    add-j
-    loop-less
-    loop-again
-    returns-2)
+    is-covering-requires
+    returns-2
+    is-refusing-requires
+    returns-3)

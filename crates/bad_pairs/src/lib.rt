@@ -1,0 +1,41 @@
+// The violating pairs of two sheets, laid out once in a flat table that the search of a comparison reads.
+ghost use mathlib.Core.Path.{_≡_};
+ghost use Rattle.base.specs.Table.{upTo};
+ghost use Rattle.sheet_spec.specs.Rules.{sheetFault};
+ghost use Rattle.bad_pairs.specs.Table.{initialsAt, badTable};
+use sheet_spec::Sheet;
+
+// The initials of each node.
+fn initials(sheet: Sheet, e: usize) -> [u16; 32]
+    ensures { λ r. ⌜ r ≡ upTo (initialsAt e sheet) 32 ⌝ }
+{
+    let mut table = [0u16; 32];
+    for v in 0..32 {
+        let row = sheet.rows[v];
+        let x = rows::initials_of(row, e);
+        table[v] = x;
+    }
+    table
+}
+
+// The violating pairs: with q nodes in the device, the pair (v, w) stands at place q v + w.
+pub fn table(reference: Sheet, device: Sheet, trace_only: bool) -> [bool; 1024]
+    requires { ⌜ (sheetFault reference ≡ 0) × (sheetFault device ≡ 0) ⌝ }
+    ensures { λ r. ⌜ r ≡ badTable «trace_only» reference device ⌝ }
+{
+    let e = base::wide(reference.e);
+    let q = base::wide(device.n);
+    let n = base::wide(reference.n) * q;
+    let xs = initials(reference, e);
+    let ys = initials(device, e);
+    let mut table = [false; 1024];
+    for k in 0..n {
+        let v = k / q;
+        let w = k % q;
+        let a = reference.rows[v];
+        let b = device.rows[w];
+        let bad = refinement::is_violating(xs[v], ys[w], a, b, trace_only);
+        table[k] = bad;
+    }
+    table
+}

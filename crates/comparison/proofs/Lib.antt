@@ -1,4 +1,0 @@
-pub mod Faults
-pub mod Names
-pub mod Pairs
-pub mod Tells

@@ -1,0 +1,49 @@
+-- The refusal of a comparison, picked test by test: one law for each way out of `fault_on`.
+use mathlib.Core.Path.{_≡_, sym}
+use mathlib.Core.Logic.{_≢_}
+use Prim.Native.Nat.{ℕ, _-_, _*_, _≤_, _<_}
+use native.Mathlib.Omega.{arith}
+use native.Mathlib.Nat.{mul-pos, mul-le-mul-right}
+use borrow.Author.Tests.{eq-eqb, ne-eqb, le-leb, lt-leb}
+use Rattle.base.specs.Refusal.{orElse-some}
+use Rattle.sheet_spec.specs.declared.Sheet.{Sheet}
+use Rattle.sheet_spec.specs.Rules.{sheetFault}
+use Rattle.sheet_spec.specs.Sound.{check-sound}
+use Rattle.comparison_faults.specs.FaultOn.{faultOn}
+
+-- two sheets that are not refused: how many pairs of nodes there are
+pub size-of : (P Q : Sheet) (a b : ℕ) → sheetFault P ≡ 0 → sheetFault Q ≡ 0 → a ≡ P .n → b ≡ Q .n → (1 ≤ a * b) × (a * b ≤ 1024)
+size-of P Q a b z y ea eb =
+    let p = check-sound P z .ranges in
+    let q = check-sound Q y .ranges in
+    rw (ea, eb) (mul-pos (p .n-low) (q .n-low), omega (arith, mul-le-mul-right (Q .n) (p .n-high), q .n-high))
+
+module _ (P Q : Sheet) (words places : ℕ) {j : ℕ} (ej : j ≡ sheetFault P) where
+  -- the reference's own
+  pub own : j ≢ 0 → j ≡ faultOn P Q words places
+  unfolding faultOn
+  own n = rw (← ej) (sym (orElse-some j _ (omega (arith, n))))
+
+  module _ {k : ℕ} (z : j ≡ 0) (ek : k ≡ sheetFault Q) where
+    -- the device's own
+    pub other : k ≢ 0 → k ≡ faultOn P Q words places
+    unfolding faultOn
+    other n = rw (← ej, z, ← ek) (sym (orElse-some k _ (omega (arith, n))))
+
+    module _ (y : k ≡ 0) where
+      pub eleven : P .e ≢ Q .e → 11 ≡ faultOn P Q words places
+      unfolding faultOn
+      eleven n = rw (← ej, z, ← ek, y, ne-eqb (P .e) (Q .e) n)
+
+      module _ (s : P .e ≡ Q .e) {a b : ℕ} (ea : a ≡ P .n) (eb : b ≡ Q .n) where
+        pub twelve : words < 3 * (a * b) → 12 ≡ faultOn P Q words places
+        unfolding faultOn
+        twelve l = rw (← ej, z, ← ek, y, eq-eqb (P .e) (Q .e) s, ← ea, ← eb, lt-leb (3 * (a * b)) words l)
+
+        pub thirteen : 3 * (a * b) ≤ words → places < a * b - 1 → 13 ≡ faultOn P Q words places
+        unfolding faultOn
+        thirteen w l = rw (← ej, z, ← ek, y, eq-eqb (P .e) (Q .e) s, ← ea, ← eb, le-leb (3 * (a * b)) words w, lt-leb (a * b - 1) places l)
+
+        pub none : 3 * (a * b) ≤ words → a * b - 1 ≤ places → 0 ≡ faultOn P Q words places
+        unfolding faultOn
+        none w l = rw (← ej, z, ← ek, y, eq-eqb (P .e) (Q .e) s, ← ea, ← eb, le-leb (3 * (a * b)) words w, le-leb (a * b - 1) places l)

@@ -1,0 +1,30 @@
+// The refusal of a comparison's call (01, "A comparison"): which number, or none.
+ghost use mathlib.Core.Path.{_≡_};
+ghost use Rattle.comparison_faults.specs.FaultOn.{faultOn};
+use sheet_spec::Sheet;
+
+// The refusal of a comparison with a work list of so many words and a trace list of so many bytes, 0 for none: the reference's
+// own; the device's own; 11, 12, 13.
+pub fn fault_on(reference: Sheet, device: Sheet, words: usize, places: usize) -> u8
+    ensures { λ r. ⌜ r ≡ faultOn reference device words places ⌝ }
+{
+    let own = sheet::check(reference);
+    if own != 0 {
+        return own;
+    }
+    let other = sheet::check(device);
+    if other != 0 {
+        return other;
+    }
+    if reference.e != device.e {
+        return 11;
+    }
+    let n = base::wide(reference.n) * base::wide(device.n);
+    if words < 3 * n {
+        return 12;
+    }
+    if places < n - 1 {
+        return 13;
+    }
+    0
+}
