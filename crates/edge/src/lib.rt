@@ -210,7 +210,7 @@ pub extern "C" fn bench_report(run: &mut Run, sheet: Sheet, report: u16) -> Benc
 pub extern "C" fn bench_judge(reference: Sheet, device: Sheet, k: u16, traces: u8) -> BenchSaid
     ensures { λ r. ⌜ r ≡ saidFlat (judged (verdictOf reference device k (flag traces))) ⌝ }
 {
-    let verdict = tests::judge(reference, device, k, traces != 0);
+    let verdict = verdicts::judge(reference, device, k, traces != 0);
     judged_flat(verdict)
 }
 

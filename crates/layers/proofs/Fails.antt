@@ -18,13 +18,16 @@ use Rattle.sheet_spec.specs.declared.Sheet.{Sheet}
 use Rattle.sheet_spec.specs.Kept.{mayStop, step}
 use Rattle.refinement_spec.specs.PairTests.{hasStray, violating}
 use Rattle.tests_spec.specs.Verdicts.{failsFrom}
-use Rattle.layers.specs.declared.Tables.{Tables}
-use Rattle.rows.specs.Flat.{flatAt}
-use Rattle.layers.specs.Shapes.{sheetWith, rowIn, leadsTo, bitAt, leadsInto, initialsIn, stopWord, strayWords, earlyWords, lateWords, image, next, hits, failsOn, start, earlyTable, lateTable, tablesOf, kindOf}
-use Rattle.layers.proofs.Words.{has-zero, has-one}
-use Rattle.layers.proofs.Images.{into-is, image-has}
-use Rattle.layers.proofs.Moves.{zeros, leads-is, moves, next-has}
-use Rattle.layers.proofs.Faults.{hits-is, early, late, early-is, late-is}
+use Rattle.rows.specs.Flat.{flatAt, flat-holds}
+use Rattle.pair_tables.specs.declared.Tables.{Tables}
+use Rattle.pair_tables.specs.Shapes.{rowIn, leadsTo, bitAt, leadsInto, earlyTable, lateTable, tablesOf}
+use Rattle.pair_tables.proofs.Words.{has-zero, has-one, into-is}
+use Rattle.pair_tables.proofs.Faults.{early, late, early-is, late-is}
+use Rattle.images.specs.Shapes.{image, next, hits, start}
+use Rattle.images.proofs.Images.{image-has}
+use Rattle.images.proofs.Moves.{zeros, moves, next-has}
+use Rattle.images.proofs.Hits.{hits-is}
+use Rattle.layers.specs.Shapes.{sheetWith, failsOn, kindOf}
 
 module _ (to : Bool) (mine theirs : List Row) (p q e : ℕ) (np : p ≤ 32) (nq : q ≤ 32) (ne : e ≤ 12) where
   abbrev P : Sheet
@@ -62,11 +65,11 @@ module _ (to : Bool) (mine theirs : List Row) (p q e : ℕ) (np : p ≤ 32) (nq 
   -- where an event leads: by the table and on the sheet
   mine-step : (n i : ℕ) → n < p → i < e → leadsTo M n i ≡ step P n i
   unfolding step
-  mine-step n i l k = leads-is mine n i (omega arith) (omega arith) ∙ rw (lt-ltb n p l, lt-ltb i e k)
+  mine-step n i l k = flat-holds mine n i (omega arith) (omega arith) ∙ rw (lt-ltb n p l, lt-ltb i e k)
 
   theirs-step : (m i : ℕ) → m < q → i < e → leadsTo D m i ≡ step Q m i
   unfolding step
-  theirs-step m i l k = leads-is theirs m i (omega arith) (omega arith) ∙ rw (lt-ltb m q l, lt-ltb i e k)
+  theirs-step m i l k = flat-holds theirs m i (omega arith) (omega arith) ∙ rw (lt-ltb m q l, lt-ltb i e k)
 
   -- event i leads from the pair (n, m) of a layer to the pair (x, y)
   record Leads (l : List ℕ) (x y : ℕ) : Type 0 where

@@ -10,7 +10,8 @@ use native.Mathlib.Numerals.{add-one}
 use lib.ListN.{length, getD, set, drop, length-set}
 use lib.Seq.{set-at, drop-cons}
 use Rattle.base.specs.Table.{upTo, length-upTo}
-use Rattle.layers.specs.Shapes.{next, hits, failsOn, start, kindOf}
+use Rattle.images.specs.Shapes.{next, hits, start}
+use Rattle.layers.specs.Shapes.{failsOn, kindOf}
 
 module _ (mine theirs early late : List ℕ) (p e k : ℕ) where
   -- after j layers: what the rest of the test finds from the layer is what the test finds

@@ -164,7 +164,7 @@ fn report_often(line: Line) {
 fn give_verdict(line: Line) {
     let reference = sheet_at(line, 1, 2);
     let device = sheet_at(line, 3, 4);
-    match tests::judge(
+    match verdicts::judge(
         reference,
         device,
         run_lines::number(line, 5),

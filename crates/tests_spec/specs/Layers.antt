@@ -1,18 +1,17 @@
--- The test of a verdict by the pairs that common traces reach, one length after the other: the form that loops compute.
+-- The test of a verdict by the pairs that common lists of events reach: it fails exactly if one of them is faulty.
 use mathlib.Core.Path.{_≡_, refl}
 use mathlib.Core.Logic.{_⊎_, inl, inr, _↔_}
 use mathlib.Core.Bool.{Bool, true, false, not, _&&_, _||_}
 use mathlib.Core.List.{List, [], _∷_}
-use Prim.Native.Nat.{ℕ, zero, suc, _+_, _-_, _<_}
+use Prim.Native.Nat.{ℕ, zero, suc, _+_, _<_}
 use native.Mathlib.Omega.{arith}
 use native.Mathlib.Nat.{zero-add, suc-add}
 use lib.Dec.{ltb}
 use lib.ListN.{length}
 use borrow.Author.Tests.{ltb-true, lt-ltb}
-use Rattle.base.specs.Truth.{and-l, and-r, and-i, or-e, or-l, or-r, not-t, not-f, same}
+use Rattle.base.specs.Truth.{and-l, and-r, and-i, or-e, or-l, or-r, not-t, not-f}
 use Rattle.base.specs.Range.{any, any→, any←}
 use Rattle.walks.specs.Graph.{walk, ahead}
-use Rattle.walks.specs.Pairs.{PairReachedIn, pairReached, pairReached-means}
 use Rattle.sheet_spec.specs.declared.Sheet.{Sheet}
 use Rattle.sheet_spec.specs.Kept.{row, mayStop, step, graph}
 use Rattle.sheet_spec.specs.Sound.{Sound}
@@ -134,43 +133,3 @@ module _ (to : Bool) (P Q : Sheet) where
       rw (suc-add (length t) left)
       (fails-next to P Q (length t + left) n m .1
       (inr (inr (i, op .graphed .labels n i p, p, q, end-fails op oq t left (step P n i) (step Q m i) a b f))))
-
-  -- the test fails exactly if, for some j up to k, some pair reached in j common events is faulty with k - j to go
-  pub fails-layers : Sound P → Sound Q → (k : ℕ)
-      → failsFrom to P Q k 0 0 ≡ any (λ j. any (λ n. any (λ m. pairReached (graph P) (graph Q) j n m && faulty to P Q (k - j) n m) (Q .n)) (P .n)) (suc k)
-  fails-layers op oq k = same (failsFrom to P Q k 0 0) (any layer (suc k)) forth back
-    where
-      at : ℕ → ℕ → ℕ → Bool
-      at j n m = pairReached (graph P) (graph Q) j n m && faulty to P Q (k - j) n m
-
-      layer : ℕ → Bool
-      layer j = any (λ n. any (at j n) (Q .n)) (P .n)
-
-      forth : failsFrom to P Q k 0 0 ≡ true → any layer (suc k) ≡ true
-      forth f = end (fails-end k 0 0 (op .graphed .start) (oq .graphed .start) f)
-        where
-          end : FaultyEnd to P Q k 0 0 → any layer (suc k) ≡ true
-          end (t, left, e, a, b, f) =
-              let s : left ≡ k - length t = omega arith in
-              let v = walk (graph P) 0 t in
-              let w = walk (graph Q) 0 t in
-              any← layer (suc k) (length t) (omega arith)
-              (any← (λ n. any (at (length t) n) (Q .n)) (P .n) v a
-              (any← (at (length t) v) (Q .n) w b
-              (and-i (pairReached-means (op .graphed) (oq .graphed) (length t) v w a b .1 (t, refl, refl, refl)) (rw s at f))))
-
-      back : any layer (suc k) ≡ true → failsFrom to P Q k 0 0 ≡ true
-      back f =
-          let j = any→ layer (suc k) f in
-          let n = any→ (λ n. any (at (j .0) n) (Q .n)) (P .n) (j .2) in
-          let m = any→ (at (j .0) (n .0)) (Q .n) (n .2) in
-          end (j .0) (n .0) (m .0) (j .1) (n .1) (m .1)
-          (pairReached-means (op .graphed) (oq .graphed) (j .0) (n .0) (m .0) (n .1) (m .1) .0
-          (and-l (pairReached (graph P) (graph Q) (j .0) (n .0) (m .0)) _ (m .2)))
-          (and-r (pairReached (graph P) (graph Q) (j .0) (n .0) (m .0)) _ (m .2))
-        where
-          end : (j n m : ℕ) → j < suc k → n < P .n → m < Q .n → PairReachedIn (graph P) (graph Q) j n m
-              → faulty to P Q (k - j) n m ≡ true → failsFrom to P Q k 0 0 ≡ true
-          end j n m l a b (t, e, u, v) f =
-              let s : length t + (k - j) ≡ k = omega arith in
-              rw s at (end-fails op oq t (k - j) 0 0 (rw u a) (rw v b) (rw (u, v) f))

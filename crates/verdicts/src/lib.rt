@@ -1,10 +1,42 @@
-// The verdicts of a reference on a device for all its tests, from one pass over the layers of node pairs. The entry point,
-// `judge_all`, takes any content and answers, or refuses with a number.
+// The verdict of a reference on a device: for one test, and for all tests from one pass over the layers of node pairs. The entry
+// points, `judge` and `judge_all`, take any content and answer, or refuse with a number.
 ghost use mathlib.Core.Path.{_≡_};
+ghost use Rattle.tests_spec.specs.Verdicts.{verdictOf};
+ghost use Rattle.tests_spec.specs.Numbers.{judged};
 ghost use Rattle.verdicts_spec.specs.Suites.{suiteOf, verdictsAfter};
 ghost use Rattle.verdicts_spec.specs.Numbers.{suited};
 use sheet_spec::Sheet;
+use tests_spec::Verdict;
 use verdicts_spec::Suite;
+
+// The verdict of a reference on a device for test `k`, or the number of a refusal.
+pub fn judge(reference: Sheet, device: Sheet, k: u16, trace_only: bool) -> Verdict
+    ensures { λ r. ⌜ (r ≡ verdictOf reference device k «trace_only») × (judged r ≡ judged (verdictOf reference device k «trace_only»)) ⌝ }
+{
+    let fault = sheet::check(reference);
+    if fault != 0 {
+        return Verdict::Denied(fault);
+    }
+    let other = sheet::check(device);
+    if other != 0 {
+        return Verdict::Denied(other);
+    }
+    let e = base::wide(reference.e);
+    if e != base::wide(device.e) {
+        return Verdict::Denied(11);
+    }
+    if k > 1023 {
+        return Verdict::Denied(14);
+    }
+    let p = base::wide(reference.n);
+    let q = base::wide(device.n);
+    let mine = reference.rows;
+    let theirs = device.rows;
+    if layers::is_failing(mine, p, theirs, q, e, k as usize, trace_only) {
+        return Verdict::Fails;
+    }
+    Verdict::Passes
+}
 
 // Judges tests 0 to p·q − 1: writes 1 for "passes" or 2 for "fails" for each from the front of the lent list, and answers how many
 // there are; or the number of the refusal, and the list is as it was: the reference's own, the device's own; 11, E differs; 10, a

@@ -4,13 +4,13 @@ use mathlib.Core.Path.{_≡_, refl, sym, ap, _∙_}
 use mathlib.Core.Logic.{_⊎_, inl, inr, _≢_, _↔_}
 use mathlib.Core.Bool.{Bool}
 use mathlib.Core.List.{List}
-use Prim.Native.Nat.{ℕ, _*_, _≤_, _<_}
+use Prim.Native.Nat.{ℕ, _≤_, _<_}
 use native.Mathlib.Omega.{arith}
 use native.Mathlib.Nat.{mul-le-mul}
 use lib.ListN.{length, getD}
 use Rattle.sheet_spec.specs.declared.Sheet.{Sheet}
 use Rattle.sheet_spec.specs.Rules.{sheetFault}
-use Rattle.sheet_spec.specs.Sound.{Sound, check-sound}
+use Rattle.sheet_spec.specs.Sound.{check-sound}
 use Rattle.refinement_spec.specs.Refinement.{RefinesIn}
 use Rattle.tests_spec.specs.declared.Verdict.{Verdict}
 use Rattle.tests_spec.specs.declared.Verdict.the-variants.{Passes, Fails, Denied as NoVerdict}
@@ -18,7 +18,7 @@ use Rattle.tests_spec.specs.Verdicts.{FailsTest, verdictFault, verdictOf}
 use Rattle.tests_spec.specs.Numbers.{judged}
 use Rattle.tests_spec.specs.VerdictLaws.{verdict-0, verdict-means, verdict-undenied}
 use Rattle.tests_spec.specs.TestLaws.{verdicts-complete}
-use Rattle.verdicts_spec.specs.Suites.{tests, verdictNumber, suiteFault, verdictsAfter}
+use Rattle.verdicts_spec.specs.Suites.{tests, verdictNumber, verdictsAfter}
 use Rattle.verdicts_spec.specs.SuiteLaws.{suite-fits, verdict-place}
 
 -- a verdict's number is 1 exactly if it is "passes", and 2 exactly if it is "fails"
@@ -41,14 +41,10 @@ two-fails v = (forth v, λ e. ap (λ (w : Verdict). judged w .kind) e)
     forth (NoVerdict m) e = absurd (omega arith)
 
 module _ (P Q : Sheet) (accP : sheetFault P ≡ 0) (accQ : sheetFault Q ≡ 0) (same : P .e ≡ Q .e) where
-  -- p q is from 1 to 1,024, so every test has a number that a test may have
+  -- p q is at most 1,024, so every test has a number that a test may have
   pub tests-few : tests P Q ≤ 1024
   unfolding tests
   tests-few = mul-le-mul (check-sound P accP .ranges .n-high) (check-sound Q accQ .ranges .n-high)
-
-  pub tests-some : 0 < tests P Q
-  unfolding tests
-  tests-some = mul-le-mul (check-sound P accP .ranges .n-low) (check-sound Q accQ .ranges .n-low)
 
   -- 14, or any other refusal, is never given for a test of the suite
   pub none-refused : (k : ℕ) → k < tests P Q → verdictFault P Q k ≡ 0

@@ -1,6 +1,6 @@
 -- The tests are those of the definition, in its order; the two kinds of report are answered apart.
 use native.Mathlib.Omega.{arith}
-use Rattle.tests.proofs.Answers.{told, by-sheet, by-record, apart-requires, apart}
+use Rattle.tests.proofs.Steps.{told, by-sheet, by-record, apart-requires, apart}
 use Rattle.tests.proofs.step.Statement.{statement}
 use Rattle.tests.proofs.step.Tie as tie
 

@@ -1,0 +1,3 @@
+pub mod Images
+pub mod Moves
+pub mod Hits

@@ -1,0 +1,34 @@
+-- The shapes of functions; nothing to believe. Each is a part of a report's definition over rows instead of a sheet.
+use mathlib.Core.Bool.{not, _&&_}
+use mathlib.Core.List.{List}
+use Prim.Native.Nat.{ℕ, _+_}
+use lib.Dec.{ltb, leb}
+use Rattle.base.specs.Refusal.{unless}
+use Rattle.events.specs.Sets.{has}
+use Rattle.sheet_spec.specs.declared.Row.{Row}
+use Rattle.sheet_spec.specs.declared.Sheet.{Sheet}
+use Rattle.tests_spec.specs.declared.Run.{Run}
+use Rattle.tests_spec.specs.declared.Answer.{Answer}
+use Rattle.tests_spec.specs.declared.Stepped.{Stepped}
+use Rattle.tests_spec.specs.Flags.{flag}
+use Rattle.offers.specs.Shapes.{offerAt}
+
+-- the sheet of these rows
+abbrev pub sheetWith : List Row → ℕ → ℕ → Sheet
+sheetWith rows e n = record { rows = rows; e = e; n = n }
+
+-- an answer beside a record
+abbrev pub answered : Answer → Run → Stepped
+answered a r = record { answer = a; run = r }
+
+-- 16 and 9, with n nodes on the sheet
+unfoldable pub recordFault : ℕ → Run → ℕ
+recordFault n r = unless (not (flag (r .ended))) 16 (unless (ltb (r .node) n && (leb (r .depth) (r .k) && leb (r .k) 1023)) 9 0)
+
+-- 15 and 17 of event i
+unfoldable pub eventFaultAt : ℕ → Row → Run → ℕ → ℕ
+eventFaultAt e w r i = unless (ltb i e) 15 (unless (has (offerAt e w r) i) 17 0)
+
+-- the run moved on to a node
+unfoldable pub movedTo : Run → ℕ → Run
+movedTo r v = record { k = r .k; h = r .h; traces = r .traces; ended = r .ended; node = v; depth = r .depth + 1 }
