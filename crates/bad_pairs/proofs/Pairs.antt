@@ -14,7 +14,8 @@ use Rattle.sheet_spec.specs.RuleLaws.{Ranges}
 use Rattle.sheet_spec.specs.Sound.{check-sound}
 use Rattle.base.specs.Loops.{Filling}
 use Rattle.refinement_spec.specs.PairTests.{violates, violating}
-use Rattle.bad_pairs.specs.Table.{initialsAt, badAt, badTable}
+use Rattle.rows.specs.Tables.{initialsIn}
+use Rattle.bad_pairs.specs.Table.{badAt, badTable}
 
 module _ (P Q : Sheet) (accepted : (sheetFault P ≡ 0) × (sheetFault Q ≡ 0)) {e p q : ℕ} (ee : e ≡ P .e) (ep : p ≡ P .n) (eq : q ≡ Q .n) where
   range-P : Ranges (P .e) (P .n)
@@ -38,12 +39,12 @@ module _ (P Q : Sheet) (accepted : (sheetFault P ≡ 0) × (sheetFault Q ≡ 0))
   second-node k = omega (arith, mod-lt k q-some, range-Q .n-high)
 
   -- the test of a pair with the initials from the tables
-  pub bad-is : (traceOnly : Bool) (xs ys : List ℕ) (k : ℕ) → k < p * q → xs ≡ upTo (initialsAt e P) 32 → ys ≡ upTo (initialsAt e Q) 32 → (b : Bool)
+  pub bad-is : (traceOnly : Bool) (xs ys : List ℕ) (k : ℕ) → k < p * q → xs ≡ upTo (initialsIn e (P .rows)) 32 → ys ≡ upTo (initialsIn e (Q .rows)) 32 → (b : Bool)
       → ((d : ℕ) → getD xs (k / q) 0 ≡ initials d (row P (k / q)) → getD ys (k % q) 0 ≡ initials d (row Q (k % q)) → b ≡ violates traceOnly d (row P (k / q)) (row Q (k % q)))
       → b ≡ badAt traceOnly P Q k
-  unfolding badAt violating initialsAt
+  unfolding badAt violating initialsIn
   bad-is traceOnly xs ys k l ex ey b h =
-      h e (rw ex (getD-upTo (initialsAt e P) 32 (k / q) 0 (first-node k l))) (rw ey (getD-upTo (initialsAt e Q) 32 (k % q) 0 (second-node k))) ∙ rw (ee, eq)
+      h e (rw ex (getD-upTo (initialsIn e (P .rows)) 32 (k / q) 0 (first-node k l))) (rw ey (getD-upTo (initialsIn e (Q .rows)) 32 (k % q) 0 (second-node k))) ∙ rw (ee, eq)
 
   -- the table after all pairs
   pub bad-all : (traceOnly : Bool) (table : List Bool) (k : ℕ) → k ≤ p * q → p * q ≤ k → Filling (badAt traceOnly P Q) false 1024 k table → table ≡ badTable traceOnly P Q

@@ -8,17 +8,13 @@ use lib.Arith.{digits-lt, digits-div, digits-mod}
 use lib.ListN.{getD, replicate, List·getD-append}
 use Rattle.base.specs.Table.{upTo, length-upTo, getD-upTo}
 use Rattle.sheet_spec.specs.declared.Sheet.{Sheet}
-use Rattle.sheet_spec.specs.Kept.{row, initials}
 use Rattle.refinement_spec.specs.PairTests.{violating}
-
--- the initials of node v
-unfoldable pub initialsAt : ℕ → Sheet → ℕ → ℕ
-initialsAt e s v = initials e (row s v)
 
 -- what stands at place k of the table of violating pairs
 unfoldable pub badAt : Bool → Sheet → Sheet → ℕ → Bool
 badAt traceOnly P Q k = violating traceOnly P Q (k / Q .n) (k % Q .n)
 
+-- the table: the pairs of nodes in order, and no other place is bad
 unfoldable pub badTable : Bool → Sheet → Sheet → List Bool
 badTable traceOnly P Q = upTo (badAt traceOnly P Q) (P .n * Q .n) ++ replicate (1024 - P .n * Q .n) false
 

@@ -2,20 +2,16 @@
 ghost use mathlib.Core.Path.{_≡_};
 ghost use Rattle.base.specs.Table.{upTo};
 ghost use Rattle.sheet_spec.specs.Rules.{sheetFault};
-ghost use Rattle.bad_pairs.specs.Table.{initialsAt, badTable};
+ghost use Rattle.rows.specs.Tables.{initialsIn};
+ghost use Rattle.bad_pairs.specs.Table.{badTable};
 use sheet_spec::Sheet;
 
 // The initials of each node.
 fn initials(sheet: Sheet, e: usize) -> [u16; 32]
-    ensures { λ r. ⌜ r ≡ upTo (initialsAt e sheet) 32 ⌝ }
+    ensures { λ r. ⌜ r ≡ upTo (initialsIn e (sheet .rows)) 32 ⌝ }
 {
-    let mut table = [0u16; 32];
-    for v in 0..32 {
-        let row = sheet.rows[v];
-        let x = rows::initials_of(row, e);
-        table[v] = x;
-    }
-    table
+    let rows = sheet.rows;
+    rows::all_initials(rows, e)
 }
 
 // The violating pairs: with q nodes in the device, the pair (v, w) stands at place q v + w.

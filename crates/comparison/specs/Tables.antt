@@ -31,7 +31,7 @@ use Rattle.search_spec.specs.declared.Found.{Found}
 use Rattle.search_spec.specs.Tables.{tableNext, tableGraph, badIn}
 use Rattle.search_spec.specs.Found.{foundOf, Searched, traceFound, workFound}
 use Rattle.search_spec.specs.Read.{SearchOk}
-use Rattle.rows.specs.Flat.{flatAt, flat-holds}
+use Rattle.rows.specs.Tables.{flatAt, flat-holds}
 use Rattle.bad_pairs.specs.Table.{badTable, table-holds}
 use Rattle.outcomes.specs.Told.{told, Fits}
 use Rattle.comparison_faults.specs.FaultOn.{faultOn, fault-is}
@@ -66,6 +66,7 @@ unfolding pairCleared cleared product
 cleared-le r d k = count-le _ (r .size * d .size)
 
 module _ (traceOnly : Bool) (P Q : Sheet) (op : Sound P) (oq : Sound Q) where
+  -- the test of pairs that the table holds
   abbrev table : ℕ → ℕ → Bool
   table = badIn (badTable traceOnly P Q) (Q .n)
 

@@ -11,7 +11,7 @@ use Rattle.base.specs.Range.{any, any→, any←}
 use Rattle.events.specs.Bit.{bit, bit-high, setOf, setOf-lt}
 use Rattle.events.specs.Sets.{has, has→, has←, meets, meets→, meets←}
 use Rattle.events.specs.Gathered.{has-setOf}
-use Rattle.images.specs.Shapes.{hits}
+use Rattle.images.specs.Shapes.{layerHits}
 
 -- two tests that agree below n
 any-ext : (f g : ℕ → Bool) (n : ℕ) → ((i : ℕ) → i < n → f i ≡ g i) → any f n ≡ any g n
@@ -38,8 +38,8 @@ meets-setOf x q f = same (meets x (setOf f q)) (any (λ m. has x m && f m) q) fo
 
 -- some pair of a layer is among the words exactly if some pair of it passes the test
 pub hits-is : (p q : ℕ) → p ≤ 32 → (l ws : List ℕ) (f : ℕ → ℕ → Bool) → ((n : ℕ) → n < 32 → getD ws n 0 ≡ setOf (f n) q)
-    → hits l ws p ≡ any (λ n. any (λ m. has (getD l n 0) m && f n m) q) p
-unfolding hits
+    → layerHits l ws p ≡ any (λ n. any (λ m. has (getD l n 0) m && f n m) q) p
+unfolding layerHits
 hits-is p q small l ws f h =
     any-ext (λ n. meets (getD l n 0) (getD ws n 0)) (λ n. any (λ m. has (getD l n 0) m && f n m) q) p
     (λ n k. rw (h n (omega arith)) (meets-setOf (getD l n 0) q (f n)))

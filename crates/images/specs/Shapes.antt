@@ -34,8 +34,8 @@ next mine theirs p e layer zero = replicate 32 0
 next mine theirs p e layer (suc n) = spread (next mine theirs p e layer n) mine theirs n p (getD layer n 0) e
 
 -- some pair of a layer is among the words
-unfoldable pub hits : List ℕ → List ℕ → ℕ → Bool
-hits layer words p = any (λ n. meets (getD layer n 0) (getD words n 0)) p
+unfoldable pub layerHits : List ℕ → List ℕ → ℕ → Bool
+layerHits layer words p = any (λ n. meets (getD layer n 0) (getD words n 0)) p
 
 -- the pair (0, 0) alone
 abbrev pub start : List ℕ

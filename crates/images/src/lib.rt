@@ -2,7 +2,7 @@
 // The next layer is where one event leads from its pairs; only the nodes that are in a set are looked at.
 ghost use mathlib.Core.Path.{_≡_};
 ghost use Prim.Native.Nat.{_-_, _^_, _≤_, _<_};
-ghost use Rattle.images.specs.Shapes.{leastNode, image, placed, spread, next, hits, start};
+ghost use Rattle.images.specs.Shapes.{leastNode, image, placed, spread, next, layerHits, start};
 
 // The first layer: the pair of the two first nodes alone.
 pub fn first_layer() -> [u32; 32]
@@ -16,7 +16,7 @@ pub fn first_layer() -> [u32; 32]
 // Whether some pair of the layer is among the words.
 pub fn is_hit(layer: [u32; 32], words: [u32; 32], p: usize) -> bool
     requires { ⌜ p ≤ 32 ⌝ }
-    ensures { λ r. ⌜ r ≡ hits layer words p ⌝ }
+    ensures { λ r. ⌜ r ≡ layerHits layer words p ⌝ }
 {
     for n in 0..p {
         if layer[n] & words[n] != 0 {

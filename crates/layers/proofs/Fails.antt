@@ -15,19 +15,19 @@ use Rattle.events.specs.Bit.{bit·zero}
 use Rattle.events.specs.Sets.{has}
 use Rattle.sheet_spec.specs.declared.Row.{Row}
 use Rattle.sheet_spec.specs.declared.Sheet.{Sheet}
-use Rattle.sheet_spec.specs.Kept.{mayStop, step}
+use Rattle.sheet_spec.specs.Kept.{mayStop, step, sheetWith}
 use Rattle.refinement_spec.specs.PairTests.{hasStray, violating}
 use Rattle.tests_spec.specs.Verdicts.{failsFrom}
-use Rattle.rows.specs.Flat.{flatAt, flat-holds}
+use Rattle.rows.specs.Tables.{flatAt, flat-holds, rowIn}
 use Rattle.pair_tables.specs.declared.Tables.{Tables}
-use Rattle.pair_tables.specs.Shapes.{rowIn, leadsTo, bitAt, leadsInto, earlyTable, lateTable, tablesOf}
+use Rattle.pair_tables.specs.Shapes.{leadsTo, bitAt, leadsInto, earlyTable, lateTable, tablesOf}
 use Rattle.pair_tables.proofs.Words.{has-zero, has-one, into-is}
 use Rattle.pair_tables.proofs.Faults.{early, late, early-is, late-is}
-use Rattle.images.specs.Shapes.{image, next, hits, start}
+use Rattle.images.specs.Shapes.{image, next, layerHits, start}
 use Rattle.images.proofs.Images.{image-has}
 use Rattle.images.proofs.Moves.{zeros, moves, next-has}
 use Rattle.images.proofs.Hits.{hits-is}
-use Rattle.layers.specs.Shapes.{sheetWith, failsOn, kindOf}
+use Rattle.layers.specs.Shapes.{failsOn, kindOf}
 
 module _ (to : Bool) (mine theirs : List Row) (p q e : ℕ) (np : p ≤ 32) (nq : q ≤ 32) (ne : e ≤ 12) where
   abbrev P : Sheet
@@ -162,11 +162,11 @@ module _ (to : Bool) (mine theirs : List Row) (p q e : ℕ) (np : p ≤ 32) (nq 
       or-assoc false b c = refl
 
   module _ (k : ℕ) (ih : (l : List ℕ) → found k l ≡ some l (failsFrom to P Q k)) (l : List ℕ) where
-    hit : hits l (earlyTable to mine theirs q e) p ≡ some l (early to mine theirs q e)
+    hit : layerHits l (earlyTable to mine theirs q e) p ≡ some l (early to mine theirs q e)
     hit = hits-is p q np l (earlyTable to mine theirs q e) (early to mine theirs q e) (early-is to mine theirs q e nq)
 
     -- faulty at a pair of the layer, or onward from one
-    here→ : (hits l (earlyTable to mine theirs q e) p ≡ true) ⊎ (found k (next M T p e l p) ≡ true) → some l (failsFrom to P Q (suc k)) ≡ true
+    here→ : (layerHits l (earlyTable to mine theirs q e) p ≡ true) ⊎ (found k (next M T p e l p) ≡ true) → some l (failsFrom to P Q (suc k)) ≡ true
     here→ (inl t) =
         let w = some→ l (early to mine theirs q e) (sym hit ∙ t) in
         some← l (failsFrom to P Q (suc k)) (w .0) (w .1) (w .2) (w .3) (w .4) (split k (w .0) (w .1) ∙ or-l (any (onward k (w .0) (w .1)) e) (w .5))
@@ -177,11 +177,11 @@ module _ (to : Bool) (mine theirs : List Row) (p q e : ℕ) (np : p ≤ 32) (nq 
         (split k (v .n) (v .m)
         ∙ or-r (early to mine theirs q e (v .n) (v .m)) (any← (onward k (v .n) (v .m)) e (v .i) (v .event) (rw (v .to-x, v .to-y) (and-i (and-i (lt-ltb (w .0) p (w .2)) (lt-ltb (w .1) q (w .3))) (w .5)))))
 
-    here← : some l (failsFrom to P Q (suc k)) ≡ true → (hits l (earlyTable to mine theirs q e) p || found k (next M T p e l p)) ≡ true
+    here← : some l (failsFrom to P Q (suc k)) ≡ true → (layerHits l (earlyTable to mine theirs q e) p || found k (next M T p e l p)) ≡ true
     here← t = let w = some→ l (failsFrom to P Q (suc k)) t in go (w .0) (w .1) (w .2) (w .3) (w .4) (or-e (early to mine theirs q e (w .0) (w .1)) (any (onward k (w .0) (w .1)) e) (sym (split k (w .0) (w .1)) ∙ w .5))
       where
         go : (n m : ℕ) → n < p → m < q → at l n m ≡ true → (early to mine theirs q e n m ≡ true) ⊎ (any (onward k n m) e ≡ true)
-            → (hits l (earlyTable to mine theirs q e) p || found k (next M T p e l p)) ≡ true
+            → (layerHits l (earlyTable to mine theirs q e) p || found k (next M T p e l p)) ≡ true
         go n m a b c (inl h) = or-l (found k (next M T p e l p)) (hit ∙ some← l (early to mine theirs q e) n m a b c h)
         go n m a b c (inr h) =
             let i = any→ (onward k n m) e h in
@@ -190,7 +190,7 @@ module _ (to : Bool) (mine theirs : List Row) (p q e : ℕ) (np : p ≤ 32) (nq 
             let s = and-l (ltb x p && ltb y q) (failsFrom to P Q k x y) (i .2) in
             let u = ltb-true x p (and-l (ltb x p) (ltb y q) s) in
             let v = ltb-true y q (and-r (ltb x p) (ltb y q) s) in
-            or-r (hits l (earlyTable to mine theirs q e) p)
+            or-r (layerHits l (earlyTable to mine theirs q e) p)
             (ih (next M T p e l p)
             ∙ some← (next M T p e l p) (failsFrom to P Q k) x y u v (next← l n m (i .0) a b (i .1) c u v) (and-r (ltb x p && ltb y q) (failsFrom to P Q k x y) (i .2)))
 
@@ -198,8 +198,8 @@ module _ (to : Bool) (mine theirs : List Row) (p q e : ℕ) (np : p ≤ 32) (nq 
   unfolding failsOn failsFrom violating
   fails-is zero l = hits-is p q np l (lateTable to mine theirs q e) (late to mine theirs q e) (late-is to mine theirs q e nq)
   fails-is (suc k) l =
-      same (hits l (earlyTable to mine theirs q e) p || found k (next M T p e l p)) (some l (failsFrom to P Q (suc k)))
-      (λ t. here→ k (fails-is k) l (or-e (hits l (earlyTable to mine theirs q e) p) (found k (next M T p e l p)) t)) (here← k (fails-is k) l)
+      same (layerHits l (earlyTable to mine theirs q e) p || found k (next M T p e l p)) (some l (failsFrom to P Q (suc k)))
+      (λ t. here→ k (fails-is k) l (or-e (layerHits l (earlyTable to mine theirs q e) p) (found k (next M T p e l p)) t)) (here← k (fails-is k) l)
 
   -- from the pair (0, 0) alone
   pub failing-is : 0 < p → 0 < q → (k : ℕ) → found k start ≡ failsFrom to P Q k 0 0

@@ -10,7 +10,7 @@ use native.Mathlib.Numerals.{add-one}
 use lib.ListN.{length, getD, set, drop, length-set}
 use lib.Seq.{set-at, drop-cons}
 use Rattle.base.specs.Table.{upTo, length-upTo}
-use Rattle.images.specs.Shapes.{next, hits, start}
+use Rattle.images.specs.Shapes.{next, layerHits, start}
 use Rattle.layers.specs.Shapes.{failsOn, kindOf}
 
 module _ (mine theirs early late : List ℕ) (p e k : ℕ) where
@@ -23,14 +23,14 @@ module _ (mine theirs early late : List ℕ) (p e k : ℕ) where
   at-first h = record { below = omega arith; same = rw (sub-zero, h) }
 
   module _ {j : ℕ} {layer : List ℕ} {t : Bool} (h : Left j layer) where
-    pub at-hit : j < k → t ≡ hits layer early p → t ≡ true → true ≡ failsOn mine theirs early late p e k start
+    pub at-hit : j < k → t ≡ layerHits layer early p → t ≡ true → true ≡ failsOn mine theirs early late p e k start
     unfolding failsOn
     at-hit l a b =
         let z : k - j ≡ suc (k - (j + 1)) = omega arith in
         let w : failsOn mine theirs early late p e (suc (k - (j + 1))) layer ≡ failsOn mine theirs early late p e k start = rw z at (h .same) in
         rw (sym a ∙ b) at w
 
-    pub at-next : {after : List ℕ} → j < k → t ≡ hits layer early p → t ≡ false → after ≡ next mine theirs p e layer p → Left (j + 1) after
+    pub at-next : {after : List ℕ} → j < k → t ≡ layerHits layer early p → t ≡ false → after ≡ next mine theirs p e layer p → Left (j + 1) after
     unfolding failsOn
     at-next {after} l a b n =
         let z : k - j ≡ suc (k - (j + 1)) = omega arith in
@@ -38,7 +38,7 @@ module _ (mine theirs early late : List ℕ) (p e k : ℕ) where
         let v : failsOn mine theirs early late p e (k - (j + 1)) (next mine theirs p e layer p) ≡ failsOn mine theirs early late p e k start = rw (sym a ∙ b) at w in
         record { below = omega arith; same = rw n v }
 
-    pub at-last : k ≤ j → t ≡ hits layer late p → t ≡ failsOn mine theirs early late p e k start
+    pub at-last : k ≤ j → t ≡ layerHits layer late p → t ≡ failsOn mine theirs early late p e k start
     unfolding failsOn
     at-last l a =
         let z : k - j ≡ 0 = omega arith in
@@ -73,7 +73,7 @@ module _ (mine theirs early late : List ℕ) (p e tests : ℕ) (o : List ℕ) wh
   judged-none h = record { below = omega arith; rest = λ m. rw (zero-add m, h); written = refl; kept = refl }
 
   pub judged-more : {k x : ℕ} {layer after out : List ℕ} {faulty now : Bool} → Judged k layer faulty out → k < tests → tests ≤ length o
-      → x ≡ kindOf (faulty || hits layer late p) → now ≡ (faulty || hits layer early p) → after ≡ next mine theirs p e layer p
+      → x ≡ kindOf (faulty || layerHits layer late p) → now ≡ (faulty || layerHits layer early p) → after ≡ next mine theirs p e layer p
       → Judged (k + 1) after now (set out k x)
   unfolding failsOn
   judged-more {k} {x} {layer} {after} {out} {faulty} {now} h l room a b n =
@@ -81,7 +81,7 @@ module _ (mine theirs early late : List ℕ) (p e tests : ℕ) (o : List ℕ) wh
         below = omega arith;
         rest = λ m.
             let z : k + 1 + m ≡ k + suc m = omega arith in
-            rw (z, b, n) (h .rest (suc m) ∙ or-assoc faulty (hits layer early p) (failsOn mine theirs early late p e m (next mine theirs p e layer p)));
+            rw (z, b, n) (h .rest (suc m) ∙ or-assoc faulty (layerHits layer early p) (failsOn mine theirs early late p e m (next mine theirs p e layer p)));
         written =
             let y : x ≡ kind k = a ∙ ap kindOf (sym (h .rest 0) ∙ rw (add-zero k)) in
             rw (h .written, y) (fill-place kind o k (omega arith));

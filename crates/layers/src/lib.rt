@@ -7,8 +7,9 @@ ghost use Prim.Native.Nat.{_≤_, _<_};
 ghost use lib.ListN.{length, drop};
 ghost use Rattle.base.specs.Table.{upTo};
 ghost use Rattle.tests_spec.specs.Verdicts.{failsFrom};
-ghost use Rattle.images.specs.Shapes.{hits, start};
-ghost use Rattle.layers.specs.Shapes.{sheetWith, failsOn, kindOf};
+ghost use Rattle.images.specs.Shapes.{layerHits, start};
+ghost use Rattle.sheet_spec.specs.Kept.{sheetWith};
+ghost use Rattle.layers.specs.Shapes.{failsOn, kindOf};
 use sheet_spec::Row;
 
 // ---- over tables
@@ -40,7 +41,7 @@ fn is_failing_on(
 // The number of a verdict: 2, fails, after an early fault or at a late one in this layer; else 1, passes.
 fn kind_at(faulty: bool, layer: [u32; 32], late: [u32; 32], p: usize) -> u8
     requires { ⌜ p ≤ 32 ⌝ }
-    ensures { λ r. ⌜ r ≡ kindOf («faulty» || hits layer late p) ⌝ }
+    ensures { λ r. ⌜ r ≡ kindOf («faulty» || layerHits layer late p) ⌝ }
 {
     if faulty {
         return 2;
@@ -54,7 +55,7 @@ fn kind_at(faulty: bool, layer: [u32; 32], late: [u32; 32], p: usize) -> u8
 // Whether there was an early fault, or is one in this layer.
 fn is_faulty(faulty: bool, layer: [u32; 32], early: [u32; 32], p: usize) -> bool
     requires { ⌜ p ≤ 32 ⌝ }
-    ensures { λ r. ⌜ r ≡ («faulty» || hits layer early p) ⌝ }
+    ensures { λ r. ⌜ r ≡ («faulty» || layerHits layer early p) ⌝ }
 {
     if faulty {
         return true;

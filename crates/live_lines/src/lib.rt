@@ -1,5 +1,4 @@
 // The lines that `live` prints: the answer to an opening, the answers to reports, and the line where a run has not ended.
-ghost use mathlib.Core.Path.{_≡_};
 ghost use Rattle.text_spec.specs.Adds.{Adds, Holds};
 ghost use Rattle.live_lines_spec.specs.Answers.{offerLine, refusedSetLine, lineWith, answerLine, openingLine, endedLine};
 use tests_spec::Answer;

@@ -28,10 +28,11 @@ unfolding pairText
 later-absent judge input more h = ap (inputLines judge) (cut-more input more h)
 
 module _ (input : List ℕ) where
-  -- the two sheets of an input as they are read
+  -- the reference of an input as it is read ..
   abbrev pub reference : ReadSheet
   reference = readSheet (firstSheet (cutInput input))
 
+  -- .. and the device
   abbrev pub device : ReadSheet
   device = readSheet (secondSheet (cutInput input))
 

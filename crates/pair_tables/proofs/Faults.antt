@@ -11,7 +11,8 @@ use Rattle.events.specs.Bit.{setOf}
 use Rattle.sheet_spec.specs.declared.Row.{Row}
 use Rattle.sheet_spec.specs.Kept.{mayStop}
 use Rattle.refinement_spec.specs.PairTests.{hasStray, hasRefusal, violates}
-use Rattle.pair_tables.specs.Shapes.{rowIn, initialsIn, strayWord, stopWord, refusalWord, earlyWord, lateWord, strayWords, earlyWords, lateWords, strayTable, earlyTable, lateTable}
+use Rattle.rows.specs.Tables.{rowIn, initialsIn}
+use Rattle.pair_tables.specs.Shapes.{strayWord, stopWord, refusalWord, earlyWord, lateWord, strayWords, earlyWords, lateWords, strayTable, earlyTable, lateTable}
 use Rattle.events.specs.Gathered.{or-setOf, setOf-ext}
 
 -- "or" and "and" where one side is known

@@ -3,7 +3,7 @@
 ghost use mathlib.Core.Path.{_≡_};
 ghost use Prim.Native.Nat.{_≤_, _<_};
 ghost use Rattle.base.specs.Table.{upTo};
-ghost use Rattle.pair_tables.specs.Shapes.{nodeIf, initialsIn, strayWord, stopWord, refusalWord, earlyWord, lateWord, strayWords, earlyWords, lateWords, bitAt, tablesOf};
+ghost use Rattle.pair_tables.specs.Shapes.{nodeIf, strayWord, stopWord, refusalWord, earlyWord, lateWord, strayWords, earlyWords, lateWords, bitAt, tablesOf};
 use sheet_spec::Row;
 
 // What a verdict is worked out from: the successors of both sheets' nodes, the device's as sets of one, and where a test fails
@@ -57,19 +57,6 @@ fn bits_of(table: &[u8; 384], q: usize) -> [u32; 384]
 }
 
 // ---- where a test fails
-
-// The initials of all nodes.
-fn all_initials(rows: [Row; 32], e: usize) -> [u16; 32]
-    ensures { λ r. ⌜ r ≡ upTo (initialsIn e rows) 32 ⌝ }
-{
-    let mut sets = [0u16; 32];
-    for v in 0..32 {
-        let row = rows[v];
-        let x = rows::initials_of(row, e);
-        sets[v] = x;
-    }
-    sets
-}
 
 // The nodes of the device with an initial outside the reference's.
 fn stray_word(mine: u16, theirs: [u16; 32], q: usize) -> u32
@@ -184,7 +171,11 @@ pub fn tables_of(mine: [Row; 32], theirs: [Row; 32], q: usize, e: usize, trace_o
     requires { ⌜ q ≤ 32 ⌝ }
     ensures { λ r. ⌜ r ≡ tablesOf «trace_only» mine theirs q e ⌝ }
 {
-    let strays = stray_words(all_initials(mine, e), all_initials(theirs, e), q);
+    let strays = stray_words(
+        rows::all_initials(mine, e),
+        rows::all_initials(theirs, e),
+        q,
+    );
     let stops = stop_word(theirs, q);
     let device = rows::flat(theirs);
     Tables {

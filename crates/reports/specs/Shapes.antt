@@ -1,21 +1,15 @@
 -- The shapes of functions; nothing to believe. Each is a part of a report's definition over rows instead of a sheet.
 use mathlib.Core.Bool.{not, _&&_}
-use mathlib.Core.List.{List}
 use Prim.Native.Nat.{ℕ, _+_}
 use lib.Dec.{ltb, leb}
 use Rattle.base.specs.Refusal.{unless}
 use Rattle.events.specs.Sets.{has}
 use Rattle.sheet_spec.specs.declared.Row.{Row}
-use Rattle.sheet_spec.specs.declared.Sheet.{Sheet}
 use Rattle.tests_spec.specs.declared.Run.{Run}
 use Rattle.tests_spec.specs.declared.Answer.{Answer}
 use Rattle.tests_spec.specs.declared.Stepped.{Stepped}
 use Rattle.tests_spec.specs.Flags.{flag}
 use Rattle.offers.specs.Shapes.{offerAt}
-
--- the sheet of these rows
-abbrev pub sheetWith : List Row → ℕ → ℕ → Sheet
-sheetWith rows e n = record { rows = rows; e = e; n = n }
 
 -- an answer beside a record
 abbrev pub answered : Answer → Run → Stepped

@@ -7,10 +7,11 @@ use Rattle.base.specs.Range.{all}
 use Rattle.sheet_spec.specs.declared.Row.{Row}
 use Rattle.sheet_spec.specs.Kept.{successor, acceptance}
 
--- the two halves of `blank`
+-- the half of `blank` for the successors ..
 unfoldable pub blankSuccs : ℕ → Row → Bool
 blankSuccs e r = all (λ i. ltb i e || eqb (successor r i) 255) 12
 
+-- .. and that of the sets
 unfoldable pub blankSets : ℕ → Row → Bool
 blankSets c r = all (λ j. ltb j c || eqb (acceptance r j) 0) 16
 

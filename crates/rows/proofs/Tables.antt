@@ -10,7 +10,7 @@ use lib.ListN.{getD, set}
 use Rattle.base.specs.Loops.{Filling, stored}
 use Rattle.sheet_spec.specs.declared.Row.{Row}
 use Rattle.sheet_spec.specs.Kept.{noRow, successor}
-use Rattle.rows.specs.Flat.{flatAt, rowPut}
+use Rattle.rows.specs.Tables.{flatAt, rowPut}
 
 -- one successor more of a node is put in its place
 pub row-more : (t : List ℕ) (row : Row) (v i : ℕ) {x : ℕ} {out : List ℕ} → out ≡ rowPut t row v i → x ≡ successor row i

@@ -4,7 +4,7 @@ ghost use mathlib.Core.Path.{_≡_};
 ghost use Prim.Native.Nat.{_<_};
 ghost use Rattle.sheet_spec.specs.Kept.{successor, acceptance, initials, mayStop};
 ghost use Rattle.base.specs.Table.{upTo};
-ghost use Rattle.rows.specs.Flat.{rowPut, flatAt};
+ghost use Rattle.rows.specs.Tables.{initialsIn, rowPut, flatAt};
 ghost use Rattle.rows.specs.Shapes.{initialAdded};
 use sheet_spec::Row;
 
@@ -82,4 +82,17 @@ pub fn flat(rows: [Row; 32]) -> [u8; 384]
         put_row(&mut table, row, v);
     }
     table
+}
+
+// The initials of all nodes.
+pub fn all_initials(rows: [Row; 32], e: usize) -> [u16; 32]
+    ensures { λ r. ⌜ r ≡ upTo (initialsIn e rows) 32 ⌝ }
+{
+    let mut sets = [0u16; 32];
+    for v in 0..32 {
+        let row = rows[v];
+        let x = initials_of(row, e);
+        sets[v] = x;
+    }
+    sets
 }

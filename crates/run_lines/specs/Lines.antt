@@ -37,8 +37,8 @@ lineAfter l b =
     (record { named = eqb b 58; begun = l .begun; x = l .x; count = l .count; numbers = l .numbers })
 
 -- number i of a line, 0 past its end
-unfoldable pub numberOf : Line → ℕ → ℕ
-numberOf l i = cond (ltb i 64) (getD (l .numbers) i 0) 0
+unfoldable pub numberAt : Line → ℕ → ℕ
+numberAt l i = cond (ltb i 64) (getD (l .numbers) i 0) 0
 
 -- a number as a byte, 255 for one above
 unfoldable pub smallOf : ℕ → ℕ

@@ -3,7 +3,7 @@
 ghost use mathlib.Core.Path.{_≡_};
 ghost use mathlib.Core.Bool.{not};
 ghost use lib.Dec.{eqb};
-ghost use Rattle.run_lines.specs.Lines.{newLine, withDigit, withNumber, lineAfter, numberOf, smallOf};
+ghost use Rattle.run_lines.specs.Lines.{newLine, withDigit, withNumber, lineAfter, numberAt, smallOf};
 
 // A line so far: whether its name has ended, whether a number has begun, that number, how many came before it, and these.
 pub struct Line {
@@ -81,14 +81,14 @@ pub fn after(line: Line, b: u8) -> Line
 
 // Number i of a line, 0 past its end.
 pub fn number(line: Line, i: usize) -> u16
-    ensures { λ r. ⌜ r ≡ numberOf line i ⌝ }
+    ensures { λ r. ⌜ r ≡ numberAt line i ⌝ }
 {
     if i < 64 { line.numbers[i] } else { 0 }
 }
 
 // Number i of a line as a byte, 255 for one above.
 pub fn small(line: Line, i: usize) -> u8
-    ensures { λ r. ⌜ r ≡ smallOf (numberOf line i) ⌝ }
+    ensures { λ r. ⌜ r ≡ smallOf (numberAt line i) ⌝ }
 {
     let x = number(line, i);
     if x < 256 { x as u8 } else { 255 }
@@ -96,7 +96,7 @@ pub fn small(line: Line, i: usize) -> u8
 
 // Number i of a line as a yes or no.
 pub fn flag(line: Line, i: usize) -> bool
-    ensures { λ r. ⌜ r ≡ not (eqb (numberOf line i) 0) ⌝ }
+    ensures { λ r. ⌜ r ≡ not (eqb (numberAt line i) 0) ⌝ }
 {
     number(line, i) != 0
 }

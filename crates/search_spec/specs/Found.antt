@@ -67,22 +67,27 @@ readOut n w h t trace = cond (ltb h t)
 
 module _ (a b : List ℕ) (p q e : ℕ) (bad : List Bool) (h : ℕ) (s : St) (hp : 0 < p) (hq : 0 < q)
     (end : Ended (tablePairs a b p q e) (badCode bad q) h s) where
-  -- the two graphs, their pairs, the test of pairs, the number of pairs, the work list
+  -- the graph of the reference ..
   abbrev R : Graph
   R = tableGraph a p e
 
+  -- .. and of the device
   abbrev D : Graph
   D = tableGraph b q e
 
+  -- their pairs
   abbrev G : Graph
   G = tablePairs a b p q e
 
+  -- the test of pairs
   abbrev T : ℕ → ℕ → Bool
   T = badIn bad q
 
+  -- the number of pairs
   abbrev n : ℕ
   n = p * q
 
+  -- the work list
   abbrev w : List ℕ
   w = s .work
 

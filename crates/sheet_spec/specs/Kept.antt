@@ -16,6 +16,10 @@ use Rattle.sheet_spec.specs.declared.Sheet.{Sheet}
 abbrev pub noRow : Row
 noRow = record { succ = []; sets = []; c = 0 }
 
+-- the sheet of these rows, E and N
+abbrev pub sheetWith : List Row → ℕ → ℕ → Sheet
+sheetWith rows e n = record { rows = rows; e = e; n = n }
+
 -- the row of node v
 abbrev pub row : Sheet → ℕ → Row
 row s v = getD (s .rows) v noRow

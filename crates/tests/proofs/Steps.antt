@@ -7,7 +7,7 @@ use lib.Dec.{ltb, leb}
 use borrow.Author.Tests.{le-leb, lt-leb, ne-eqb}
 use Rattle.base.specs.Refusal.{unless, orElse-some}
 use Rattle.sheet_spec.specs.declared.Sheet.{Sheet}
-use Rattle.sheet_spec.specs.Kept.{row}
+use Rattle.sheet_spec.specs.Kept.{row, sheetWith}
 use Rattle.sheet_spec.specs.Rules.{sheetFault}
 use Rattle.tests_spec.specs.declared.Run.{Run}
 use Rattle.tests_spec.specs.declared.Report.{Report}
@@ -17,7 +17,7 @@ use Rattle.tests_spec.specs.Flags.{flag, flagOf}
 use Rattle.tests_spec.specs.Runs.{newRun, openFault, openOf, recordOk, eventFault, reportFault, stepOf}
 use Rattle.tests_spec.specs.Numbers.{said}
 use Rattle.offers.specs.Shapes.{offerAt}
-use Rattle.reports.specs.Shapes.{sheetWith, answered, recordFault}
+use Rattle.reports.specs.Shapes.{answered, recordFault}
 use Rattle.reports.proofs.Answers.{offer-is, sound, refused}
 use Rattle.tests.specs.Shapes.{notOpened}
 

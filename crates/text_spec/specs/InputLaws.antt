@@ -10,7 +10,7 @@ use lib.Dec.{ltb}
 use lib.ListN.{length, take, drop, length-take, length-drop, take-append-drop}
 use lib.Seq.{take-length, drop-length, length-take-le, take-all, take-append-le}
 use borrow.Author.Tests.{lt-ltb, le-ltb}
-use Rattle.base.specs.Truth.{lt-or-ge, or-r}
+use Rattle.base.specs.Truth.{or-r}
 use Rattle.sheet_spec.specs.Reading.{lengthField}
 use Rattle.text_spec.specs.Input.{cutInput, firstEnd, firstSheet, secondSheet}
 

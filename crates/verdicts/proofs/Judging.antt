@@ -15,7 +15,8 @@ use Rattle.tests_spec.specs.declared.Verdict.the-variants.{Passes, Fails}
 use Rattle.tests_spec.specs.Verdicts.{failsFrom}
 use Rattle.tests_spec.specs.Numbers.{judged}
 use Rattle.tests_spec.specs.VerdictLaws.{verdict-given}
-use Rattle.layers.specs.Shapes.{sheetWith, kindOf}
+use Rattle.sheet_spec.specs.Kept.{sheetWith}
+use Rattle.layers.specs.Shapes.{kindOf}
 use Rattle.verdicts_spec.specs.declared.Suite.{Suite}
 use Rattle.verdicts_spec.specs.declared.Suite.the-variants.{Judged, Denied}
 use Rattle.verdicts_spec.specs.Suites.{tests, verdictNumber, suiteFault, suiteOf, verdictsAfter}

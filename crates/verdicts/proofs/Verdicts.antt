@@ -11,7 +11,7 @@ use Rattle.tests_spec.specs.declared.Verdict.{Verdict}
 use Rattle.tests_spec.specs.declared.Verdict.the-variants.{Passes, Fails, Denied}
 use Rattle.tests_spec.specs.Verdicts.{failsFrom, verdictFault, verdictOf}
 use Rattle.tests_spec.specs.Numbers.{judged}
-use Rattle.layers.specs.Shapes.{sheetWith}
+use Rattle.sheet_spec.specs.Kept.{sheetWith}
 
 -- a verdict is the same in its numbers
 pub numbered : {a b : Verdict} → a ≡ b → (a ≡ b) × (judged a ≡ judged b)

@@ -21,17 +21,17 @@ use Rattle.verdicts_spec.specs.Suites.{tests, verdictNumber, suiteFault,
 use Rattle.verdicts_spec.specs.Numbers.{suited}
 
 -- the example's reference against a device, with a list of some places that hold 9: the refusal, how many tests, and the list at exit
-unfoldable pub numbers : Bool → List ℕ → ℕ → List ℕ
-numbers to Q places =
+unfoldable pub suiteNumbers : Bool → List ℕ → ℕ → List ℕ
+suiteNumbers to Q places =
     let r = suited (suiteOf (sheet exampleReference) (sheet Q) (replicate places 9)) in
     r .refusal ∷ r .count ∷ verdictsAfter to (sheet exampleReference) (sheet Q) (replicate places 9)
 
 pub example-suite :
-    (numbers false exampleDevice 8 ≡ 0 ∷ 6 ∷ 1 ∷ 1 ∷ 1 ∷ 1 ∷ 1 ∷ 2 ∷ 9 ∷ 9 ∷ [])
-    × (numbers false exampleDevice 6 ≡ 0 ∷ 6 ∷ 1 ∷ 1 ∷ 1 ∷ 1 ∷ 1 ∷ 2 ∷ [])
-    × (numbers true exampleDevice 6 ≡ 0 ∷ 6 ∷ 1 ∷ 1 ∷ 1 ∷ 1 ∷ 1 ∷ 1 ∷ [])
-    × (numbers false exampleReference 5 ≡ 0 ∷ 4 ∷ 1 ∷ 1 ∷ 1 ∷ 1 ∷ 9 ∷ [])
-    × (numbers false exampleDevice 5 ≡ 10 ∷ 0 ∷ 9 ∷ 9 ∷ 9 ∷ 9 ∷ 9 ∷ [])
-    × (numbers false stopped 1 ≡ 11 ∷ 0 ∷ 9 ∷ [])
-unfolding numbers tests verdictNumber suiteFault suiteOf verdictsAfter suited sheet exampleReference exampleDevice stopped readSheet answer bytesFault headFault lengthField layoutFault nextAt startOf succOf setsOf rowAt rowOf sheetOf graphFault rangesOk countOk countsOk successorsOk rowSuccessorsOk successorOk setsOk rowSetsOk setOk ascends apart blank unusedOk blanksOk reachedOk sheetFault successor acceptance acceptances initials mayStop step bit has inside meets setOf nearer leads all any upTo strays hasStray covers hasRefusal violates violating failsFrom verdictFault verdictOf judged
+    (suiteNumbers false exampleDevice 8 ≡ 0 ∷ 6 ∷ 1 ∷ 1 ∷ 1 ∷ 1 ∷ 1 ∷ 2 ∷ 9 ∷ 9 ∷ [])
+    × (suiteNumbers false exampleDevice 6 ≡ 0 ∷ 6 ∷ 1 ∷ 1 ∷ 1 ∷ 1 ∷ 1 ∷ 2 ∷ [])
+    × (suiteNumbers true exampleDevice 6 ≡ 0 ∷ 6 ∷ 1 ∷ 1 ∷ 1 ∷ 1 ∷ 1 ∷ 1 ∷ [])
+    × (suiteNumbers false exampleReference 5 ≡ 0 ∷ 4 ∷ 1 ∷ 1 ∷ 1 ∷ 1 ∷ 9 ∷ [])
+    × (suiteNumbers false exampleDevice 5 ≡ 10 ∷ 0 ∷ 9 ∷ 9 ∷ 9 ∷ 9 ∷ 9 ∷ [])
+    × (suiteNumbers false stopped 1 ≡ 11 ∷ 0 ∷ 9 ∷ [])
+unfolding suiteNumbers tests verdictNumber suiteFault suiteOf verdictsAfter suited sheet exampleReference exampleDevice stopped readSheet answer bytesFault headFault lengthField layoutFault nextAt startOf succOf setsOf rowAt rowOf sheetOf graphFault rangesOk countOk countsOk successorsOk rowSuccessorsOk successorOk setsOk rowSetsOk setOk ascends apart blank unusedOk blanksOk reachedOk sheetFault successor acceptance acceptances initials mayStop step bit has inside meets setOf nearer leads all any upTo strays hasStray covers hasRefusal violates violating failsFrom verdictFault verdictOf judged
 example-suite = (refl, refl, refl, refl, refl, refl)

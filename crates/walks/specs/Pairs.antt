@@ -9,7 +9,7 @@ use native.Mathlib.Omega.{arith}
 use lib.ListN.{length}
 use Rattle.walks.specs.Graph.{Graph, WellFormed, walk, Trace}
 use Rattle.walks.specs.Bound.{bound}
-use Rattle.walks.specs.Reach.{ReachedBefore, Reachable, reached, reached-means, nearer, nearer-means}
+use Rattle.walks.specs.Reach.{ReachedBefore, Reachable, nearer, nearer-means}
 use Rattle.walks.specs.Order.{Lex}
 use Rattle.walks.specs.Near.{Leads, distance, distance-le, distance≤, distance<, distance-means}
 use Rattle.walks.specs.Near.{leastTrace, leastTrace-length, leastTrace-leads, leastTrace-least, leastTrace-unique}
@@ -22,10 +22,6 @@ pub record PairLeads (r d : Graph) (bad : ℕ → ℕ → Bool) (n m : ℕ) (t :
   pub in-r : walk r n t < r .size
   pub in-d : walk d m t < d .size
   pub ends : bad (walk r n t) (walk d m t) ≡ true
-
--- A common list of exactly j events leads to the pair (n, m).
-abbrev pub PairReachedIn : Graph → Graph → ℕ → ℕ → ℕ → Type 0
-PairReachedIn r d j n m = (t : List ℕ) × (length t ≡ j) × (walk r 0 t ≡ n) × (walk d 0 t ≡ m)
 
 -- A common list of fewer than k events leads to the pair (n, m).
 abbrev pub PairReachedBefore : Graph → Graph → ℕ → ℕ → ℕ → Type 0
@@ -54,10 +50,6 @@ pairDistance r d bad = distance (product r d) (onCodes d bad)
 -- The nearest bad pair's common trace that is least in event order.
 unfoldable pub pairTrace : Graph → Graph → (ℕ → ℕ → Bool) → List ℕ
 pairTrace r d bad = leastTrace (product r d) (onCodes d bad)
-
--- Test: the pair (n, m) is reached in exactly j common events.
-unfoldable pub pairReached : Graph → Graph → ℕ → ℕ → ℕ → Bool
-pairReached r d j n m = reached (product r d) j (code d n m)
 
 -- Test: the pair (n, m) is reached in fewer than k common events.
 unfoldable pub pairNearer : Graph → Graph → ℕ → ℕ → ℕ → Bool
@@ -159,19 +151,6 @@ module _ {r d : Graph} (wr : WellFormed r) (wd : WellFormed d) where
         → ((t : List ℕ) → length t ≡ pairDistance r d bad → PairLeads r d bad 0 0 t → Lex s t) → s ≡ pairTrace r d bad
     unfolding pairTrace pairDistance
     pairTrace-unique s e l h = leastTrace-unique (product r d) (onCodes d bad) w s e (to s l) (λ t f k. h t f (from t k))
-
-  pub pairReached-means : (j n m : ℕ) → n < r .size → m < d .size → (pairReached r d j n m ≡ true) ↔ PairReachedIn r d j n m
-  unfolding pairReached product
-  pairReached-means j n m h k = (forth, back)
-    where
-      forth : pairReached r d j n m ≡ true → PairReachedIn r d j n m
-      forth e =
-          let t = reached-means w j (code d n m) (code-lt r d n m h k) .0 e in
-          let b = product-at wr wd (t .0) n m h k .0 (t .2) in
-          (t .0, t .1, b .0, b .1)
-
-      back : PairReachedIn r d j n m → pairReached r d j n m ≡ true
-      back (t, l, a, b) = reached-means w j (code d n m) (code-lt r d n m h k) .1 (t, l, product-at wr wd t n m h k .1 (a, b))
 
   -- reached before k in the product, and as a pair
   before : (k n m : ℕ) → n < r .size → m < d .size → ReachedBefore (product r d) k (code d n m) ↔ PairReachedBefore r d k n m

@@ -8,7 +8,7 @@ use lib.ListN.{getD}
 use Rattle.base.specs.Range.{any, any←, any-more, any-done}
 use Rattle.events.specs.Sets.{meets}
 use borrow.Author.Tests.{eq-eqb, ne-eqb}
-use Rattle.images.specs.Shapes.{hits}
+use Rattle.images.specs.Shapes.{layerHits}
 use Rattle.images.proofs.is_hit.Statement.{statement}
 use Rattle.images.proofs.is_hit.Tie as tie
 
@@ -39,7 +39,7 @@ array-read-if1-2 : tie.Need-array-read-if1-2 Inv-loop μ-loop
 array-read-if1-2 c = omega arith
 
 returns : tie.Need-returns Inv-loop μ-loop
-unfolding hits meets
+unfolding layerHits meets
 returns c =
     let l = c .before .before .loop in
     let a = c .before .before .before .args in
@@ -59,7 +59,7 @@ loop-again c =
     (omega arith, any-more (shared (a .t1) (a .t2)) (l .n) (l .inv .1) (unfold meets in rw (eq-eqb _ 0 (c .if1 .left))))
 
 returns-2 : tie.Need-returns-2 Inv-loop μ-loop
-unfolding hits
+unfolding layerHits
 returns-2 c =
     let l = c .before .loop in
     let a = c .before .before .args in

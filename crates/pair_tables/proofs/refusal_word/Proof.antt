@@ -2,7 +2,8 @@
 use Prim.Native.Nat.{_-_}
 use native.Mathlib.Omega.{arith}
 use Rattle.refinement_spec.specs.PairTests.{hasRefusal}
-use Rattle.pair_tables.specs.Shapes.{refusalWord, rowIn}
+use Rattle.rows.specs.Tables.{rowIn}
+use Rattle.pair_tables.specs.Shapes.{refusalWord}
 use Rattle.pair_tables.proofs.Words.{Gathers, none, more, gathered}
 use Rattle.pair_tables.proofs.refusal_word.Statement.{statement}
 use Rattle.pair_tables.proofs.refusal_word.Tie as tie

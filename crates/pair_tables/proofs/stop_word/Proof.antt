@@ -2,7 +2,8 @@
 use Prim.Native.Nat.{_-_}
 use native.Mathlib.Omega.{arith}
 use Rattle.sheet_spec.specs.Kept.{mayStop}
-use Rattle.pair_tables.specs.Shapes.{stopWord, rowIn}
+use Rattle.rows.specs.Tables.{rowIn}
+use Rattle.pair_tables.specs.Shapes.{stopWord}
 use Rattle.pair_tables.proofs.Words.{Gathers, none, more, gathered}
 use Rattle.pair_tables.proofs.stop_word.Statement.{statement}
 use Rattle.pair_tables.proofs.stop_word.Tie as tie

@@ -2,7 +2,7 @@
 use Prim.Native.Nat.{_*_, _-_}
 use native.Mathlib.Omega.{arith}
 use Rattle.base.specs.Loops.{Filling, empty, filled}
-use Rattle.rows.specs.Flat.{flatAt}
+use Rattle.rows.specs.Tables.{flatAt}
 use Rattle.rows.proofs.Tables.{row-stored}
 use Rattle.rows.proofs.flat.Statement.{statement}
 use Rattle.rows.proofs.flat.Tie as tie

@@ -3,7 +3,7 @@ use mathlib.Core.Path.{_≡_, refl}
 use Prim.Native.Nat.{_-_, _≤_}
 use native.Mathlib.Omega.{arith}
 use Rattle.rows.proofs.Shape.{succ-in}
-use Rattle.rows.specs.Flat.{rowPut}
+use Rattle.rows.specs.Tables.{rowPut}
 use Rattle.rows.proofs.Tables.{row-more}
 use Rattle.rows.proofs.put_row.Statement.{statement}
 use Rattle.rows.proofs.put_row.Tie as tie

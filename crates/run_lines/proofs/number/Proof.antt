@@ -1,7 +1,7 @@
 -- `run_lines::number`: below 64 the place is read, from 64 on there is none.
 use native.Mathlib.Omega.{arith}
 use borrow.Author.Tests.{lt-ltb, le-ltb}
-use Rattle.run_lines.specs.Lines.{numberOf}
+use Rattle.run_lines.specs.Lines.{numberAt}
 use Rattle.run_lines.proofs.number.Statement.{statement}
 use Rattle.run_lines.proofs.number.Tie as tie
 
@@ -12,11 +12,11 @@ element-copy-out-result : tie.Need-element-copy-out-result
 element-copy-out-result c = omega arith
 
 returns : tie.Need-returns
-unfolding numberOf
+unfolding numberAt
 returns c = rw (lt-ltb (c .before .before .args .i) 64 (omega arith))
 
 returns-2 : tie.Need-returns-2
-unfolding numberOf
+unfolding numberAt
 returns-2 c = rw (le-ltb (c .before .args .i) 64 (omega arith))
 
 pub number-spec : {M : Type 1} → statement M

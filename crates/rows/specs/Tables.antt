@@ -1,4 +1,4 @@
--- The successors of all nodes in one table, twelve to a node.
+-- Tables over all rows: the successors of all nodes, twelve to a node, and the initials of each node.
 use mathlib.Core.Path.{_≡_, _∙_}
 use mathlib.Core.List.{List}
 use Prim.Native.Nat.{ℕ, zero, suc, _+_, _*_, _/_, _%_, _<_}
@@ -7,9 +7,17 @@ use lib.Arith.{digits-div, digits-mod}
 use lib.ListN.{getD, set}
 use Rattle.base.specs.Table.{upTo, getD-upTo}
 use Rattle.sheet_spec.specs.declared.Row.{Row}
-use Rattle.sheet_spec.specs.Kept.{noRow, successor}
+use Rattle.sheet_spec.specs.Kept.{noRow, successor, initials}
 
--- what stands at place j
+-- the row of node v
+abbrev pub rowIn : List Row → ℕ → Row
+rowIn rows v = getD rows v noRow
+
+-- the initials of node v
+unfoldable pub initialsIn : ℕ → List Row → ℕ → ℕ
+initialsIn e rows v = initials e (rowIn rows v)
+
+-- the successor that stands at place j
 unfoldable pub flatAt : List Row → ℕ → ℕ
 flatAt rows j = successor (getD rows (j / 12) noRow) (j % 12)
 

@@ -2,9 +2,9 @@
 use Prim.Native.Nat.{_-_}
 use native.Mathlib.Omega.{arith}
 use Rattle.base.specs.Loops.{Filling, empty, stored, filled}
-use Rattle.pair_tables.specs.Shapes.{initialsIn}
-use Rattle.pair_tables.proofs.all_initials.Statement.{statement}
-use Rattle.pair_tables.proofs.all_initials.Tie as tie
+use Rattle.rows.specs.Tables.{initialsIn}
+use Rattle.rows.proofs.all_initials.Statement.{statement}
+use Rattle.rows.proofs.all_initials.Tie as tie
 
 abbrev Inv-loop : tie.InvT-loop
 Inv-loop e rows sets₀ v₀ sets v = Filling (initialsIn e rows) 0 32 v sets
