@@ -11,11 +11,7 @@ use sheet_spec::Sheet;
 fn put_violates_line(out: &mut [u8], at: usize, d: u16, cleared: u16) -> usize
     ensures { λ r. ⌜ Adds (violatesLine d cleared) (now (out .entry)) at (now (out .exit)) r ⌝ }
 {
-    let a = text::put(out, at, b"violates after ");
-    let b = text::put_number(out, a, d);
-    let c = text::put(out, b, b" cleared ");
-    let e = text::put_number(out, c, cleared);
-    text::put(out, e, b"\n")
+    text::put_numbers(out, at, b"violates after ", d, b" cleared ", cleared, b"\n")
 }
 
 // Puts the line of a trace.
@@ -31,11 +27,7 @@ fn put_trace_line(out: &mut [u8], at: usize, trace: &[u8]) -> usize
 fn put_refused_line(out: &mut [u8], at: usize, probe: u16, acceptance: u16) -> usize
     ensures { λ r. ⌜ Adds (refusedProbeLine probe acceptance) (now (out .entry)) at (now (out .exit)) r ⌝ }
 {
-    let a = text::put(out, at, b"refused ");
-    let b = text::put_number(out, a, probe);
-    let c = text::put(out, b, b" by ");
-    let d = text::put_number(out, c, acceptance);
-    text::put(out, d, b"\n")
+    text::put_numbers(out, at, b"refused ", probe, b" by ", acceptance, b"\n")
 }
 
 // Puts the lines of a comparison's answer; the trace is at the front of its list.

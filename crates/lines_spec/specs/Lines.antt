@@ -2,13 +2,13 @@
 use mathlib.Core.List.{List, _++_}
 use Prim.Native.Nat.{ℕ}
 use lib.ListN.{take}
-use Rattle.text_spec.specs.Lines.{ascii, decimal, numberLine, eventList}
+use Rattle.text_spec.specs.Lines.{ascii, decimal, numberLine, eventList, numbersText}
 use Rattle.comparison_spec.specs.declared.Outcome.{Outcome}
 use Rattle.comparison_spec.specs.declared.Outcome.the-variants.{Refines, Stray, Refusal, Denied}
 
 -- `violates after d cleared c`
 unfoldable pub violatesLine : ℕ → ℕ → List ℕ
-violatesLine d cleared = ascii "violates after " ++ (decimal d ++ (ascii " cleared " ++ (decimal cleared ++ ascii "\n")))
+violatesLine d cleared = numbersText (ascii "violates after ") d (ascii " cleared ") cleared (ascii "\n")
 
 -- `trace e e e`; an empty trace is `trace` alone
 unfoldable pub traceLine : List ℕ → List ℕ
@@ -16,7 +16,7 @@ traceLine t = ascii "trace" ++ (eventList t ++ ascii "\n")
 
 -- `refused x by a`: the probe and the acceptance as numbers
 unfoldable pub refusedProbeLine : ℕ → ℕ → List ℕ
-refusedProbeLine probe acceptance = ascii "refused " ++ (decimal probe ++ (ascii " by " ++ (decimal acceptance ++ ascii "\n")))
+refusedProbeLine probe acceptance = numbersText (ascii "refused ") probe (ascii " by ") acceptance (ascii "\n")
 
 -- the lines of a comparison's answer; the trace is the first d bytes of the trace list
 unfoldable pub outcomeLines : Outcome → List ℕ → List ℕ

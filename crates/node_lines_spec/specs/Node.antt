@@ -7,7 +7,7 @@ use lib.ListN.{length, getD, replicate}
 use Rattle.sheet_spec.specs.declared.Sheet.{Sheet}
 use Rattle.sheet_spec.specs.Kept.{row, mayStop}
 use Rattle.probes_spec.specs.Listing.{nodeProbes, listFault}
-use Rattle.text_spec.specs.Lines.{ascii, decimal}
+use Rattle.text_spec.specs.Lines.{ascii, decimal, numbersText}
 use Rattle.text_spec.specs.Sets.{setWords}
 use Rattle.node_lines_spec.specs.Joined.{joined}
 
@@ -33,7 +33,7 @@ mayStopLine v = ascii "node " ++ (decimal v ++ ascii " may stop\n")
 
 -- `node v refused k`
 unfoldable pub deniedLine : ℕ → ℕ → List ℕ
-deniedLine v k = ascii "node " ++ (decimal v ++ (ascii " refused " ++ (decimal k ++ ascii "\n")))
+deniedLine v k = numbersText (ascii "node ") v (ascii " refused ") k (ascii "\n")
 
 -- the line of node v: its probes in order, or that it may stop; where the probe call is refused, the number of the refusal
 unfoldable pub nodeLine : Sheet → ℕ → List ℕ

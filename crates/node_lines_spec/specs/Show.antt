@@ -8,7 +8,7 @@ use Rattle.sheet_spec.specs.declared.Sheet.{Sheet}
 use Rattle.sheet_spec.specs.declared.ReadSheet.{ReadSheet}
 use Rattle.sheet_spec.specs.Kept.{row, successor, acceptance, mayStop}
 use Rattle.sheet_spec.specs.Reading.{readSheet}
-use Rattle.text_spec.specs.Lines.{ascii, decimal, numberLine}
+use Rattle.text_spec.specs.Lines.{ascii, decimal, numberLine, numbersText}
 use Rattle.text_spec.specs.Sets.{setWords}
 use Rattle.text_spec.specs.Input.{cutInput}
 use Rattle.node_lines_spec.specs.Joined.{joined}
@@ -16,7 +16,7 @@ use Rattle.node_lines_spec.specs.Head.{headLine}
 
 -- `event i to w`
 unfoldable pub eventLine : ℕ → ℕ → List ℕ
-eventLine i w = ascii "event " ++ (decimal i ++ (ascii " to " ++ (decimal w ++ ascii "\n")))
+eventLine i w = numbersText (ascii "event ") i (ascii " to ") w (ascii "\n")
 
 -- the line of event i at a node, none where it has no successor
 unfoldable pub successorLine : Row → ℕ → List ℕ

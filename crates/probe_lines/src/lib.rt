@@ -53,11 +53,15 @@ fn put_stop_line(out: &mut [u8], at: usize, node: u8) -> usize
 fn put_denied_line(out: &mut [u8], at: usize, node: u8, k: u8) -> usize
     ensures { λ r. ⌜ Adds (deniedLine node k) (now (out .entry)) at (now (out .exit)) r ⌝ }
 {
-    let a = text::put(out, at, b"node ");
-    let b = text::put_number(out, a, node as u16);
-    let c = text::put(out, b, b" refused ");
-    let d = text::put_number(out, c, k as u16);
-    text::put(out, d, b"\n")
+    text::put_numbers(
+        out,
+        at,
+        b"node ",
+        node as u16,
+        b" refused ",
+        k as u16,
+        b"\n",
+    )
 }
 
 // Puts the line of a node whose probes were found; a node without probes may stop.

@@ -13,11 +13,7 @@ use sheet_spec::Sheet;
 fn put_event_line(out: &mut [u8], at: usize, i: u8, w: u8) -> usize
     ensures { λ r. ⌜ Adds (eventLine i w) (now (out .entry)) at (now (out .exit)) r ⌝ }
 {
-    let a = text::put(out, at, b"event ");
-    let b = text::put_number(out, a, i as u16);
-    let c = text::put(out, b, b" to ");
-    let d = text::put_number(out, c, w as u16);
-    text::put(out, d, b"\n")
+    text::put_numbers(out, at, b"event ", i as u16, b" to ", w as u16, b"\n")
 }
 
 // Puts the line of event i at a node, if it has a successor.

@@ -5,7 +5,7 @@ ghost use mathlib.Core.List.{[], _∷_};
 ghost use Prim.Native.Nat.{_≤_, _<_};
 ghost use lib.ListN.{length, take};
 ghost use Rattle.sheet_spec.specs.Reading.{lengthField};
-ghost use Rattle.text_spec.specs.Lines.{decimal, numberLine, sheetLine, eventList};
+ghost use Rattle.text_spec.specs.Lines.{decimal, numberLine, numbersText, sheetLine, eventList};
 ghost use Rattle.text_spec.specs.Sets.{members, setWords};
 ghost use Rattle.text_spec.specs.Input.{firstEnd};
 ghost use Rattle.text_spec.specs.Adds.{Adds};
@@ -113,15 +113,30 @@ pub fn put_number_line(out: &mut [u8], at: usize, words: &[u8], k: u16) -> usize
     put(out, b, b"\n")
 }
 
+// Puts two numbers with words before, between and after them.
+pub fn put_numbers(
+    out: &mut [u8],
+    at: usize,
+    first: &[u8],
+    x: u16,
+    between: &[u8],
+    y: u16,
+    last: &[u8],
+) -> usize
+    ensures { λ r. ⌜ Adds (numbersText (now (first .entry)) x (now (between .entry)) y (now (last .entry))) (now (out .entry)) at (now (out .exit)) r ⌝ }
+{
+    let a = put(out, at, first);
+    let b = put_number(out, a, x);
+    let c = put(out, b, between);
+    let d = put_number(out, c, y);
+    put(out, d, last)
+}
+
 // Puts the line of an accepted sheet.
 pub fn put_sheet_line(out: &mut [u8], at: usize, who: &[u8], n: u16, e: u16) -> usize
     ensures { λ r. ⌜ Adds (sheetLine (now (who .entry)) n e) (now (out .entry)) at (now (out .exit)) r ⌝ }
 {
-    let a = put(out, at, who);
-    let b = put_number(out, a, n);
-    let c = put(out, b, b" nodes ");
-    let d = put_number(out, c, e);
-    put(out, d, b" events\n")
+    put_numbers(out, at, who, n, b" nodes ", e, b" events\n")
 }
 
 // ---- parts of an input

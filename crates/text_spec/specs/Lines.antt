@@ -25,9 +25,13 @@ decimal n = decimalIn (suc n) n
 unfoldable pub numberLine : List ℕ → ℕ → List ℕ
 numberLine words k = words ++ (decimal k ++ ascii "\n")
 
+-- two numbers with words before, between and after them
+abbrev pub numbersText : List ℕ → ℕ → List ℕ → ℕ → List ℕ → List ℕ
+numbersText first x between y last = first ++ (decimal x ++ (between ++ (decimal y ++ last)))
+
 -- `reference p nodes e events`, `device q nodes e events`
 unfoldable pub sheetLine : List ℕ → ℕ → ℕ → List ℕ
-sheetLine who n e = who ++ (decimal n ++ (ascii " nodes " ++ (decimal e ++ ascii " events\n")))
+sheetLine who n e = numbersText who n (ascii " nodes ") e (ascii " events\n")
 
 -- the events in order, a blank before each
 unfoldable pub eventList : List ℕ → List ℕ

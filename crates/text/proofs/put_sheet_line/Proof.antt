@@ -1,48 +1,24 @@
--- The pieces of the line, one after another.
+-- The words and numbers of the line.
 use native.Mathlib.Omega.{arith}
 use Rattle.text_spec.specs.Lines.{sheetLine}
-use Rattle.text_spec.specs.AddsLaws.{adds-then}
 use Rattle.text.proofs.put_sheet_line.Statement.{statement}
 use Rattle.text.proofs.put_sheet_line.Tie as tie
 
-put-requires : tie.Need-put-requires
-put-requires c κs = tt
+slice-aggregate-put-numbers : tie.Need-slice-aggregate-put-numbers
+slice-aggregate-put-numbers c = omega arith
 
-put-number-requires : tie.Need-put-number-requires
-put-number-requires c κs = tt
+slice-aggregate-put-numbers-2 : tie.Need-slice-aggregate-put-numbers-2
+slice-aggregate-put-numbers-2 c = omega arith
 
-slice-aggregate-put : tie.Need-slice-aggregate-put
-slice-aggregate-put c = omega arith
-
-put-requires-2 : tie.Need-put-requires-2
-put-requires-2 c κs = tt
-
-put-number-requires-2 : tie.Need-put-number-requires-2
-put-number-requires-2 c κs = tt
-
-slice-aggregate-put-2 : tie.Need-slice-aggregate-put-2
-slice-aggregate-put-2 c = omega arith
-
-put-requires-3 : tie.Need-put-requires-3
-put-requires-3 c κs = tt
+put-numbers-requires : tie.Need-put-numbers-requires
+put-numbers-requires c κs = tt
 
 same-length : tie.Need-same-length
 same-length c = omega arith
 
 returns : tie.Need-returns
 unfolding sheetLine
-returns c = adds-then (c .before .before .before .before .before .before .before .before .before .before .before .before .before .before .before .before .before .before .before .before .put .ensures) (adds-then (c .before .before .before .before .before .before .before .before .before .before .before .before .before .before .before .before .put-number .ensures) (adds-then (c .before .before .before .before .before .before .before .before .before .before .before .put2 .ensures) (adds-then (c .before .before .before .before .before .before .before .put-number2 .ensures) (c .before .before .put3 .ensures))))
+returns c = c .before .before .put-numbers .ensures
 
 pub put-sheet-line-spec : {M : Type 1} → statement M
-put-sheet-line-spec =
-    tie.close
-    (tie.spec
-    put-requires
-    put-number-requires
-    slice-aggregate-put
-    put-requires-2
-    put-number-requires-2
-    slice-aggregate-put-2
-    put-requires-3
-    same-length
-    returns)
+put-sheet-line-spec = tie.close (tie.spec slice-aggregate-put-numbers slice-aggregate-put-numbers-2 put-numbers-requires same-length returns)
