@@ -8,7 +8,7 @@
  * A list is lent as a pointer, which is not null even if the list is empty, and a number of places. A flag is a byte: 0 is
  * false, every other value is true. Each call checks the sheets that it is handed again, the reference first, and answers
  * their refusals, 3 or 5 to 8, before its own. A call that is refused alters nothing, and every other part of its answer is
- * 0.
+ * 0; only bench_step gives the record back as it came.
  */
 #ifndef BENCH_H
 #define BENCH_H

@@ -1,5 +1,6 @@
 #!/bin/sh
-# The library for C: builds it, compiles the example with every warning an error, runs it, and compares what it writes.
+# The library for C: builds it, compiles the examples with every warning an error, runs them and compares what they write, and holds the
+# functions of the header against the library's.
 set -eu
 cd "$(dirname "$0")/.."
 

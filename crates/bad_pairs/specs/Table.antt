@@ -1,4 +1,4 @@
--- The tables of initials and of violating pairs; nothing to believe. A law says what stands at the place of a pair.
+-- The table of violating pairs; nothing to believe. A law says what stands at the place of a pair.
 use mathlib.Core.Path.{_≡_, _∙_}
 use mathlib.Core.Bool.{Bool, false}
 use mathlib.Core.List.{List, _++_}

@@ -1,4 +1,4 @@
-// The refusal of a comparison's call (01, "A comparison"): which number, or none.
+// The refusal of a comparison's call (01, "Who can cause a refusal"): which number, or none.
 ghost use mathlib.Core.Path.{_≡_};
 ghost use Rattle.comparison_faults.specs.FaultOn.{faultOn};
 use sheet_spec::Sheet;

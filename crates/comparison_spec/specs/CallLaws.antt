@@ -14,7 +14,7 @@ use Rattle.base.specs.Refusal.{unless, unless-hit, unless-pass, unless-none, un
 use Rattle.sheet_spec.specs.declared.Sheet.{Sheet}
 use Rattle.sheet_spec.specs.Rules.{sheetFault}
 use Rattle.sheet_spec.specs.CheckLaws.{further, finally}
-use Rattle.sheet_spec.specs.PairFaults.{BothAccepted, pair-reference, pair-device, pair-11, pair-rest}
+use Rattle.sheet_spec.specs.PairFaults.{BothAccepted, pair-reference, pair-device, pair-sheet, pair-11, pair-rest}
 use Rattle.comparison_spec.specs.declared.Outcome.the-variants.{Denied}
 use Rattle.comparison_spec.specs.Numbers.{compared}
 use Rattle.comparison_spec.specs.Comparison.{pairs, nearest, nearestTrace, comparisonOf, compareFault, outcomeOf, traceAfter, workAfter}
@@ -42,6 +42,13 @@ module _ (P Q : Sheet) (work trace : List ℕ) where
   pub compare-device : sheetFault P ≡ 0 → sheetFault Q ≢ 0 → compareFault P Q work trace ≡ sheetFault Q
   unfolding compareFault
   compare-device = pair-device P Q after11
+
+  -- a sheet's own number is given exactly for that sheet, the reference before the device
+  pub compare-sheet : (m : ℕ) → 0 < m → m ≤ 8 → (compareFault P Q work trace ≡ m) ↔ ((sheetFault P ≡ m) ⊎ ((sheetFault P ≡ 0) × (sheetFault Q ≡ m)))
+  unfolding compareFault
+  compare-sheet m z l =
+      pair-sheet P Q after11 m z l
+      (unless-other (leb (3 * pairs P Q) (length work)) (λ p. omega arith) (unless-other (leb (pairs P Q - 1) (length trace)) (λ p. omega arith) (λ p. omega arith)))
 
   -- 11: of sheets that are not refused, E differs
   pub compare-11 : (compareFault P Q work trace ≡ 11) ↔ (BothAccepted P Q × (P .e ≢ Q .e))

@@ -1,4 +1,4 @@
--- What crosses the edge for a report, an answer, a verdict and a comparison: numbers alone. Every number of a report has a
+-- What crosses the edge for a probe list, a report, an answer, a verdict, all verdicts and a comparison: numbers alone. Every number of a report has a
 -- reading, and so has every byte of a flag (`flag` of tests_spec), so that every content of what is handed over is answered.
 use mathlib.Core.Path.{_≡_}
 use mathlib.Core.Bool.{cond}

@@ -1,5 +1,5 @@
 // What a run offers at a node (01, "Test k and a live run"): all events below depth k, and at depth k the chosen probe and the events
-// outside the node's initials.
+// outside the node's initials; in a trace-only run all events at every depth.
 ghost use mathlib.Core.Path.{_≡_};
 ghost use Prim.Native.Nat.{_≤_};
 ghost use lib.ListN.{take};

@@ -12,7 +12,7 @@ use lib.Pow.{pow-mono}
 use borrow.Author.Tests.{eqb-true, eq-eqb, ne-eqb}
 use Rattle.base.specs.Truth.{dec, clash, lt-or-ge}
 use Rattle.base.specs.Finds.{finds-lt, finds-le}
-use Rattle.base.specs.Refusal.{unless, unless-hit, unless-pass, unless-none, unless-other, orElse-some, orElse-then}
+use Rattle.base.specs.Refusal.{unless, unless-hit, unless-pass, unless-none, unless-other, orElse-some, orElse-first, orElse-then}
 use Rattle.sheet_spec.specs.declared.Sheet.{Sheet}
 use Rattle.sheet_spec.specs.Kept.{row, acceptance, acceptances, mayStop}
 use Rattle.sheet_spec.specs.Rules.{sheetFault}
@@ -55,6 +55,13 @@ module _ (s : Sheet) (v : ℕ) (out : List ℕ) where
   pub list-sheet : sheetFault s ≢ 0 → listFault s v out ≡ sheetFault s
   unfolding listFault
   list-sheet n = orElse-some (sheetFault s) _ (omega (arith, n))
+
+  -- the sheet's own number is given exactly for it
+  pub list-own : (m : ℕ) → 0 < m → m ≤ 8 → (listFault s v out ≡ m) ↔ (sheetFault s ≡ m)
+  unfolding listFault
+  list-own m z l =
+      orElse-first (sheetFault s) _ m (λ e. omega arith)
+      (unless-other (ltb v (s .n)) (λ e. omega arith) (unless-other (leb (length (nodeProbes s v)) (length out)) (λ e. omega arith) (λ e. omega arith)))
 
   -- 9: of a sheet that is not refused, a node that is not below N
   pub list-9 : (listFault s v out ≡ 9) ↔ ((sheetFault s ≡ 0) × (s .n ≤ v))

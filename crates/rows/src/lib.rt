@@ -1,5 +1,5 @@
 // The row of one node: its successors, sets and initials, and whether the device may stop there. Every public function takes every
-// row, event and place.
+// row, event and place. And the tables of all rows: the successors of each node, and its initials.
 ghost use mathlib.Core.Path.{_≡_};
 ghost use Prim.Native.Nat.{_<_};
 ghost use Rattle.sheet_spec.specs.Kept.{successor, acceptance, initials, mayStop};

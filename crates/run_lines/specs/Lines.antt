@@ -14,7 +14,7 @@ unfoldable pub withDigit : Line → ℕ → Line
 withDigit l d = record {
   named = l .named;
   begun = true;
-  x = cond (ltb (l .x) 6553 && ltb d 10) (l .x * 10 + d) (l .x);
+  x = cond (ltb d 10 && ltb (l .x * 10 + d) 65536) (l .x * 10 + d) (l .x);
   count = l .count;
   numbers = l .numbers;
 }

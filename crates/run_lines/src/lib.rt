@@ -1,5 +1,5 @@
 // The lines that the Run programs read: a name, a colon, and numbers. A line is read byte by byte: up to the colon a byte belongs to the
-// name, after it a byte from `0` on is a digit and any other ends a number.
+// name; after it a byte from `0` to `9` is a digit, one below `0` ends a number, and any other only begins one.
 ghost use mathlib.Core.Path.{_≡_};
 ghost use mathlib.Core.Bool.{not};
 ghost use lib.Dec.{eqb};
@@ -28,19 +28,20 @@ pub fn new_line() -> Line
     }
 }
 
-// The line with a digit more. A number stays below 65,536: one of 6,553 or more takes no digit.
+// The line with a digit more, if it is one; a digit that would make the number 65,536 or more is left out.
 fn with_digit(line: Line, d: u8) -> Line
     ensures { λ r. ⌜ r ≡ withDigit line d ⌝ }
 {
     let mut l = line;
     l.begun = true;
-    if l.x >= 6553 {
-        return l;
-    }
     if d >= 10 {
         return l;
     }
-    l.x = l.x * 10 + (d as u16);
+    let x = (l.x as u32) * 10 + (d as u32);
+    if x >= 65536 {
+        return l;
+    }
+    l.x = x as u16;
     l
 }
 

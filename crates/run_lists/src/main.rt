@@ -2,7 +2,7 @@
 // is a case: its name, a colon, and numbers, of which the first says what is called:
 //   1, sheet, node len                    the probe list, with len places
 //   2, sheet, sheet, traces words places  the comparison, with a work list and a trace list of these lengths
-// A sheet is two numbers: which one of those below, and which refusal of its own it is changed to deserve, 0 for none. Numbers that
+// A sheet is two numbers: which one of those of `run_samples`, and which refusal of its own it is changed to deserve, 0 for none. Numbers that
 // are not there count as 0. The lists are parts of 128 places, which hold the highest number before the call.
 // Each case writes its name and its answer. A refusal is `denied` and the number. The probe list gives the count, the first and the
 // last probe and the sum of all; then comes how many of the 128 places are as before. A comparison gives `refines` and cleared, or

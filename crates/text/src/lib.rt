@@ -1,5 +1,5 @@
 // Text into a lent list, piece by piece, and the parts of an input of two sheets. A function that puts a piece takes the list and the place
-// where the piece begins and answers the place after it; what has no room is left out. Every function takes every argument.
+// where the piece begins and answers the place after it; what has no room is left out. Every public function takes every argument.
 ghost use mathlib.Core.Path.{_≡_};
 ghost use mathlib.Core.List.{[], _∷_};
 ghost use Prim.Native.Nat.{_≤_, _<_};

@@ -1,6 +1,7 @@
 //! The call on all tests at once, with a fault planted or none.
 
 use super::faults;
+use super::verdicts::{verdict_with, VerdictFault};
 use crate::numbers::{judged, Suited};
 use crate::sheet::{accept, Sheet};
 use crate::verdict::{admit_pair, verdicts, Verdict};
@@ -14,6 +15,12 @@ faults! {
         DepthSum,
         /// Tests from the larger number of nodes on are written as passed.
         DepthLarger,
+        /// Only the initials are offered below depth k, so that strays are not seen there.
+        InitialsBelow,
+        /// Acceptances are compared for equality.
+        AcceptancesEqual,
+        /// The empty acceptance of the reference is taken as "no rule here".
+        EmptyIsNoRule,
         /// After a test that fails all are written as failed.
         Nested,
         /// Fails for passes and passes for fails.
@@ -66,11 +73,26 @@ fn written(fault: SuiteFault, verdict: Verdict) -> u8 {
     }
 }
 
+/// The fault of a single verdict that the call makes in each of its own.
+fn single(fault: SuiteFault) -> Option<VerdictFault> {
+    match fault {
+        SuiteFault::InitialsBelow => Some(VerdictFault::InitialsBelow),
+        SuiteFault::AcceptancesEqual => Some(VerdictFault::AcceptancesEqual),
+        SuiteFault::EmptyIsNoRule => Some(VerdictFault::EmptyIsNoRule),
+        _ => None,
+    }
+}
+
 /// The numbers of all tests.
 fn kinds(fault: SuiteFault, reference: &Sheet, device: &Sheet, trace_only: bool) -> Vec<u8> {
     let (p, q) = (usize::from(reference.n), usize::from(device.n));
     let trace_only = trace_only && fault != SuiteFault::TracesIgnored;
-    let all = verdicts(reference, device, (p * q) as u16, trace_only).unwrap_or_default();
+    let all = match single(fault) {
+        Some(mistake) => (0..(p * q) as u16)
+            .filter_map(|k| verdict_with(mistake, reference, device, k, trace_only).ok())
+            .collect(),
+        None => verdicts(reference, device, (p * q) as u16, trace_only).unwrap_or_default(),
+    };
     let mut kinds: Vec<u8> = all.iter().map(|&verdict| written(fault, verdict)).collect();
     let bound = match fault {
         SuiteFault::DepthSum => p + q,

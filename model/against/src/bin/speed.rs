@@ -48,13 +48,13 @@ fn check() {
 fn measure() {
     same::random(ROUNDS);
     println!(
-        "{:<8} {:<40} {:>10} {:>10} {:>6}",
+        "{:<9} {:<40} {:>10} {:>10} {:>6}",
         "call", "case", "ours us", "Rust us", "ratio"
     );
     for mut case in worst() {
         let times = timed(&mut case);
         println!(
-            "{:<8} {:<40} {:>10.3} {:>10.3} {:>6.2}",
+            "{:<9} {:<40} {:>10.3} {:>10.3} {:>6.2}",
             case.call,
             case.case,
             times.ours,
@@ -65,7 +65,7 @@ fn measure() {
     println!();
     println!("growth: a pair that refines, 12 events, 16 sets; verdict at k = p q - 1");
     println!(
-        "{:<8} {:>5} {:>10} {:>10} {:>6} {:>12} {:>12}  per",
+        "{:<9} {:>5} {:>10} {:>10} {:>6} {:>12} {:>12}  per",
         "call", "p q", "ours us", "Rust us", "ratio", "ours ns", "Rust ns"
     );
     for (pairs, mut comparison, mut verdict) in growth() {
@@ -84,7 +84,7 @@ fn grown(case: &mut Case, pairs: usize, units: usize, unit: &str) {
     let times = timed(case);
     let each = |time: f64| time * 1e3 / units as f64;
     println!(
-        "{:<8} {pairs:>5} {:>10.3} {:>10.3} {:>6.2} {:>12.3} {:>12.3}  {unit}",
+        "{:<9} {pairs:>5} {:>10.3} {:>10.3} {:>6.2} {:>12.3} {:>12.3}  {unit}",
         case.call,
         times.ours,
         times.plain,

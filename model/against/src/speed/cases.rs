@@ -43,6 +43,7 @@ pub fn worst() -> Vec<Case> {
         device,
         MAX_TEST,
     ));
+    cases.push(suite("refining, full layers", reference, device));
     cases.push(comparison("refining", reference, device));
     let (reference, device) = longest(32);
     cases.push(verdict("violating, d 1023", reference, device, MAX_TEST));
@@ -162,6 +163,21 @@ fn verdict(case: &str, reference: Sheet, device: Sheet, k: u16) -> Case {
         case: format!("k {k}, {p} x {q} {case}"),
         ours: used(move || edge::judge(black_box(&reference), &device, k, 0)),
         plain: used(move || pairs::judge(black_box(&mine), &theirs, k, 0)),
+    }
+}
+
+/// The verdicts on all tests of two sheets, with a list that is just long enough.
+fn suite(case: &str, reference: Sheet, device: Sheet) -> Case {
+    let (p, q) = (reference.n, device.n);
+    let tests = p as usize * q as usize;
+    same::judge_all(&reference, &device, 0, tests);
+    let (mine, theirs) = (Tables::of(&reference), Tables::of(&device));
+    let (mut out, mut other) = (vec![0; tests], vec![0; tests]);
+    Case {
+        call: "judge_all",
+        case: format!("{p} x {q} {case}"),
+        ours: used(move || edge::judge_all(black_box(&reference), &device, 0, &mut out)),
+        plain: used(move || pairs::judge_all(black_box(&mine), &theirs, 0, &mut other)),
     }
 }
 

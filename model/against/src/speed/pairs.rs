@@ -1,6 +1,6 @@
 //! Verdicts and comparisons over flat tables.
 
-use model::numbers::{Compared, Said};
+use model::numbers::{Compared, Said, Suited};
 use model::sheet::{MAX_EVENTS, MAX_NODES, NO_NODE};
 
 use super::runs::first_missed;
@@ -95,16 +95,57 @@ pub fn judge(reference: &Tables, device: &Tables, k: u16, traces: u8) -> Said {
     }
 }
 
-/// Whether a device fails test k: layer after layer of pairs.
-fn fails(reference: &Tables, device: &Tables, k: u16, traces: bool) -> bool {
+/// The verdicts on all tests of a device, into a lent list.
+pub fn judge_all(reference: &Tables, device: &Tables, traces: u8, out: &mut [u8]) -> Suited {
+    let tests = reference.n as usize * device.n as usize;
+    let refusal = match pair_fault(reference, device) {
+        0 if out.len() < tests => 10,
+        number => number,
+    };
+    if refusal != 0 {
+        return Suited { refusal, count: 0 };
+    }
+    let (early, late) = words(reference, device, traces != 0);
+    let bits = bits_of(device);
+    let mut layer = start();
+    let mut failed = false;
+    for place in &mut out[..tests] {
+        *place = 1 + u8::from(failed || hit(&layer, &late));
+        failed |= hit(&layer, &early);
+        layer = next_layer(reference, &bits, &layer);
+    }
+    Suited {
+        refusal: 0,
+        count: tests as u16,
+    }
+}
+
+/// At which pairs a test fails before its last event, and at its last.
+fn words(reference: &Tables, device: &Tables, traces: bool) -> (Layer, Layer) {
     let (mut early, mut late) = ([0; MAX_NODES], [0; MAX_NODES]);
     for v in 0..reference.n as usize {
         (early[v], late[v]) = failing(reference, device, v, traces);
     }
-    let hit = |layer: &Layer, words: &Layer| layer.iter().zip(words).any(|(a, b)| a & b != 0);
-    let bits = bits_of(device);
+    (early, late)
+}
+
+/// Whether a layer has one of these pairs.
+fn hit(layer: &Layer, words: &Layer) -> bool {
+    layer.iter().zip(words).any(|(a, b)| a & b != 0)
+}
+
+/// The layer of the start alone.
+fn start() -> Layer {
     let mut layer = [0; MAX_NODES];
     layer[0] = 1;
+    layer
+}
+
+/// Whether a device fails test k: layer after layer of pairs.
+fn fails(reference: &Tables, device: &Tables, k: u16, traces: bool) -> bool {
+    let (early, late) = words(reference, device, traces);
+    let bits = bits_of(device);
+    let mut layer = start();
     for _ in 0..k {
         if hit(&layer, &early) {
             return true;

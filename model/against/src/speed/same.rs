@@ -59,6 +59,15 @@ pub fn judge(reference: &Sheet, device: &Sheet, k: u16, traces: u8) -> u8 {
     ours.kind
 }
 
+/// The verdicts on all tests, with a list of this length.
+pub fn judge_all(reference: &Sheet, device: &Sheet, traces: u8, length: usize) {
+    let (mut ours, mut plain) = (vec![7; length], vec![7; length]);
+    let answer = edge::judge_all(reference, device, traces, &mut ours);
+    let (mine, theirs) = (Tables::of(reference), Tables::of(device));
+    let other = pairs::judge_all(&mine, &theirs, traces, &mut plain);
+    assert_eq!((answer, ours), (other, plain));
+}
+
 /// One comparison with lists of these lengths.
 pub fn compare(
     (reference, device): (&Sheet, &Sheet),
@@ -121,6 +130,8 @@ fn two_sheets(rng: &mut Rng, reference: &Sheet, device: &Sheet) {
     let pairs = reference.n as usize * device.n as usize;
     let k = rng.pick(&[0, 1, 2, 7, pairs.saturating_sub(1), 1_024]);
     judge(reference, device, k.min(65_535) as u16, traces);
+    let length = rng.pick(&[pairs, pairs + 3, pairs.saturating_sub(1)]);
+    judge_all(reference, device, traces, length);
     let words = rng.pick(&[3 * pairs, 3 * pairs + 1, (3 * pairs).saturating_sub(1)]);
     let places = rng.pick(&[pairs, pairs.saturating_sub(1), pairs.saturating_sub(2)]);
     compare((reference, device), traces, (words, places));
