@@ -6,8 +6,8 @@ use Prim.Native.Nat.{ℕ, zero, suc, _+_, _≤_, _<_}
 use native.Mathlib.Omega.{arith}
 use native.Mathlib.Nat.{eq-or-lt-of-le}
 use lib.Dec.{eqb}
-use borrow.Author.Tests.{eqb-false, eq-eqb, ne-eqb}
-use Rattle.base.specs.Truth.{and-l, and-r, not-i, not-f}
+use borrow.Author.Tests.{eqb-false, eq-eqb, ne-eqb, not-true}
+use Rattle.base.specs.Truth.{and-l, and-r, not-i}
 
 -- how many
 unfoldable pub count : (ℕ → Bool) → ℕ → ℕ
@@ -94,5 +94,5 @@ count-listed (suc L) Q f n a b c =
     back i t (x, l, e) = go (eq-or-lt-of-le l)
       where
         go : (suc x ≡ suc L) ⊎ (suc x < suc L) → (x : ℕ) × (x < L) × (Q x ≡ i)
-        go (inl s) = let q : x ≡ L = omega arith in absurd (eqb-false i (Q L) (not-f _ (and-r (f i) _ t)) (sym e ∙ ap Q q))
+        go (inl s) = let q : x ≡ L = omega arith in absurd (eqb-false i (Q L) (not-true _ (and-r (f i) _ t)) (sym e ∙ ap Q q))
         go (inr s) = (x, omega arith, e)

@@ -51,14 +51,6 @@ not-i {a = false} h = refl
 pub not-t : {a : Bool} → a ≡ false → not a ≡ true
 not-t t = cc
 
-pub not-f : (a : Bool) → not a ≡ true → a ≡ false
-not-f true t = sym t
-not-f false t = refl
-
-pub f-not : (a : Bool) → not a ≡ false → a ≡ true
-f-not true t = refl
-f-not false t = sym t
-
 pub same : (a b : Bool) → (a ≡ true → b ≡ true) → (b ≡ true → a ≡ true) → a ≡ b
 same true b f g = sym (f refl)
 same false b f g = sym (not-i (λ t. false≢true (g t)))

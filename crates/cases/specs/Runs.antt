@@ -11,7 +11,7 @@ use Rattle.events.specs.Bit.{bit, setOf}
 use Rattle.events.specs.Sets.{has, inside, meets, meets-not}
 use Rattle.walks.specs.Reach.{nearer, leads}
 use Rattle.sheet_spec.specs.Kept.{successor, acceptance, acceptances, initials, mayStop, step}
-use Rattle.sheet_spec.specs.Rules.{rangesOk, countOk, countsOk, successorsOk, rowSuccessorsOk, successorOk, setsOk, rowSetsOk, setOk, ascends, apart, blank, unusedOk, blanksOk, reachedOk, sheetFault}
+use Rattle.sheet_spec.specs.Rules.{rangesOk, countOk, countsOk, successorsOk, rowSuccessorsOk, successorOk, setsOk, rowSetsOk, setOk, ascends, noneInside, blank, unusedOk, blanksOk, reachedOk, sheetFault}
 use Rattle.sheet_spec.specs.Reading.{readSheet, answer, bytesFault, headFault, lengthField, layoutFault, nextAt, startOf, succOf, setsOf, rowAt, rowOf, sheetOf, graphFault}
 use Rattle.probes_spec.specs.Probes.{hits, isProbe, gather, select, probes}
 use Rattle.tests_spec.specs.declared.Report.the-variants.{Event, Blocked}
@@ -30,7 +30,7 @@ some a = (omega arith, a)
 
 -- and so it fails 5: with choice number 1 the device does event 0 five times, is then offered only event 1, and blocks
 pub example-fails : FailsTest false (sheet exampleReference) (sheet exampleDevice) 5
-unfolding sheet exampleReference exampleDevice readSheet answer bytesFault headFault lengthField layoutFault nextAt startOf succOf setsOf rowAt rowOf sheetOf graphFault rangesOk countOk countsOk successorsOk rowSuccessorsOk successorOk setsOk rowSetsOk setOk ascends apart blank unusedOk blanksOk reachedOk sheetFault successor acceptance acceptances initials mayStop bit has inside meets setOf nearer leads all any upTo hits isProbe gather select probes allEvents outside probesAt chosen flag flagOf offerOf newRun openFault openOf recordOk eventFault reportFault movedBy endedRun answerOf stepOf step CanReport Failed deviceAfter EndsFailed
+unfolding sheet exampleReference exampleDevice readSheet answer bytesFault headFault lengthField layoutFault nextAt startOf succOf setsOf rowAt rowOf sheetOf graphFault rangesOk countOk countsOk successorsOk rowSuccessorsOk successorOk setsOk rowSetsOk setOk ascends noneInside blank unusedOk blanksOk reachedOk sheetFault successor acceptance acceptances initials mayStop bit has inside meets setOf nearer leads all any upTo hits isProbe gather select probes allEvents outside probesAt chosen flag flagOf offerOf newRun openFault openOf recordOk eventFault reportFault movedBy endedRun answerOf stepOf step CanReport Failed deviceAfter EndsFailed
 example-fails = (
   1,
   omega arith,

@@ -29,7 +29,8 @@ use Rattle.comparison_spec.specs.Comparison.{pairs, nearest, nearestTrace, comp
 use Rattle.comparison_spec.specs.Numbers.{compared}
 use Rattle.comparison_spec.specs.Meaning.{ReachedBefore, ReachedEver, Number, Nearest, FirstRefused, Describes, refines, stray, refusal}
 use Rattle.comparison_spec.specs.ComparisonLaws.{trace-length, nearest-below, nearest-only, refines-nearest}
-use Rattle.comparison_spec.specs.OutcomeLaws.{traceOf, comparison-describes}
+use Rattle.comparison_spec.specs.OutcomeLaws.{traceOf}
+use Rattle.comparison_spec.specs.AnswerLaws.{outcome-describes}
 use Rattle.comparison_spec.specs.CallLaws.{compare-fits, given-outcome, given-trace}
 use Rattle.claim.specs.Claim.{Accepted, LongEnough, Witness, by-stray, by-refusal, Reports, stray-reports, refusal-reports, Violated, Demand3}
 
@@ -152,7 +153,7 @@ module _ (P Q : Sheet) (accP : sheetFault P ≡ 0) (accQ : sheetFault Q ≡ 0) (
       go (inr k) = absurd (n (refines-nearest op oq same to .1 k))
 
   described : (work trace : List ℕ) → LongEnough P Q work trace → Describes to P Q (outcomeOf to P Q work trace) (traceOf to P Q)
-  described work trace l = rw (given work trace l) (comparison-describes op oq same to)
+  described work trace l = outcome-describes to P Q accP accQ same work trace (fits work trace l)
 
   -- "refines" is said exactly if the device refines the reference
   says-refines : (work trace : List ℕ) → LongEnough P Q work trace → ((c : ℕ) × (outcomeOf to P Q work trace ≡ Refines c)) ↔ RefinesIn to P Q

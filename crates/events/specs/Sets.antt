@@ -7,8 +7,8 @@ use native.Mathlib.Omega.{arith}
 use native.Mathlib.Decide.{ℕ-discrete}
 use lib.Dec.{eqb, ltb}
 use lib.Bits.{bitAnd, bitOr}
-use borrow.Author.Tests.{eqb-true, eqb-false, eq-eqb, ne-eqb, lt-ltb, le-ltb}
-use Rattle.base.specs.Truth.{dec, clash, lt-or-ge, and-l, and-r, and-i, not-f, not-t, t-not}
+use borrow.Author.Tests.{eqb-true, eqb-false, eq-eqb, ne-eqb, lt-ltb, le-ltb, not-true}
+use Rattle.base.specs.Truth.{dec, clash, lt-or-ge, and-l, and-r, and-i, not-t, t-not}
 use Rattle.base.specs.Range.{any, any→, not-any}
 use Rattle.events.specs.Bit.{bit, bit≤1, bit-or, bit-one, bit-other, bits-ext, bit-high, bit-top, bit-below, Within, Apart, within-and, and-within, apart-and, and-apart, common, meet}
 
@@ -75,7 +75,7 @@ inside-missing X Y t = pick (dec (any f X))
 
     pick : (any f X ≡ true) ⊎ (any f X ≡ false) → (i : ℕ) × (bit X i ≡ 1) × (bit Y i ≡ 0)
     pick (inl a) = let w = any→ f X a in
-        (w .0, has→ X (w .0) (and-l (has X (w .0)) (not (has Y (w .0))) (w .2)), has-not Y (w .0) (not-f (has Y (w .0)) (and-r (has X (w .0)) (not (has Y (w .0))) (w .2))))
+        (w .0, has→ X (w .0) (and-l (has X (w .0)) (not (has Y (w .0))) (w .2)), has-not Y (w .0) (not-true (has Y (w .0)) (and-r (has X (w .0)) (not (has Y (w .0))) (w .2))))
     pick (inr a) = absurd (inside-not X Y t within)
       where
         below : (i : ℕ) → i < X → bit X i ≤ bit Y i
@@ -95,7 +95,7 @@ inside-missing X Y t = pick (dec (any f X))
 
 pub meets→ : (X Y : ℕ) → meets X Y ≡ true → (i : ℕ) × (bit X i ≡ 1) × (bit Y i ≡ 1)
 unfolding meets
-meets→ X Y t = common X Y (eqb-false (bitAnd X Y) 0 (not-f (eqb (bitAnd X Y) 0) t))
+meets→ X Y t = common X Y (eqb-false (bitAnd X Y) 0 (not-true (eqb (bitAnd X Y) 0) t))
 
 pub meets← : (X Y i : ℕ) → bit X i ≡ 1 → bit Y i ≡ 1 → meets X Y ≡ true
 unfolding meets

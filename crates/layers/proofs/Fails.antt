@@ -72,7 +72,7 @@ module _ (to : Bool) (mine theirs : List Row) (p q e : ℕ) (np : p ≤ 32) (nq 
   theirs-step m i l k = flat-holds theirs m i (omega arith) (omega arith) ∙ rw (lt-ltb m q l, lt-ltb i e k)
 
   -- event i leads from the pair (n, m) of a layer to the pair (x, y)
-  record Leads (l : List ℕ) (x y : ℕ) : Type 0 where
+  record LeadsToBad (l : List ℕ) (x y : ℕ) : Type 0 where
     pub n : ℕ
     pub m : ℕ
     pub i : ℕ
@@ -108,13 +108,13 @@ module _ (to : Bool) (mine theirs : List Row) (p q e : ℕ) (np : p ≤ 32) (nq 
       there : has (leadsInto T m i) (step Q m i) ≡ true
       there = into-is D q m i (step Q m i) (omega arith) (omega arith) ∙ and-i (and-i (lt-ltb m q b) inside) (eq-eqb (leadsTo D m i) (step Q m i) (theirs-step m i b c))
 
-  next→ : (l : List ℕ) (x y : ℕ) → at (next M T p e l p) x y ≡ true → Leads l x y
+  next→ : (l : List ℕ) (x y : ℕ) → at (next M T p e l p) x y ≡ true → LeadsToBad l x y
   next→ l x y t =
       let n = any→ (λ u. any (moves M T p np u (getD l u 0) x y) e) p (sym (next-has M T p np e l p x y) ∙ t) in
       let i = any→ (moves M T p np (n .0) (getD l (n .0) 0) x y) e (n .2) in
       go (n .0) (i .0) (n .1) (i .1) (i .2)
     where
-      go : (n i : ℕ) → n < p → i < e → moves M T p np n (getD l n 0) x y i ≡ true → Leads l x y
+      go : (n i : ℕ) → n < p → i < e → moves M T p np n (getD l n 0) x y i ≡ true → LeadsToBad l x y
       go n i a b s =
           let j = leadsTo M n i in
           let c : (ltb j p && eqb j x) ≡ true = and-l (ltb j p && eqb j x) (has (image T i (getD l n 0) 32) y) s in

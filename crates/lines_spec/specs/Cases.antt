@@ -11,12 +11,12 @@ use Rattle.events.specs.Bit.{bit, setOf}
 use Rattle.events.specs.Sets.{has, inside, meets}
 use Rattle.walks.specs.Graph.{walk}
 use Rattle.walks.specs.Reach.{nearer, leads}
-use Rattle.walks.specs.Near.{meets as meetsIn, distance, later, choice, leastFrom, leastTrace}
+use Rattle.walks.specs.Near.{meetsIn, distance, later, choice, leastFrom, leastTrace}
 use Rattle.walks.specs.Cleared.{cleared}
 use Rattle.walks.specs.Product.{code, pairNext, product}
 use Rattle.walks.specs.Pairs.{onCodes, pairDistance, pairTrace, pairCleared}
 use Rattle.sheet_spec.specs.Kept.{successor, acceptance, acceptances, initials, step}
-use Rattle.sheet_spec.specs.Rules.{rangesOk, countOk, countsOk, successorOk, rowSuccessorsOk, successorsOk, ascends, apart, setOk, rowSetsOk, setsOk, blank, unusedOk, blanksOk, reachedOk, sheetFault}
+use Rattle.sheet_spec.specs.Rules.{rangesOk, countOk, countsOk, successorOk, rowSuccessorsOk, successorsOk, ascends, noneInside, setOk, rowSetsOk, setsOk, blank, unusedOk, blanksOk, reachedOk, sheetFault}
 use Rattle.sheet_spec.specs.Reading.{lengthField, headFault, nextAt, layoutFault, startOf, succOf, setsOf, rowAt, rowOf, sheetOf, graphFault, bytesFault, answer, readSheet}
 use Rattle.sheet_spec.specs.Examples.{onlyZero, onlyOne, mayLoop, stopped}
 use Rattle.refinement_spec.specs.PairTests.{strays, hasStray, firstStray, covers, hasRefusal, violates, violating}
@@ -64,7 +64,7 @@ texts =
 
 -- one equation has them all
 pub texts-hold : map compareText inputs ≡ texts
-unfolding inputs texts onlyZero onlyOne mayLoop stopped compareText pairText cutInput inputLines firstSheet secondSheet firstEnd lengthField sheetsLines deviceLines comparedLines workList traceList outcomeLines numberLine sheetLine violatesLine eventList traceLine refusedProbeLine decimal decimalIn readSheet answer bytesFault headFault layoutFault nextAt startOf succOf setsOf rowAt rowOf sheetOf graphFault rangesOk countOk countsOk successorOk rowSuccessorsOk successorsOk ascends apart setOk rowSetsOk setsOk blank unusedOk blanksOk reachedOk sheetFault successor acceptance acceptances initials step bit setOf has inside meets nearer leads walk all any first upTo count outcomeOf traceAfter compareFault comparisonOf named refusalNamed lastRow clearedOf nearestTrace nearest pairs pairDistance pairTrace pairCleared onCodes product pairNext code cleared meetsIn distance later choice leastFrom leastTrace strays hasStray firstStray covers hasRefusal violates violating
+unfolding inputs texts onlyZero onlyOne mayLoop stopped compareText pairText cutInput inputLines firstSheet secondSheet firstEnd lengthField sheetsLines deviceLines comparedLines workList traceList outcomeLines numberLine sheetLine violatesLine eventList traceLine refusedProbeLine decimal decimalIn readSheet answer bytesFault headFault layoutFault nextAt startOf succOf setsOf rowAt rowOf sheetOf graphFault rangesOk countOk countsOk successorOk rowSuccessorsOk successorsOk ascends noneInside setOk rowSetsOk setsOk blank unusedOk blanksOk reachedOk sheetFault successor acceptance acceptances initials step bit setOf has inside meets nearer leads walk all any first upTo count outcomeOf traceAfter compareFault comparisonOf named refusalNamed lastRow clearedOf nearestTrace nearest pairs pairDistance pairTrace pairCleared onCodes product pairNext code cleared meetsIn distance later choice leastFrom leastTrace strays hasStray firstStray covers hasRefusal violates violating
 texts-hold = refl
 
 -- the lines of an outcome that names a refused probe

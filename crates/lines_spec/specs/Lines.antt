@@ -2,7 +2,7 @@
 use mathlib.Core.List.{List, _++_}
 use Prim.Native.Nat.{ℕ}
 use lib.ListN.{take}
-use Rattle.text_spec.specs.Lines.{ascii, decimal, numberLine, eventList, numbersText}
+use Rattle.text_spec.specs.Lines.{ascii, numberLine, eventList, numbersText}
 use Rattle.comparison_spec.specs.declared.Outcome.{Outcome}
 use Rattle.comparison_spec.specs.declared.Outcome.the-variants.{Refines, Stray, Refusal, Denied}
 

@@ -1,4 +1,4 @@
--- Texts of `show`: one for each kind of line, and each refusal.
+-- Texts of `show`, one for each kind of line and each refusal; lines of `probe_list`.
 use mathlib.Core.Path.{_≡_, refl}
 use mathlib.Core.List.{List, [], _∷_, map}
 use Prim.Native.Nat.{ℕ}
@@ -9,7 +9,7 @@ use Rattle.events.specs.Sets.{has, inside}
 use Rattle.walks.specs.Graph.{walk}
 use Rattle.walks.specs.Reach.{nearer, leads}
 use Rattle.sheet_spec.specs.Kept.{successor, acceptance, acceptances, initials, mayStop, step}
-use Rattle.sheet_spec.specs.Rules.{rangesOk, countOk, successorOk, rowSuccessorsOk, successorsOk, ascends, apart, setOk, rowSetsOk, setsOk, reachedOk}
+use Rattle.sheet_spec.specs.Rules.{rangesOk, countOk, successorOk, rowSuccessorsOk, successorsOk, ascends, noneInside, setOk, rowSetsOk, setsOk, reachedOk}
 use Rattle.sheet_spec.specs.Reading.{lengthField, headFault, nextAt, layoutFault, startOf, succOf, setsOf, rowAt, rowOf, sheetOf, graphFault, bytesFault, answer, readSheet}
 use Rattle.text_spec.specs.Lines.{ascii, decimalIn, decimal, numberLine, sheetLine, eventList}
 use Rattle.text_spec.specs.Sets.{eventsIn, members, setWords}
@@ -58,7 +58,7 @@ texts =
 
 -- one equation has them all
 pub texts-hold : map showText inputs ≡ texts
-unfolding inputs texts threeNodes showText cutInput showLines nodeLines rowLines restLines acceptanceLine acceptsLine successorLine eventLine headLine refusedSheetLine refusalWords joined numberLine sheetLine setWords members eventsIn eventList decimal decimalIn readSheet answer bytesFault headFault lengthField layoutFault nextAt startOf succOf setsOf rowAt rowOf sheetOf graphFault rangesOk countOk successorOk rowSuccessorsOk successorsOk ascends apart setOk rowSetsOk setsOk reachedOk successor acceptance acceptances initials mayStop step bit setOf has inside nearer leads walk all any upTo
+unfolding inputs texts threeNodes showText cutInput showLines nodeLines rowLines restLines acceptanceLine acceptsLine successorLine eventLine headLine refusedSheetLine refusalWords joined numberLine sheetLine setWords members eventsIn eventList decimal decimalIn readSheet answer bytesFault headFault lengthField layoutFault nextAt startOf succOf setsOf rowAt rowOf sheetOf graphFault rangesOk countOk successorOk rowSuccessorsOk successorsOk ascends noneInside setOk rowSetsOk setsOk reachedOk successor acceptance acceptances initials mayStop step bit setOf has inside nearer leads walk all any upTo
 texts-hold = refl
 
 -- the lines of `probe_list` for a list of probes, a node that may stop, and a refusal

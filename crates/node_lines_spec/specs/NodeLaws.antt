@@ -52,8 +52,8 @@ module _ (s : Sheet) (v : ℕ) where
       rw (line-denied (λ z. absurd (omega (arith, e, z))), e)
 
   -- a node that may not stop has a probe
-  pub probes-some : sheetFault s ≡ 0 → v < s .n → mayStop (row s v) ≡ false → 0 < length (nodeProbes s v)
-  probes-some h l t = go (lt-or-ge 0 (length (nodeProbes s v)))
+  pub line-some : sheetFault s ≡ 0 → v < s .n → mayStop (row s v) ≡ false → 0 < length (nodeProbes s v)
+  line-some h l t = go (lt-or-ge 0 (length (nodeProbes s v)))
     where
       go : (0 < length (nodeProbes s v)) ⊎ (length (nodeProbes s v) ≤ 0) → 0 < length (nodeProbes s v)
       go (inl k) = k

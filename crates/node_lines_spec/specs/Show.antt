@@ -8,7 +8,7 @@ use Rattle.sheet_spec.specs.declared.Sheet.{Sheet}
 use Rattle.sheet_spec.specs.declared.ReadSheet.{ReadSheet}
 use Rattle.sheet_spec.specs.Kept.{row, successor, acceptance, mayStop}
 use Rattle.sheet_spec.specs.Reading.{readSheet}
-use Rattle.text_spec.specs.Lines.{ascii, decimal, numberLine, numbersText}
+use Rattle.text_spec.specs.Lines.{ascii, numberLine, numbersText}
 use Rattle.text_spec.specs.Sets.{setWords}
 use Rattle.text_spec.specs.Input.{cutInput}
 use Rattle.node_lines_spec.specs.Joined.{joined}

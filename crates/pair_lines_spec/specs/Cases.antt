@@ -8,7 +8,7 @@ use Rattle.events.specs.Bit.{bit, setOf}
 use Rattle.events.specs.Sets.{has, inside}
 use Rattle.walks.specs.Reach.{nearer, leads}
 use Rattle.sheet_spec.specs.Kept.{successor, acceptance, initials, step}
-use Rattle.sheet_spec.specs.Rules.{rangesOk, countOk, successorOk, rowSuccessorsOk, successorsOk, ascends, apart, setOk, rowSetsOk, setsOk, reachedOk}
+use Rattle.sheet_spec.specs.Rules.{rangesOk, countOk, successorOk, rowSuccessorsOk, successorsOk, ascends, noneInside, setOk, rowSetsOk, setsOk, reachedOk}
 use Rattle.sheet_spec.specs.Reading.{lengthField, headFault, nextAt, layoutFault, startOf, succOf, setsOf, rowAt, rowOf, sheetOf, graphFault, bytesFault, answer, readSheet}
 use Rattle.sheet_spec.specs.Examples.{exampleReference, exampleDevice}
 use Rattle.text_spec.specs.Lines.{ascii, decimalIn, decimal, numberLine, sheetLine}
@@ -33,5 +33,5 @@ texts =
 
 -- one equation has them all
 pub texts-hold : map (pairText nodeCounts) inputs ≡ texts
-unfolding inputs texts nodeCounts exampleReference exampleDevice pairText cutInput inputLines firstSheet secondSheet firstEnd lengthField sheetsLines deviceLines numberLine sheetLine decimal decimalIn readSheet answer bytesFault headFault layoutFault nextAt startOf succOf setsOf rowAt rowOf sheetOf graphFault rangesOk countOk successorOk rowSuccessorsOk successorsOk ascends apart setOk rowSetsOk setsOk reachedOk successor acceptance initials step bit setOf has inside nearer leads all any upTo
+unfolding inputs texts nodeCounts exampleReference exampleDevice pairText cutInput inputLines firstSheet secondSheet firstEnd lengthField sheetsLines deviceLines numberLine sheetLine decimal decimalIn readSheet answer bytesFault headFault layoutFault nextAt startOf succOf setsOf rowAt rowOf sheetOf graphFault rangesOk countOk successorOk rowSuccessorsOk successorsOk ascends noneInside setOk rowSetsOk setsOk reachedOk successor acceptance initials step bit setOf has inside nearer leads all any upTo
 texts-hold = refl

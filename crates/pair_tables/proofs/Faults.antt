@@ -31,10 +31,11 @@ some false true = refl
 some false false = refl
 
 module _ (to : Bool) (mine theirs : List Row) (q e : ℕ) where
-  -- the test fails at the pair (n, m): with events to go, and without
+  -- the test fails at the pair (n, m) with events to go ..
   abbrev pub early : ℕ → ℕ → Bool
   early n m = hasStray e (rowIn mine n) (rowIn theirs m) || (not to && (mayStop (rowIn theirs m) && not (mayStop (rowIn mine n))))
 
+  -- .. and without
   abbrev pub late : ℕ → ℕ → Bool
   late n m = violates to e (rowIn mine n) (rowIn theirs m)
 

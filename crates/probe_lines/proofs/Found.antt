@@ -20,7 +20,7 @@ use Rattle.probes_spec.specs.ListingLaws.{count-numbers, denied-numbers, list-0
 use Rattle.text_spec.specs.Adds.{Holds, Adds}
 use Rattle.text_spec.specs.AddsLaws.{adds-all}
 use Rattle.node_lines_spec.specs.Node.{probeSpace, deniedLine, nodeLine}
-use Rattle.node_lines_spec.specs.NodeLaws.{space-length, line-stop, line-probes, line-denied, probes-some}
+use Rattle.node_lines_spec.specs.NodeLaws.{space-length, line-stop, line-probes, line-denied, line-some}
 use Rattle.probe_lines.specs.Shapes.{foundLine}
 
 -- a count is no refusal
@@ -76,7 +76,7 @@ module _ (s : Sheet) (v : ℕ) where
     where
       go : sheetFault s ≡ 0 → v < s .n → (mayStop (row s v) ≡ true) ⊎ (mayStop (row s v) ≡ false) → foundLine v (nodeProbes s v) ≡ nodeLine s v
       go h l (inl t) = rw (eq-eqb (length (nodeProbes s v)) 0 (node-stop s h v l .1 t)) (sym (line-stop s v h l t))
-      go h l (inr t) = rw (ne-eqb (length (nodeProbes s v)) 0 (λ y. omega (arith, y, probes-some s v h l t))) (sym (line-probes s v h l t))
+      go h l (inr t) = rw (ne-eqb (length (nodeProbes s v)) 0 (λ y. omega (arith, y, line-some s v h l t))) (sym (line-probes s v h l t))
 
   found-is : (m : ℕ) (sets : List ℕ) → Count m ≡ listedOf s v probeSpace → sets ≡ listAfter s v probeSpace → foundLine v (take m sets) ≡ nodeLine s v
   found-is m sets e a = rw (a, front-is m e) (found-probes (count-clear m e))

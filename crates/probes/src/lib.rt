@@ -18,7 +18,7 @@ pub fn fill(sets: [u16; 16], c: usize, e: usize, out: &mut [u16]) -> usize
     requires { ⌜ (c ≤ 16) × (e ≤ 12) × (length (probes (take c sets) e) ≤ length (now out)) ⌝ }
     ensures { λ r. ⌜ (now (out .exit) ≡ front (now (out .entry)) (probes (take c sets) e)) × (r ≡ length (probes (take c sets) e)) ⌝ }
 {
-    let last = turns::rounds(e);
+    let last = turns::turns_of(e);
     let mut at: usize = 0;
     let mut x = turns::next_turn(sets, c, e, 0);
     while x < last {
@@ -74,7 +74,7 @@ pub fn first_missed(sets: [u16; 16], c: usize, e: usize, device: [u16; 16], d: u
     requires { ⌜ (c ≤ 16) × (e ≤ 12) × (d ≤ 16) ⌝ }
     ensures { λ r. ⌜ r ≡ firstMissed (take c sets) e (take d device) ⌝ }
 {
-    let end = turns::rounds(e);
+    let end = turns::turns_of(e);
     let mut probe: u16 = 0;
     let mut acceptance: u16 = 0;
     let mut missed = false;

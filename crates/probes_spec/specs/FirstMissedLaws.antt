@@ -13,7 +13,7 @@ use Rattle.events.specs.Bit.{Within, Apart}
 use Rattle.events.specs.Sets.{inside, meets, inside→, inside←, meets-not, meets-apart}
 use Rattle.probes_spec.specs.declared.Missed.{Missed}
 use Rattle.probes_spec.specs.declared.Missed.the-variants.{Nothing, Found}
-use Rattle.probes_spec.specs.Probes.{probes, Probe, Narrow}
+use Rattle.probes_spec.specs.Probes.{probes, Narrow}
 use Rattle.probes_spec.specs.ProbeLaws.{probe-at, probe-listed, missed→, missed←}
 use Rattle.probes_spec.specs.FirstMissed.{missing, orNext, firstMissing, firstMissed, NoneMissed, MissedFirst}
 
@@ -134,24 +134,6 @@ missed-found accs e dev p a = ((λ q. subst (Says (probes accs e) dev) q (says (
     go : MissedFirst (probes accs e) dev p a → (m : Missed) → firstMissing (probes accs e) dev ≡ m → Says (probes accs e) dev m → firstMissing (probes accs e) dev ≡ Found p a
     go h Nothing q s = absurd (none-or-first (probes accs e) dev p a s h)
     go h (Found r b) q s = let w = missed-once (probes accs e) dev r b p a s h in rw (q, w .0, w .1)
-
--- what is named is a probe
-pub missed-probe : (accs : List ℕ) (e : ℕ) (dev : List ℕ) (p a : ℕ) → firstMissed accs e dev ≡ Found p a → Probe accs p
-missed-probe accs e dev p a q = let m = missed-found accs e dev p a .0 q in rw (← m .probe) (probe-at accs e (m .place) (m .place-in))
-
--- and where the device's acceptances ascend, the lowest of those that miss it
-pub missed-lowest : (accs : List ℕ) (e : ℕ) (dev : List ℕ) (p a : ℕ) → firstMissed accs e dev ≡ Found p a
-    → ((j k : ℕ) → j < k → k < length dev → getD dev j 0 < getD dev k 0)
-    → (j : ℕ) → j < length dev → Apart p (getD dev j 0) → a ≤ getD dev j 0
-missed-lowest accs e dev p a q up j l z = go (lt-or-ge j (m .spot)) (lt-or-ge (m .spot) j)
-  where
-    m : MissedFirst (probes accs e) dev p a
-    m = missed-found accs e dev p a .0 q
-
-    go : (j < m .spot) ⊎ (m .spot ≤ j) → (m .spot < j) ⊎ (j ≤ m .spot) → a ≤ getD dev j 0
-    go (inl h) k = absurd (m .lower j h z)
-    go (inr h) (inl k) = omega (arith, up (m .spot) j k l, m .acceptance)
-    go (inr h) (inr k) = let s : m .spot ≡ j = omega arith in omega (arith, m .acceptance, ap (λ (i : ℕ). getD dev i 0) s)
 
 -- every device acceptance includes a reference acceptance exactly if nothing is named (Lemma 4 over the two lists)
 pub missed-none : (accs : List ℕ) (e : ℕ) → Narrow accs e → (dev : List ℕ)

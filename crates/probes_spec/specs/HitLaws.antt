@@ -11,7 +11,8 @@ use native.Mathlib.Decide.{ℕ-discrete}
 use lib.Bits.{bitAnd}
 use lib.ListN.{length, getD}
 use lib.Pow.{pow-pos}
-use Rattle.base.specs.Truth.{dec, clash, and-l, and-r, and-i, not-i, not-t, not-f}
+use borrow.Author.Tests.{not-true}
+use Rattle.base.specs.Truth.{dec, clash, and-l, and-r, and-i, not-i, not-t}
 use Rattle.base.specs.Range.{all→, all←, not-all, least}
 use Rattle.events.specs.Bit.{bit, bit≤1, bit-and, bit-one, bit-other, bit-drop, bit-keep, bit-le, bits-ext, Within, Apart, within-le, within-antisym}
 use Rattle.events.specs.Sets.{inside, meets, inside→, inside←, meets→, meets←, meets-not}
@@ -38,7 +39,7 @@ module _ (accs : List ℕ) where
     where
       go : (Y : ℕ) → Within Y X → Hits accs Y → (Y ≡ X) ⊎ (Y < X) → Y ≡ X
       go Y w h (inl e) = e
-      go Y w h (inr l) = absurd (clash (and-i (inside← Y X w) (hits← Y h)) (not-f _ (all→ (λ y. not (inside y X && hits accs y)) X Y (and-r (hits accs X) _ t) l)))
+      go Y w h (inr l) = absurd (clash (and-i (inside← Y X w) (hits← Y h)) (not-true _ (all→ (λ y. not (inside y X && hits accs y)) X Y (and-r (hits accs X) _ t) l)))
 
   pub isProbe← : (X : ℕ) → Probe accs X → isProbe accs X ≡ true
   unfolding isProbe

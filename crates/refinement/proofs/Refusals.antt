@@ -8,7 +8,8 @@ use Prim.Native.Nat.{ℕ, _<_}
 use native.Mathlib.Omega.{arith}
 use mir.Val.{Val}
 use denote.Laws.{Is}
-use Rattle.base.specs.Truth.{dec, clash, not-i, not-t, not-f, t-not}
+use borrow.Author.Tests.{not-true}
+use Rattle.base.specs.Truth.{dec, clash, not-i, not-t, t-not}
 use Rattle.base.specs.Range.{any→, any←}
 use Rattle.events.specs.Bit.{bits-zero}
 use Rattle.events.specs.Sets.{inside, inside→, inside←}
@@ -47,7 +48,7 @@ module _ (r q : Row) where
   -- where the reference covers the empty set, nothing is refused
   covered : covers r 0 ≡ true → hasRefusal r q ≡ false
   unfolding hasRefusal
-  covered t = not-i (λ h. let w = any→ (λ j. not (covers r (acceptance q j))) (q .c) h in clash (covers-all r t (acceptance q (w .0))) (not-f _ (w .2)))
+  covered t = not-i (λ h. let w = any→ (λ j. not (covers r (acceptance q j))) (q .c) h in clash (covers-all r t (acceptance q (w .0))) (not-true _ (w .2)))
 
   -- a reference of more than 16 sets
   pub reference-over : (vs : List Val) → Is R.the-row r vs → 16 < r .c → false ≡ hasRefusal r q

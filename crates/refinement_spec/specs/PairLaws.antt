@@ -7,8 +7,8 @@ use Prim.Native.Nat.{ℕ, zero, suc, _+_, _-_, _/_, _^_, _≤_, _<_}
 use native.Mathlib.Omega.{arith}
 use lib.Bits.{and-step, and-le-r}
 use lib.Pow.{pow-pos}
-use borrow.Author.Tests.{eqb-false, ne-eqb}
-use Rattle.base.specs.Truth.{dec, clash, lt-or-ge, and-l, and-r, and-i, or-e, or-l, or-r, not-i, not-t, not-f, f-not}
+use borrow.Author.Tests.{eqb-false, ne-eqb, not-true, not-false}
+use Rattle.base.specs.Truth.{dec, clash, lt-or-ge, and-l, and-r, and-i, or-e, or-l, or-r, not-i, not-t}
 use Rattle.base.specs.Range.{any→, any←, not-any, first, first-at, first-before, first-le}
 use Rattle.events.specs.Bit.{bit, bit·zero, bit·suc, bit≤1, bits-zero, some-bit, bit-rest, bit-high, Within, Apart}
 use Rattle.events.specs.Sets.{has, has→, has←, has-not, inside→, inside←}
@@ -62,7 +62,7 @@ module _ (e : ℕ) (r q : Row) (small : e ≤ 12) where
     where
       forth : hasStray e r q ≡ true → (i : ℕ) × Initial e q i × (¬ Initial e r i)
       forth t =
-          let w = some-bit (strays (initials e r) (initials e q)) (eqb-false _ 0 (not-f _ t)) in
+          let w = some-bit (strays (initials e r) (initials e q)) (eqb-false _ 0 (not-true _ t)) in
           let h = stray-event (w .0) .0 (w .1) in
           (w .0, h .0, h .1)
 
@@ -113,7 +113,7 @@ refusal-means r q = (forth, back)
     forth : hasRefusal r q ≡ true → (j : ℕ) × (j < q .c) × ((l : ℕ) → l < r .c → ¬ Within (acceptance r l) (acceptance q j))
     forth t =
         let w = any→ _ (q .c) t in
-        (w .0, w .1, λ l h i. clash (covers-means r (acceptance q (w .0)) .1 (l, h, i)) (not-f _ (w .2)))
+        (w .0, w .1, λ l h i. clash (covers-means r (acceptance q (w .0)) .1 (l, h, i)) (not-true _ (w .2)))
 
     back : (j : ℕ) × (j < q .c) × ((l : ℕ) → l < r .c → ¬ Within (acceptance r l) (acceptance q j))
         → hasRefusal r q ≡ true
@@ -123,7 +123,7 @@ refusal-means r q = (forth, back)
 -- where there is no refusal, every acceptance of the device includes one of the reference's
 pub no-refusal : (r q : Row) → hasRefusal r q ≡ false → (j : ℕ) → j < q .c → (l : ℕ) × (l < r .c) × Within (acceptance r l) (acceptance q j)
 unfolding hasRefusal
-no-refusal r q t j h = covers-means r (acceptance q j) .0 (f-not _ (not-any _ (q .c) j t h))
+no-refusal r q t j h = covers-means r (acceptance q j) .0 (not-false _ (not-any _ (q .c) j t h))
 
 -- where there is no refusal, the reference may refuse whatever the device may
 pub no-refusal-refuses : (r q : Row) → hasRefusal r q ≡ false → (X : ℕ) → MayRefuse q X → MayRefuse r X
@@ -177,7 +177,7 @@ violates-means to e r q = (forth, back)
       where
         go : (hasStray e r q ≡ true) ⊎ ((not to && hasRefusal r q) ≡ true) → (hasStray e r q ≡ true) ⊎ ((to ≡ false) × (hasRefusal r q ≡ true))
         go (inl s) = inl s
-        go (inr s) = inr (not-f to (and-l (not to) (hasRefusal r q) s), and-r (not to) (hasRefusal r q) s)
+        go (inr s) = inr (not-true to (and-l (not to) (hasRefusal r q) s), and-r (not to) (hasRefusal r q) s)
 
     back : (hasStray e r q ≡ true) ⊎ ((to ≡ false) × (hasRefusal r q ≡ true)) → violates to e r q ≡ true
     back (inl s) = or-l (not to && hasRefusal r q) s

@@ -8,7 +8,7 @@ use Rattle.events.specs.Bit.{bit, setOf}
 use Rattle.events.specs.Sets.{has, inside}
 use Rattle.walks.specs.Reach.{nearer, leads}
 use Rattle.sheet_spec.specs.Kept.{successor, acceptance, initials, step}
-use Rattle.sheet_spec.specs.Rules.{rangesOk, countOk, countsOk, successorOk, rowSuccessorsOk, successorsOk, ascends, apart, setOk, rowSetsOk, setsOk, blank, unusedOk, blanksOk, reachedOk, sheetFault}
+use Rattle.sheet_spec.specs.Rules.{rangesOk, countOk, countsOk, successorOk, rowSuccessorsOk, successorsOk, ascends, noneInside, setOk, rowSetsOk, setsOk, blank, unusedOk, blanksOk, reachedOk, sheetFault}
 use Rattle.sheet_spec.specs.Reading.{lengthField, headFault, nextAt, layoutFault, startOf, succOf, setsOf, rowAt, rowOf, sheetOf, graphFault, bytesFault, answer, readSheet}
 use Rattle.sheet_spec.specs.Examples.{exampleReference, exampleDevice, onlyZero, onlyOne, mayLoop, mustLoop, stopped}
 use Rattle.run_samples.specs.Samples.{leadsToEnd, smallBytes, sixteenPairs, sixteenOthers, fourTriples, leadsBack, loopsOnBoth, sampleBytes, sampleOf, withNode, withCount, withRow, changedTo}
@@ -26,5 +26,5 @@ pub samples-hold :
     (faults ≡ 0 ∷ 0 ∷ 0 ∷ 0 ∷ 0 ∷ 0 ∷ 0 ∷ 0 ∷ 0 ∷ 0 ∷ 0 ∷ 0 ∷ 0 ∷ 3 ∷ 3 ∷ [])
     × (changedFaults 1 ≡ 0 ∷ 3 ∷ 5 ∷ 6 ∷ 7 ∷ 8 ∷ [])
     × (changedFaults 2 ≡ 0 ∷ 3 ∷ 5 ∷ 6 ∷ 7 ∷ 8 ∷ [])
-unfolding faults changedFaults changedTo withNode withCount withRow sampleOf sampleBytes smallBytes leadsToEnd sixteenPairs sixteenOthers fourTriples leadsBack loopsOnBoth exampleReference exampleDevice onlyZero onlyOne mayLoop mustLoop stopped readSheet answer bytesFault headFault lengthField layoutFault nextAt startOf succOf setsOf rowAt rowOf sheetOf graphFault rangesOk countOk countsOk successorOk rowSuccessorsOk successorsOk ascends apart setOk rowSetsOk setsOk blank unusedOk blanksOk reachedOk sheetFault successor acceptance initials step bit setOf has inside nearer leads all any upTo
+unfolding faults changedFaults changedTo withNode withCount withRow sampleOf sampleBytes smallBytes leadsToEnd sixteenPairs sixteenOthers fourTriples leadsBack loopsOnBoth exampleReference exampleDevice onlyZero onlyOne mayLoop mustLoop stopped readSheet answer bytesFault headFault lengthField layoutFault nextAt startOf succOf setsOf rowAt rowOf sheetOf graphFault rangesOk countOk countsOk successorOk rowSuccessorsOk successorsOk ascends noneInside setOk rowSetsOk setsOk blank unusedOk blanksOk reachedOk sheetFault successor acceptance initials step bit setOf has inside nearer leads all any upTo
 samples-hold = (refl, refl, refl)

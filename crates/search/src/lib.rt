@@ -11,7 +11,7 @@ use queue::Stop;
 use search_spec::Found;
 
 // The distance of the pair of an entry.
-fn depth_at(work: &[u16], n: usize, place: usize) -> usize
+fn entry_dist(work: &[u16], n: usize, place: usize) -> usize
     requires { ⌜ (n ≤ 1024) × (3 * n ≤ length (now work)) × (place < n) × (nodeAt (now work) place < n) ⌝ }
     ensures { λ r. ⌜ r ≡ distAt n (now (work .entry)) (nodeAt (now (work .entry)) place) ⌝ }
 {
@@ -26,7 +26,7 @@ fn level_start(work: &[u16], n: usize, head: usize, d: usize) -> usize
 {
     let mut x = 0;
     while x < head {
-        let near = depth_at(work, n, x);
+        let near = entry_dist(work, n, x);
         if d <= near {
             return x;
         }

@@ -8,7 +8,7 @@ use lib.ListN.{replicate}
 use Rattle.base.specs.Range.{any, first}
 use Rattle.base.specs.Count.{count}
 use Rattle.walks.specs.Graph.{walk}
-use Rattle.walks.specs.Near.{meets, distance, later, choice, leastFrom, leastTrace}
+use Rattle.walks.specs.Near.{meetsIn, distance, later, choice, leastFrom, leastTrace}
 use Rattle.walks.specs.Reach.{leads, nearer}
 use Rattle.walks.specs.Cleared.{cleared}
 use Rattle.walks.specs.Product.{code, pairNext, product}
@@ -54,14 +54,14 @@ trace bad = traceFound (tableGraph left 2 2) (tableGraph right 3 2) (badIn bad 3
 
 -- at distance 5 with five pairs nearer; at distance 1 with the start nearer; none of six
 answers : found last ∷ found near ∷ found none ∷ [] ≡ Bad 5 1 2 5 ∷ Bad 1 1 1 1 ∷ Clear 6 ∷ []
-unfolding found foundOf pairDistance pairTrace pairCleared onCodes product pairNext code distance meets leastTrace leastFrom choice later cleared nearer leads
+unfolding found foundOf pairDistance pairTrace pairCleared onCodes product pairNext code distance meetsIn leastTrace leastFrom choice later cleared nearer leads
     any first count walk tableGraph tableNext badIn left right row last near none
 answers = refl
 
 -- the least trace in front, the rest untouched; untouched if no bad pair is reached
 traces : trace last ∷ trace near ∷ trace none ∷ []
     ≡ (0 ∷ 0 ∷ 0 ∷ 0 ∷ 0 ∷ 9 ∷ []) ∷ (0 ∷ 9 ∷ 9 ∷ 9 ∷ 9 ∷ 9 ∷ []) ∷ replicate 6 9 ∷ []
-unfolding trace traceFound pairDistance pairTrace onCodes product pairNext code distance meets leastTrace leastFrom choice later
+unfolding trace traceFound pairDistance pairTrace onCodes product pairNext code distance meetsIn leastTrace leastFrom choice later
     any first tableGraph tableNext badIn left right row last near none
 traces = refl
 

@@ -20,7 +20,7 @@ use Rattle.walks.specs.Pigeon.{Twice, pigeonhole}
 use Rattle.walks.specs.Bound.{bound}
 use Rattle.walks.specs.Reach.{ReachedBefore}
 use Rattle.walks.specs.Order.{rank, rankFrom, rank-snoc, rank-length, rank-lex←}
-use Rattle.walks.specs.Near.{Leads, distance, distance≤, distance<, distance→, distance-le, leastTrace, leastTrace-unique}
+use Rattle.walks.specs.Near.{LeadsToBad, distance, distance≤, distance<, distance→, distance-le, leastTrace, leastTrace-unique}
 use Rattle.walks.specs.Cleared.{cleared, cleared-listed}
 
 -- Entry x was made from entry j by event i.
@@ -266,7 +266,7 @@ module _ {g : Graph} (w : WellFormed g) (N K D : ℕ → ℕ) (head tail : ℕ) 
         go (inr l) = omega (arith, distance-le g bad)
         go (inl l) = let t = distance→ g bad w l in absurd (no (t .0) (t .2))
           where
-            no : (t : List ℕ) → Leads g bad 0 t → ⊥
+            no : (t : List ℕ) → LeadsToBad g bad 0 t → ⊥
             no t l = pick (known t (l .inside))
               where
                 pick : Known t → ⊥
@@ -275,7 +275,7 @@ module _ {g : Graph} (w : WellFormed g) (N K D : ℕ → ℕ) (head tail : ℕ) 
 
     module _ (h : head < tail) (hit : bad (N head) ≡ true) where
       -- no list to a bad node comes before the trace of the first bad entry
-      foremost : (t : List ℕ) → Leads g bad 0 t → rank 12 (P head) ≤ rank 12 t
+      foremost : (t : List ℕ) → LeadsToBad g bad 0 t → rank 12 (P head) ≤ rank 12 t
       unfolding Known
       foremost t l = go (known t (l .inside))
         where
@@ -294,7 +294,7 @@ module _ {g : Graph} (w : WellFormed g) (N K D : ℕ → ℕ) (head tail : ℕ) 
               pick (inl k) = absurd (clash (l .ends) (rw b at (good y k)))
               pick (inr k) = later y k a c
 
-      leads : Leads g bad 0 (P head)
+      leads : LeadsToBad g bad 0 (P head)
       unfolding P
       leads = record { inside = path-trace head h; ends = rw (path-walk head h) hit }
 

@@ -11,7 +11,7 @@ use borrow.Author.Tests.{le-ltb}
 use Rattle.base.specs.Range.{all-stop}
 use Rattle.sheet_spec.specs.declared.Row.{Row}
 use Rattle.sheet_spec.specs.Kept.{acceptance, initials}
-use Rattle.sheet_spec.specs.Rules.{ascends, apart, setOk, rowSetsOk}
+use Rattle.sheet_spec.specs.Rules.{ascends, noneInside, setOk, rowSetsOk}
 use Rattle.sheet_spec.proofs.Row as R
 use Rattle.rows.proofs.Shape.{set-out}
 use Rattle.set_rules.specs.Shapes.{setsAlone}
@@ -21,7 +21,7 @@ unfolding acceptance setsAlone
 set-alone l j = refl
 
 pub sets-alone : (i : ℕ) (r : Row) (j : ℕ) → setOk i (setsAlone (r .sets)) j ≡ setOk i r j
-unfolding setOk ascends apart acceptance setsAlone
+unfolding setOk ascends noneInside acceptance setsAlone
 sets-alone i r j = refl
 
 module _ (r : Row) (vs : List Val) (p : Is R.the-row r vs) where

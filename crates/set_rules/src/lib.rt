@@ -1,7 +1,7 @@
 // The sets of one row: rule 7 of them (01), each against those before it and the row's initials.
 ghost use mathlib.Core.Path.{_≡_};
 ghost use Prim.Native.Nat.{_<_};
-ghost use Rattle.sheet_spec.specs.Rules.{ascends, apart, setOk, rowSetsOk};
+ghost use Rattle.sheet_spec.specs.Rules.{ascends, noneInside, setOk, rowSetsOk};
 ghost use Rattle.set_rules.specs.Shapes.{setsAlone};
 use sheet_spec::Row;
 
@@ -19,7 +19,7 @@ fn is_ascending(sets: &[u16; 16], j: usize) -> bool
 // 7: whether no set before place j is included in the one there.
 fn is_apart(sets: &[u16; 16], j: usize) -> bool
     requires { ⌜ j < 16 ⌝ }
-    ensures { λ r. ⌜ r ≡ apart (setsAlone (now (sets .entry))) j ⌝ }
+    ensures { λ r. ⌜ r ≡ noneInside (setsAlone (now (sets .entry))) j ⌝ }
 {
     let y = sets[j];
     for k in 0..j {

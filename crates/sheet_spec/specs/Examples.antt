@@ -43,6 +43,6 @@ stopped = 0 ∷ 0 ∷ 0 ∷ 7 ∷ 1 ∷ 1 ∷ 1 ∷ 255 ∷ 1 ∷ 0 ∷ 0 ∷ []
 unfoldable pub caseSheets : List (List ℕ)
 caseSheets = exampleReference ∷ exampleDevice ∷ onlyZero ∷ onlyOne ∷ mayLoop ∷ mustLoop ∷ stopped ∷ []
 
--- the sheet that bytes spell
+-- the sheet that is read of bytes, all 0 if they are refused
 unfoldable pub sheet : List ℕ → Sheet
 sheet b = readSheet b .sheet

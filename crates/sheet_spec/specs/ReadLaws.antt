@@ -54,12 +54,12 @@ module _ (b : List ℕ) where
   at v = startOf b (eventsOf b) v
 
   -- all nodes are whole, and the last ends the bytes
-  abbrev pub Fits : Type 0
-  Fits = WholeBefore b (nodesOf b) × (startOf b (eventsOf b) (nodesOf b) ≡ length b)
+  abbrev pub LaidOut : Type 0
+  LaidOut = WholeBefore b (nodesOf b) × (startOf b (eventsOf b) (nodesOf b) ≡ length b)
 
   -- a number and the reason for it
   abbrev Reason : ℕ → Type 0
-  Reason m = ((m ≡ 4) × CutFault b) ⊎ (((m ≡ 5) × BytesCountFault b) ⊎ ((m ≡ 0) × Fits))
+  Reason m = ((m ≡ 4) × CutFault b) ⊎ (((m ≡ 5) × BytesCountFault b) ⊎ ((m ≡ 0) × LaidOut))
 
   at-next : (v : ℕ) → at (suc v) ≡ nextAt b (eventsOf b) (at v)
   unfolding startOf
@@ -130,11 +130,11 @@ module _ (b : List ℕ) where
       go (inr p) (inl q) = ends-whole v c (w v q)
       go (inr p) (inr q) = meet (omega arith) c
 
-  cut-or-fits : CutFault b → Fits → ⊥
+  cut-or-fits : CutFault b → LaidOut → ⊥
   cut-or-fits (inl (v, k, x, c)) f = ends-whole v c (f .0 v k)
   cut-or-fits (inr c) f = omega (arith, c .1, f .1)
 
-  count-or-fits : BytesCountFault b → Fits → ⊥
+  count-or-fits : BytesCountFault b → LaidOut → ⊥
   count-or-fits (u, l, w, h, bad) f = f .0 u l .1 bad
 
   module _ (some : 1 ≤ nodesOf b) where
@@ -151,7 +151,7 @@ module _ (b : List ℕ) where
     layout-0 : (layoutFault b (eventsOf b) (nodesOf b) nodesAt ≡ 0) ↔ ((¬ CutFault b) × (¬ BytesCountFault b))
     layout-0 = ((λ p. let f = only .0 p in ((λ c. cut-or-fits c f), λ c. count-or-fits c f)), λ n. none n why)
       where
-        only : (layoutFault b (eventsOf b) (nodesOf b) nodesAt ≡ 0) ↔ Fits
+        only : (layoutFault b (eventsOf b) (nodesOf b) nodesAt ≡ 0) ↔ LaidOut
         only = only-first (rotate (rotate why)) (λ p. omega arith) (λ p. omega arith) (λ x y. cut-or-fits y x) (λ x y. count-or-fits y x)
 
         none : (¬ CutFault b) × (¬ BytesCountFault b) → Reason (layoutFault b (eventsOf b) (nodesOf b) nodesAt) → layoutFault b (eventsOf b) (nodesOf b) nodesAt ≡ 0

@@ -7,8 +7,8 @@ use Prim.Native.Nat.{ℕ, zero, suc, _-_, _≤_, _<_}
 use native.Mathlib.Omega.{arith}
 use native.Mathlib.Nat.{eq-or-lt-of-le}
 use lib.Dec.{eqb, ltb, leb}
-use borrow.Author.Tests.{leb-true, ltb-true, lt-ltb, le-ltb, eqb-true, eqb-false, ne-eqb}
-use Rattle.base.specs.Truth.{dec, clash, and-l, and-r, not-f, lt-or-ge}
+use borrow.Author.Tests.{leb-true, ltb-true, lt-ltb, le-ltb, eqb-true, eqb-false, ne-eqb, not-true}
+use Rattle.base.specs.Truth.{dec, clash, and-l, and-r, lt-or-ge}
 use Rattle.base.specs.Range.{all, all→, not-all}
 use Rattle.base.specs.Finds.{Finds, finds-as, finds-le, finds-lt, finds-eq, finds-and, finds-or, finds-all, finds-not}
 use Rattle.events.specs.Bit.{bit, bit≤1, bits-zero, bit-high, setOf, setOf-lt, bit-setOf, Within, within-le}
@@ -18,7 +18,7 @@ use Rattle.walks.specs.Reach.{nearer, nearer-all}
 use Rattle.sheet_spec.specs.declared.Row.{Row}
 use Rattle.sheet_spec.specs.declared.Sheet.{Sheet}
 use Rattle.sheet_spec.specs.Kept.{row, successor, acceptance, initials, step, graph, Walk}
-use Rattle.sheet_spec.specs.Rules.{between, rangesOk, countOk, countsOk, successorOk, rowSuccessorsOk, successorsOk, ascends, apart, setOk, rowSetsOk, setsOk, blank, unusedOk, blanksOk, reachedOk}
+use Rattle.sheet_spec.specs.Rules.{between, rangesOk, countOk, countsOk, successorOk, rowSuccessorsOk, successorsOk, ascends, noneInside, setOk, rowSetsOk, setsOk, blank, unusedOk, blanksOk, reachedOk}
 use Rattle.sheet_spec.specs.Faults.{RangeFault, BadCount, CountFault, SuccessorFault, Initial, RowSetFault, descends, outside, includes, stops, SetFault, UnusedFault, event, place, node-successor, node-set, node-count, ReachFault}
 
 -- a number that passes the test lies between the two
@@ -70,7 +70,7 @@ module _ (e : ℕ) (r : Row) (small : e ≤ 12) where
       f i = ltb i e && not (eqb (successor r i) 255)
 
       at : (t : Bool) → f i ≡ t → bit (setOf f 12) i ≡ cond t 1 0 → Initial e r i
-      at true t q = (ltb-true i e (and-l (ltb i e) (not (eqb (successor r i) 255)) t), eqb-false (successor r i) 255 (not-f _ (and-r (ltb i e) _ t)))
+      at true t q = (ltb-true i e (and-l (ltb i e) (not (eqb (successor r i) 255)) t), eqb-false (successor r i) 255 (not-true _ (and-r (ltb i e) _ t)))
       at false t q = absurd (omega arith)
 
       go : (i < 12) ⊎ (12 ≤ i) → Initial e r i
@@ -96,7 +96,7 @@ module _ (e : ℕ) (r : Row) (small : e ≤ 12) where
       ⊎ ((k : ℕ) × (k < j) × Within (acceptance r k) (acceptance r j)))
 
   set-finds : (j : ℕ) → Finds (setOk (initials e r) r j) (SetBreaks j)
-  unfolding setOk ascends apart
+  unfolding setOk ascends noneInside
   set-finds j =
       finds-and (finds-or (finds-eq j 0) (finds-lt (acceptance r (j - 1)) (acceptance r j)))
       (finds-and inner (finds-all j (λ k h. finds-not (inside→ (acceptance r k) (acceptance r j)) (inside-not (acceptance r k) (acceptance r j)))))

@@ -44,12 +44,12 @@ unfoldable pub ascends : Row → ℕ → Bool
 ascends r j = eqb j 0 || ltb (acceptance r (j - 1)) (acceptance r j)
 
 -- 7: no set before place j is included in the one there (a later one is a greater number, so it cannot be)
-unfoldable pub apart : Row → ℕ → Bool
-apart r j = all (λ k. not (inside (acceptance r k) (acceptance r j))) j
+unfoldable pub noneInside : Row → ℕ → Bool
+noneInside r j = all (λ k. not (inside (acceptance r k) (acceptance r j))) j
 
 -- 7: the set at place j ascends, lies inside the initials, and includes none before it
 unfoldable pub setOk : ℕ → Row → ℕ → Bool
-setOk initial r j = ascends r j && (inside (acceptance r j) initial && apart r j)
+setOk initial r j = ascends r j && (inside (acceptance r j) initial && noneInside r j)
 
 -- 7: every set of a row does
 unfoldable pub rowSetsOk : ℕ → Row → Bool

@@ -56,7 +56,7 @@ module _ (e c : ℕ) (r : Row) (t : blank e c r ≡ true) where
       go (inr q) = eqb-true (acceptance r j) 0 q
 
 -- a row of a node in use: as long as the machine's, its C in range, its unused places blank
-record Fits (e : ℕ) (r : Row) : Type 0 where
+record RowFits (e : ℕ) (r : Row) : Type 0 where
   succs : length (r .succ) ≡ 12
   sets : length (r .sets) ≡ 16
   c-ok : countOk (r .c) ≡ true
@@ -82,7 +82,7 @@ sets-read b (x ∷ xs) post at h (suc j) k =
     rw e (sets-read b xs post (at + 2) (drop-tail b (x / 256 ∷ (x % 256 ∷ [])) (encodeSets xs ++ post) at 2 h refl) j (omega arith))
 
 -- a node that is written at a place
-module _ (b : List ℕ) (e at : ℕ) (r : Row) (post : List ℕ) (k : e ≤ 12) (f : Fits e r) (h : drop at b ≡ encodeRow e r ++ post) where
+module _ (b : List ℕ) (e at : ℕ) (r : Row) (post : List ℕ) (k : e ≤ 12) (f : RowFits e r) (h : drop at b ≡ encodeRow e r ++ post) where
   front : length (take e (r .succ)) ≡ e
   front = length-take-le e (r .succ) (omega (arith, f .succs))
 
@@ -148,7 +148,7 @@ module _ (b : List ℕ) (e at : ℕ) (r : Row) (post : List ℕ) (k : e ≤ 12) 
 
 -- every row of a list fits
 abbrev AllFit : ℕ → List Row → Type 0
-AllFit e rs = (j : ℕ) → j < length rs → Fits e (getD rs j noRow)
+AllFit e rs = (j : ℕ) → j < length rs → RowFits e (getD rs j noRow)
 
 -- nodes that are written from a place on
 module _ (b : List ℕ) (e : ℕ) (k : e ≤ 12) where
@@ -214,7 +214,7 @@ module _ (s : Sheet) (o : SheetForm s) (p : Passes s) where
   unfolding blanksOk
   unused-at v h = all→ (λ v. unusedOk (s .e) (s .n) v (row s v)) 32 v (p .p7u) h
 
-  fits : (v : ℕ) → v < s .n → Fits (s .e) (row s v)
+  fits : (v : ℕ) → v < s .n → RowFits (s .e) (row s v)
   unfolding countsOk countOk unusedOk
   fits v h =
       let m : v < 32 = omega (arith, small) in

@@ -8,7 +8,7 @@ use Rattle.events.specs.Bit.{bit, setOf}
 use Rattle.events.specs.Sets.{has, inside, meets}
 use Rattle.walks.specs.Reach.{nearer, leads}
 use Rattle.sheet_spec.specs.Kept.{successor, acceptance, acceptances, initials, mayStop, step}
-use Rattle.sheet_spec.specs.Rules.{rangesOk, countOk, countsOk, successorsOk, rowSuccessorsOk, successorOk, setsOk, rowSetsOk, setOk, ascends, apart, blank, unusedOk, blanksOk, reachedOk, sheetFault}
+use Rattle.sheet_spec.specs.Rules.{rangesOk, countOk, countsOk, successorsOk, rowSuccessorsOk, successorOk, setsOk, rowSetsOk, setOk, ascends, noneInside, blank, unusedOk, blanksOk, reachedOk, sheetFault}
 use Rattle.sheet_spec.specs.Reading.{readSheet, answer, bytesFault, headFault, lengthField, layoutFault, nextAt, startOf, succOf, setsOf, rowAt, rowOf, sheetOf, graphFault}
 use Rattle.sheet_spec.specs.Examples.{exampleReference, exampleDevice, stopped}
 use Rattle.refinement_spec.specs.PairTests.{strays, hasStray, covers, hasRefusal, violates, violating}
@@ -46,5 +46,5 @@ texts =
 
 -- one equation has them all
 pub texts-hold : map suiteText inputs ≡ texts
-unfolding inputs texts suiteText pairText cutInput inputLines firstSheet secondSheet firstEnd sheetsLines deviceLines judgedLines verdictList suiteLines testLines testLine passedOf lastWords lastLine numberLine sheetLine decimal decimalIn count tests verdictNumber suiteFault suiteOf verdictsAfter exampleReference exampleDevice stopped readSheet answer bytesFault headFault lengthField layoutFault nextAt startOf succOf setsOf rowAt rowOf sheetOf graphFault rangesOk countOk countsOk successorsOk rowSuccessorsOk successorOk setsOk rowSetsOk setOk ascends apart blank unusedOk blanksOk reachedOk sheetFault successor acceptance acceptances initials mayStop step bit has inside meets setOf nearer leads all any upTo strays hasStray covers hasRefusal violates violating failsFrom verdictFault verdictOf judged
+unfolding inputs texts suiteText pairText cutInput inputLines firstSheet secondSheet firstEnd sheetsLines deviceLines judgedLines verdictList suiteLines testLines testLine passedOf lastWords lastLine numberLine sheetLine decimal decimalIn count tests verdictNumber suiteFault suiteOf verdictsAfter exampleReference exampleDevice stopped readSheet answer bytesFault headFault lengthField layoutFault nextAt startOf succOf setsOf rowAt rowOf sheetOf graphFault rangesOk countOk countsOk successorsOk rowSuccessorsOk successorOk setsOk rowSetsOk setOk ascends noneInside blank unusedOk blanksOk reachedOk sheetFault successor acceptance acceptances initials mayStop step bit has inside meets setOf nearer leads all any upTo strays hasStray covers hasRefusal violates violating failsFrom verdictFault verdictOf judged
 texts-hold = refl

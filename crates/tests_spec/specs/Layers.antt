@@ -8,8 +8,8 @@ use native.Mathlib.Omega.{arith}
 use native.Mathlib.Nat.{zero-add, suc-add}
 use lib.Dec.{ltb}
 use lib.ListN.{length}
-use borrow.Author.Tests.{ltb-true, lt-ltb}
-use Rattle.base.specs.Truth.{and-l, and-r, and-i, or-e, or-l, or-r, not-t, not-f}
+use borrow.Author.Tests.{ltb-true, lt-ltb, not-true}
+use Rattle.base.specs.Truth.{and-l, and-r, and-i, or-e, or-l, or-r, not-t}
 use Rattle.base.specs.Range.{any, any→, any←}
 use Rattle.walks.specs.Graph.{walk, ahead}
 use Rattle.sheet_spec.specs.declared.Sheet.{Sheet}
@@ -23,8 +23,8 @@ abbrev pub StopsAt : Bool → Sheet → Sheet → ℕ → ℕ → Type 0
 StopsAt to P Q n m = (to ≡ false) × (mayStop (row Q m) ≡ true) × (mayStop (row P n) ≡ false)
 
 -- an event leads both on to a pair from which the test fails with k events to go
-abbrev pub FailsOn : Bool → Sheet → Sheet → ℕ → ℕ → ℕ → Type 0
-FailsOn to P Q k n m =
+abbrev pub FailsOnward : Bool → Sheet → Sheet → ℕ → ℕ → ℕ → Type 0
+FailsOnward to P Q k n m =
     (i : ℕ) × (i < P .e) × (step P n i < P .n) × (step Q m i < Q .n) × (failsFrom to P Q k (step P n i) (step Q m i) ≡ true)
 
 stopping : Bool → Sheet → Sheet → ℕ → ℕ → Bool
@@ -37,18 +37,18 @@ stopping-means to P Q n m = (forth, λ s. and-i (not-t (s .0)) (and-i (s .1) (no
     forth : (not to && (mayStop (row Q m) && not (mayStop (row P n)))) ≡ true → StopsAt to P Q n m
     forth t =
         let u = and-r (not to) _ t in
-        (not-f to (and-l (not to) _ t), and-l (mayStop (row Q m)) _ u, not-f _ (and-r (mayStop (row Q m)) _ u))
+        (not-true to (and-l (not to) _ t), and-l (mayStop (row Q m)) _ u, not-true _ (and-r (mayStop (row Q m)) _ u))
 
 onward : Bool → Sheet → Sheet → ℕ → ℕ → ℕ → ℕ → Bool
 onward to P Q k n m i = (ltb (step P n i) (P .n) && ltb (step Q m i) (Q .n)) && failsFrom to P Q k (step P n i) (step Q m i)
 
 -- with events to go the test fails at a stray, at a stop, or further on
 pub fails-next : (to : Bool) (P Q : Sheet) (k n m : ℕ)
-    → (failsFrom to P Q (suc k) n m ≡ true) ↔ ((hasStray (P .e) (row P n) (row Q m) ≡ true) ⊎ (StopsAt to P Q n m ⊎ FailsOn to P Q k n m))
+    → (failsFrom to P Q (suc k) n m ≡ true) ↔ ((hasStray (P .e) (row P n) (row Q m) ≡ true) ⊎ (StopsAt to P Q n m ⊎ FailsOnward to P Q k n m))
 unfolding failsFrom stopping onward
 fails-next to P Q k n m = (λ t. forth (or-e (hasStray (P .e) (row P n) (row Q m)) _ t), back)
   where
-    step→ : any (onward to P Q k n m) (P .e) ≡ true → FailsOn to P Q k n m
+    step→ : any (onward to P Q k n m) (P .e) ≡ true → FailsOnward to P Q k n m
     step→ t =
         let w = any→ (onward to P Q k n m) (P .e) t in
         let u = and-l (ltb (step P n (w .0)) (P .n) && ltb (step Q m (w .0)) (Q .n)) _ (w .2) in (
@@ -59,16 +59,16 @@ fails-next to P Q k n m = (λ t. forth (or-e (hasStray (P .e) (row P n) (row Q m
           and-r (ltb (step P n (w .0)) (P .n) && ltb (step Q m (w .0)) (Q .n)) _ (w .2),
         )
 
-    pick : (stopping to P Q n m ≡ true) ⊎ (any (onward to P Q k n m) (P .e) ≡ true) → StopsAt to P Q n m ⊎ FailsOn to P Q k n m
+    pick : (stopping to P Q n m ≡ true) ⊎ (any (onward to P Q k n m) (P .e) ≡ true) → StopsAt to P Q n m ⊎ FailsOnward to P Q k n m
     pick (inl s) = inl (stopping-means to P Q n m .0 s)
     pick (inr s) = inr (step→ s)
 
     forth : (hasStray (P .e) (row P n) (row Q m) ≡ true) ⊎ ((stopping to P Q n m || any (onward to P Q k n m) (P .e)) ≡ true)
-        → (hasStray (P .e) (row P n) (row Q m) ≡ true) ⊎ (StopsAt to P Q n m ⊎ FailsOn to P Q k n m)
+        → (hasStray (P .e) (row P n) (row Q m) ≡ true) ⊎ (StopsAt to P Q n m ⊎ FailsOnward to P Q k n m)
     forth (inl s) = inl s
     forth (inr s) = inr (pick (or-e (stopping to P Q n m) _ s))
 
-    back : (hasStray (P .e) (row P n) (row Q m) ≡ true) ⊎ (StopsAt to P Q n m ⊎ FailsOn to P Q k n m)
+    back : (hasStray (P .e) (row P n) (row Q m) ≡ true) ⊎ (StopsAt to P Q n m ⊎ FailsOnward to P Q k n m)
         → (hasStray (P .e) (row P n) (row Q m) || (stopping to P Q n m || any (onward to P Q k n m) (P .e))) ≡ true
     back (inl s) = or-l _ s
     back (inr (inl s)) = or-r (hasStray (P .e) (row P n) (row Q m)) (or-l _ (stopping-means to P Q n m .1 s))
@@ -108,7 +108,7 @@ module _ (to : Bool) (P Q : Sheet) where
   fails-end zero n m a b t = ([], 0, refl, a, b, unfold failsFrom in t)
   fails-end (suc k) n m a b t = go (fails-next to P Q k n m .0 t) (fails-end k)
     where
-      go : (hasStray (P .e) (row P n) (row Q m) ≡ true) ⊎ (StopsAt to P Q n m ⊎ FailsOn to P Q k n m)
+      go : (hasStray (P .e) (row P n) (row Q m) ≡ true) ⊎ (StopsAt to P Q n m ⊎ FailsOnward to P Q k n m)
           → ((n m : ℕ) → n < P .n → m < Q .n → failsFrom to P Q k n m ≡ true → FaultyEnd to P Q k n m) → FaultyEnd to P Q (suc k) n m
       go (inl s) ih = ([], suc k, omega arith, a, b, faulty-means to P Q k n m .1 (inl s))
       go (inr (inl s)) ih = ([], suc k, omega arith, a, b, faulty-means to P Q k n m .1 (inr s))
@@ -124,7 +124,7 @@ module _ (to : Bool) (P Q : Sheet) where
   end-fails op oq [] (suc left) n m a b f = rw (zero-add (suc left)) (fails-next to P Q left n m .1 (pick (faulty-means to P Q left n m .0 f)))
     where
       pick : (hasStray (P .e) (row P n) (row Q m) ≡ true) ⊎ StopsAt to P Q n m
-          → (hasStray (P .e) (row P n) (row Q m) ≡ true) ⊎ (StopsAt to P Q n m ⊎ FailsOn to P Q left n m)
+          → (hasStray (P .e) (row P n) (row Q m) ≡ true) ⊎ (StopsAt to P Q n m ⊎ FailsOnward to P Q left n m)
       pick (inl s) = inl s
       pick (inr s) = inr (inl s)
   end-fails op oq (i ∷ t) left n m a b f =

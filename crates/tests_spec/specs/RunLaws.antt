@@ -98,8 +98,8 @@ NotOffered s r (Event i) = bit (offerOf s r) i ≢ 1
 NotOffered s r Blocked = ⊥
 
 -- 9: the node is not on the sheet, the depth exceeds k, or k is above 1,023
-abbrev pub RecordFault : Sheet → Run → Type 0
-RecordFault s r = (s .n ≤ r .node) ⊎ ((r .k < r .depth) ⊎ (1023 < r .k))
+abbrev pub WrongRecord : Sheet → Run → Type 0
+WrongRecord s r = (s .n ≤ r .node) ⊎ ((r .k < r .depth) ⊎ (1023 < r .k))
 
 -- neither the sheet's own refusal nor 16: the sheet is accepted and the run has not ended
 abbrev pub Shown : Sheet → Run → Type 0
@@ -107,10 +107,10 @@ Shown s r = (sheetFault s ≡ 0) × (¬ (flag (r .ended) ≡ true))
 
 -- nor 9: the record fits the sheet
 abbrev pub Fitting : Sheet → Run → Type 0
-Fitting s r = Shown s r × (¬ RecordFault s r)
+Fitting s r = Shown s r × (¬ WrongRecord s r)
 
 -- the tests of 9, 16 and 17 look for these
-record-finds : (s : Sheet) (r : Run) → Finds (recordOk s r) (RecordFault s r)
+record-finds : (s : Sheet) (r : Run) → Finds (recordOk s r) (WrongRecord s r)
 unfolding recordOk
 record-finds s r = finds-and (finds-lt (r .node) (s .n)) (finds-and (finds-le (r .depth) (r .k)) (finds-le (r .k) 1023))
 
@@ -186,7 +186,7 @@ module _ (s : Sheet) (r : Run) (x : Report) where
       (unless-other (recordOk s r) (λ e. omega arith) (event-numbers s r x 16 (λ e. omega arith) (λ e. omega arith) (λ e. omega arith))))
 
   -- 9: the record does not fit the sheet
-  pub report-9 : (reportFault s r x ≡ 9) ↔ (Shown s r × RecordFault s r)
+  pub report-9 : (reportFault s r x ≡ 9) ↔ (Shown s r × WrongRecord s r)
   unfolding after16
   report-9 =
       finally (pass-16 9 (inl (omega arith)) (λ e. omega arith))

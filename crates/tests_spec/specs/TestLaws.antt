@@ -194,10 +194,6 @@ module _ (P Q : Sheet) (accP : sheetFault P ≡ 0) (accQ : sheetFault Q ≡ 0) (
         means : (k : ℕ) → k < P .n * Q .n → (verdictOf P Q k to ≡ Passes) ↔ (¬ FailsTest to P Q k)
         means k l = verdict-passes P Q accP accQ same to k (omega (arith, few))
 
-    -- a device that refines the reference meets no failure
-    pub refining-passes : RefinesIn to P Q → (k : ℕ) → k ≤ 1023 → ¬ FailsTest to P Q k
-    refining-passes r k l x = clash (fails-means P Q accP accQ same to k l .1 x) (refining-false r k)
-
   -- of the trace-only tests p·q - 1 decides alone
   pub single-test : (failsFrom true P Q (P .n * Q .n - 1) 0 0 ≡ false) ↔ TraceRefines P Q
   single-test = (λ f. refines-distance op oq same true .1 (go f (lt-or-ge d (P .n * Q .n))), λ r. refining-false true r (P .n * Q .n - 1))

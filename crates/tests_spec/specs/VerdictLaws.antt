@@ -36,10 +36,10 @@ use Rattle.tests_spec.specs.Verdicts.{CanReport, Failed, deviceAfter, En
 use Rattle.tests_spec.specs.Numbers.{said, judged}
 use Rattle.tests_spec.specs.Offers.{offer-all, offer-below, offer-at, offer-outside}
 use Rattle.tests_spec.specs.Blocks.{stop-blocks, all-blocked, block-refusal, refusal-block}
-use Rattle.tests_spec.specs.RunLaws.{open-0, open-going, Beyond, NotOffered, RecordFault}
+use Rattle.tests_spec.specs.RunLaws.{open-0, open-going, Beyond, NotOffered, WrongRecord}
 use Rattle.tests_spec.specs.RunLaws.{report-0, with, answer-of, run-of, kind-once, value-once}
 use Rattle.tests_spec.specs.RunLaws.{stray-step, moving-step, blocked-refused, Taken, denies, moves, strays, refuses, passes, taken}
-use Rattle.tests_spec.specs.Layers.{StopsAt, FailsOn, fails-next}
+use Rattle.tests_spec.specs.Layers.{StopsAt, FailsOnward, fails-next}
 
 -- The refusals of a verdict.
 module _ (P Q : Sheet) (k : ℕ) where
@@ -137,7 +137,7 @@ module _ (P Q : Sheet) (accP : sheetFault P ≡ 0) (accQ : sheetFault Q ≡ 0) (
   to-Q m i = subst (λ (x : ℕ). Initial x (row Q m) i) same
 
   -- such a run takes every event offered, and "blocked"
-  fits : (h n x : ℕ) → n < P .n → x ≤ k → ¬ RecordFault P (live h n x)
+  fits : (h n x : ℕ) → n < P .n → x ≤ k → ¬ WrongRecord P (live h n x)
   fits h n x a l (inl f) = omega arith
   fits h n x a l (inr (inl f)) = omega arith
   fits h n x a l (inr (inr f)) = omega arith
@@ -322,7 +322,7 @@ module _ (P Q : Sheet) (accP : sheetFault P ≡ 0) (accQ : sheetFault Q ≡ 0) (
       go (inr s) (inr w) = refusal-ends n x m (omega arith) a b (w .0) s (w .1)
   ends← (suc left) n x m e a b f = go (fails-next to P Q left n m .0 f) (ends← left)
     where
-      go : (hasStray (P .e) (row P n) (row Q m) ≡ true) ⊎ (StopsAt to P Q n m ⊎ FailsOn to P Q left n m)
+      go : (hasStray (P .e) (row P n) (row Q m) ≡ true) ⊎ (StopsAt to P Q n m ⊎ FailsOnward to P Q left n m)
           → ((n x m : ℕ) → x + left ≡ k → n < P .n → m < Q .n → failsFrom to P Q left n m ≡ true → Ends n x m) → Ends n x m
       go (inl s) ih = stray-ends n x m a (omega arith) s
       go (inr (inl (t, s, r))) ih = block-ends 0 n x m (omega arith) a (omega arith) t r (stop-blocks (row Q m) (oq .counts m b .1) (offerOf P (live 0 n x)) s)

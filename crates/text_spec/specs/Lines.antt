@@ -21,7 +21,7 @@ decimalIn (suc most) n = cond (ltb n 10) ((48 + n) ∷ []) (decimalIn most (n / 
 unfoldable pub decimal : ℕ → List ℕ
 decimal n = decimalIn (suc n) n
 
--- some words and a number: `reference refused k`, `device refused k`, `comparison refused k`, `refines cleared c`, `stray e`
+-- some words and a number, as in `reference refused k`, `refines cleared c`, `stray e`
 unfoldable pub numberLine : List ℕ → ℕ → List ℕ
 numberLine words k = words ++ (decimal k ++ ascii "\n")
 
@@ -29,7 +29,7 @@ numberLine words k = words ++ (decimal k ++ ascii "\n")
 abbrev pub numbersText : List ℕ → ℕ → List ℕ → ℕ → List ℕ → List ℕ
 numbersText first x between y last = first ++ (decimal x ++ (between ++ (decimal y ++ last)))
 
--- `reference p nodes e events`, `device q nodes e events`
+-- the size of a sheet, as in `reference p nodes e events`
 unfoldable pub sheetLine : List ℕ → ℕ → ℕ → List ℕ
 sheetLine who n e = numbersText who n (ascii " nodes ") e (ascii " events\n")
 

@@ -38,7 +38,7 @@ fn is_probe(sets: [u16; 16], c: usize, x: u16) -> bool
 // ---- the turns over all sets
 
 // How many turns there are for `e` events.
-pub fn rounds(e: usize) -> u16
+pub fn turns_of(e: usize) -> u16
     requires { ⌜ e ≤ 12 ⌝ }
     ensures { λ r. ⌜ (r ≡ turns e) × (r ≤ 4096) ⌝ }
 {
@@ -65,7 +65,7 @@ pub fn next_turn(sets: [u16; 16], c: usize, e: usize, from: u16) -> u16
     requires { ⌜ (c ≤ 16) × (e ≤ 12) × (from ≤ turns e) ⌝ }
     ensures { λ r. ⌜ r ≡ nextFrom (turn (take c sets) e) (turns e) from ⌝ }
 {
-    let end = rounds(e);
+    let end = turns_of(e);
     let mut x = from;
     while x < end {
         if is_listed(sets, c, e, x) {

@@ -1,4 +1,4 @@
--- What is answered and left at each return of the call, in the order of the code.
+-- What `judge_all` answers and leaves at each return, in the order of the code.
 use mathlib.Core.Path.{_≡_, refl, sym, ap, _∙_}
 use mathlib.Core.Bool.{Bool, true, false, cond}
 use mathlib.Core.List.{List, _++_}

@@ -16,23 +16,23 @@ use Rattle.walks.specs.Bound.{bound}
 use Rattle.walks.specs.Order.{Lex, lex-antisym}
 
 -- The events of t lead from n to a node that is bad.
-pub record Leads (g : Graph) (bad : ℕ → Bool) (n : ℕ) (t : List ℕ) : Type 0 where
+pub record LeadsToBad (g : Graph) (bad : ℕ → Bool) (n : ℕ) (t : List ℕ) : Type 0 where
   pub inside : walk g n t < g .size
   pub ends : bad (walk g n t) ≡ true
 
 module _ (g : Graph) (bad : ℕ → Bool) where
   -- Test: from n a bad node is reached in exactly j events.
-  unfoldable pub meets : ℕ → ℕ → Bool
-  meets zero n = bad n
-  meets (suc j) n = any (λ i. ltb (g .next n i) (g .size) && meets j (g .next n i)) (g .events)
+  unfoldable pub meetsIn : ℕ → ℕ → Bool
+  meetsIn zero n = bad n
+  meetsIn (suc j) n = any (λ i. ltb (g .next n i) (g .size) && meetsIn j (g .next n i)) (g .events)
 
   -- The least number of events in which a bad node is reached from the start; the number of nodes if none is.
   unfoldable pub distance : ℕ
-  distance = first (λ j. meets j 0) (g .size)
+  distance = first (λ j. meetsIn j 0) (g .size)
 
   -- Test: event i leads from n to a node from which a bad node is reached in exactly j events.
   unfoldable pub later : ℕ → ℕ → ℕ → Bool
-  later j n i = ltb (g .next n i) (g .size) && meets j (g .next n i)
+  later j n i = ltb (g .next n i) (g .size) && meetsIn j (g .next n i)
 
   -- The smallest such event.
   unfoldable pub choice : ℕ → ℕ → ℕ
@@ -48,30 +48,30 @@ module _ (g : Graph) (bad : ℕ → Bool) where
   leastTrace = leastFrom distance 0
 
   -- the rest of a list that leads to a bad node does so from the next node
-  pub leads-tail : (n i : ℕ) (t : List ℕ) → Leads g bad n (i ∷ t) → Leads g bad (g .next n i) t
+  pub leads-tail : (n i : ℕ) (t : List ℕ) → LeadsToBad g bad n (i ∷ t) → LeadsToBad g bad (g .next n i) t
   unfolding walk
   leads-tail n i t l = record { inside = l .inside; ends = l .ends }
 
-  pub meets→ : (j n : ℕ) → n < g .size → meets j n ≡ true → (t : List ℕ) × (length t ≡ j) × Leads g bad n t
-  unfolding meets walk
-  meets→ zero n h e = ([], refl, record { inside = h; ends = e })
-  meets→ (suc j) n h e =
-      let w = any→ (λ i. ltb (g .next n i) (g .size) && meets j (g .next n i)) (g .events) e in
-      let b = ltb-true _ _ (and-l (ltb (g .next n (w .0)) (g .size)) (meets j (g .next n (w .0))) (w .2)) in
-      let v = meets→ j (g .next n (w .0)) b (and-r (ltb (g .next n (w .0)) (g .size)) (meets j (g .next n (w .0))) (w .2)) in
+  pub meetsIn→ : (j n : ℕ) → n < g .size → meetsIn j n ≡ true → (t : List ℕ) × (length t ≡ j) × LeadsToBad g bad n t
+  unfolding meetsIn walk
+  meetsIn→ zero n h e = ([], refl, record { inside = h; ends = e })
+  meetsIn→ (suc j) n h e =
+      let w = any→ (λ i. ltb (g .next n i) (g .size) && meetsIn j (g .next n i)) (g .events) e in
+      let b = ltb-true _ _ (and-l (ltb (g .next n (w .0)) (g .size)) (meetsIn j (g .next n (w .0))) (w .2)) in
+      let v = meetsIn→ j (g .next n (w .0)) b (and-r (ltb (g .next n (w .0)) (g .size)) (meetsIn j (g .next n (w .0))) (w .2)) in
       (w .0 ∷ v .0, ap suc (v .1), record { inside = v .2 .inside; ends = v .2 .ends })
 
   pub distance-le : distance ≤ g .size
   unfolding distance
-  distance-le = first≤ (λ j. meets j 0) (g .size)
+  distance-le = first≤ (λ j. meetsIn j 0) (g .size)
 
-  pub distance-meets : distance < g .size → meets distance 0 ≡ true
+  pub distance-meets : distance < g .size → meetsIn distance 0 ≡ true
   unfolding distance
-  distance-meets h = first-at (λ j. meets j 0) (g .size) h
+  distance-meets h = first-at (λ j. meetsIn j 0) (g .size) h
 
   -- a distance below the number of nodes is the length of a list that leads to a bad node
-  pub distance→ : WellFormed g → distance < g .size → (t : List ℕ) × (length t ≡ distance) × Leads g bad 0 t
-  distance→ w h = meets→ distance 0 (w .start) (distance-meets h)
+  pub distance→ : WellFormed g → distance < g .size → (t : List ℕ) × (length t ≡ distance) × LeadsToBad g bad 0 t
+  distance→ w h = meetsIn→ distance 0 (w .start) (distance-meets h)
 
   pub leastFrom-length : (j n : ℕ) → length (leastFrom j n) ≡ j
   unfolding leastFrom
@@ -79,19 +79,19 @@ module _ (g : Graph) (bad : ℕ → Bool) where
   leastFrom-length (suc j) n = ap suc (leastFrom-length j (g .next n (choice j n)))
 
   -- where there is such an event, the choice is one
-  pub choice-later : (j n : ℕ) → meets (suc j) n ≡ true → later j n (choice j n) ≡ true
-  unfolding choice meets later
+  pub choice-later : (j n : ℕ) → meetsIn (suc j) n ≡ true → later j n (choice j n) ≡ true
+  unfolding choice meetsIn later
   choice-later j n e =
       let w = any→ (later j n) (g .events) e in
       first-at (later j n) (g .events) (omega (arith, first-le (later j n) (g .events) (w .0) (w .2), w .1))
 
-  pub leastFrom-leads : (j n : ℕ) → n < g .size → meets j n ≡ true → Leads g bad n (leastFrom j n)
-  unfolding leastFrom walk later meets
+  pub leastFrom-leads : (j n : ℕ) → n < g .size → meetsIn j n ≡ true → LeadsToBad g bad n (leastFrom j n)
+  unfolding leastFrom walk later meetsIn
   leastFrom-leads zero n h e = record { inside = h; ends = e }
   leastFrom-leads (suc j) n h e =
       let c = choice-later j n e in
-      let b = ltb-true _ _ (and-l (ltb (g .next n (choice j n)) (g .size)) (meets j (g .next n (choice j n))) c) in
-      let v = leastFrom-leads j (g .next n (choice j n)) b (and-r (ltb (g .next n (choice j n)) (g .size)) (meets j (g .next n (choice j n))) c) in
+      let b = ltb-true _ _ (and-l (ltb (g .next n (choice j n)) (g .size)) (meetsIn j (g .next n (choice j n))) c) in
+      let v = leastFrom-leads j (g .next n (choice j n)) b (and-r (ltb (g .next n (choice j n)) (g .size)) (meetsIn j (g .next n (choice j n))) c) in
       record { inside = v .inside; ends = v .ends }
 
   pub leastTrace-length : length leastTrace ≡ distance
@@ -99,50 +99,46 @@ module _ (g : Graph) (bad : ℕ → Bool) where
   leastTrace-length = leastFrom-length distance 0
 
 module _ (g : Graph) (bad : ℕ → Bool) (w : WellFormed g) where
-  pub meets← : (n : ℕ) (t : List ℕ) → Leads g bad n t → meets g bad (length t) n ≡ true
-  unfolding meets walk
-  meets← n [] l = l .ends
-  meets← n (i ∷ t) l =
+  pub meetsIn← : (n : ℕ) (t : List ℕ) → LeadsToBad g bad n t → meetsIn g bad (length t) n ≡ true
+  unfolding meetsIn walk
+  meetsIn← n [] l = l .ends
+  meetsIn← n (i ∷ t) l =
       let a : g .next n i < g .size = ahead w (g .next n i) t (l .inside) in
-      any← (λ i. ltb (g .next n i) (g .size) && meets g bad (length t) (g .next n i)) (g .events) i (w .labels n i a)
-      (and-i (lt-ltb _ _ a) (meets← (g .next n i) t (leads-tail g bad n i t l)))
+      any← (λ i. ltb (g .next n i) (g .size) && meetsIn g bad (length t) (g .next n i)) (g .events) i (w .labels n i a)
+      (and-i (lt-ltb _ _ a) (meetsIn← (g .next n i) t (leads-tail g bad n i t l)))
 
-  pub meets-means : (j n : ℕ) → n < g .size → (meets g bad j n ≡ true) ↔ ((t : List ℕ) × (length t ≡ j) × Leads g bad n t)
-  meets-means j n h = (meets→ g bad j n h, back)
+  pub meetsIn-means : (j n : ℕ) → n < g .size → (meetsIn g bad j n ≡ true) ↔ ((t : List ℕ) × (length t ≡ j) × LeadsToBad g bad n t)
+  meetsIn-means j n h = (meetsIn→ g bad j n h, back)
     where
-      back : (t : List ℕ) × (length t ≡ j) × Leads g bad n t → meets g bad j n ≡ true
-      back (t, p, l) = rw (← p) (meets← n t l)
+      back : (t : List ℕ) × (length t ≡ j) × LeadsToBad g bad n t → meetsIn g bad j n ≡ true
+      back (t, p, l) = rw (← p) (meetsIn← n t l)
 
   -- no list that leads to a bad node is shorter than the distance
-  pub distance≤ : (t : List ℕ) → Leads g bad 0 t → distance g bad ≤ length t
+  pub distance≤ : (t : List ℕ) → LeadsToBad g bad 0 t → distance g bad ≤ length t
   unfolding distance
-  distance≤ t l = first-le (λ j. meets g bad j 0) (g .size) (length t) (meets← 0 t l)
+  distance≤ t l = first-le (λ j. meetsIn g bad j 0) (g .size) (length t) (meetsIn← 0 t l)
 
   -- a bad node that any list reaches is nearer than the number of nodes
-  pub distance< : (t : List ℕ) → Leads g bad 0 t → distance g bad < g .size
+  pub distance< : (t : List ℕ) → LeadsToBad g bad 0 t → distance g bad < g .size
   distance< t l =
       let s = bound w t (l .inside) in
       omega (arith, s .1, distance≤ (s .0) (record { inside = rw (s .2) (l .inside); ends = rw (s .2) (l .ends) }))
 
   -- the distance is below the number of nodes exactly if some list, however long, leads to a bad node
-  pub distance-means : (distance g bad < g .size) ↔ ((t : List ℕ) × Leads g bad 0 t)
+  pub distance-means : (distance g bad < g .size) ↔ ((t : List ℕ) × LeadsToBad g bad 0 t)
   distance-means = (forth, λ l. distance< (l .0) (l .1))
     where
-      forth : distance g bad < g .size → (t : List ℕ) × Leads g bad 0 t
+      forth : distance g bad < g .size → (t : List ℕ) × LeadsToBad g bad 0 t
       forth h = let v = distance→ g bad w h in (v .0, v .2)
 
-  -- no shorter list leads to a bad node
-  pub distance-least : (t : List ℕ) → length t < distance g bad → Leads g bad 0 t → ⊥
-  distance-least t h l = omega (arith, distance≤ t l)
-
   -- the event chosen is no greater than that of any other list of its length to a bad node
-  pub choice-le : (n i : ℕ) (t : List ℕ) → Leads g bad n (i ∷ t) → choice g bad (length t) n ≤ i
+  pub choice-le : (n i : ℕ) (t : List ℕ) → LeadsToBad g bad n (i ∷ t) → choice g bad (length t) n ≤ i
   unfolding choice later walk
   choice-le n i t l = first-le (later g bad (length t) n) (g .events) i
-      (and-i (lt-ltb _ _ (ahead w (g .next n i) t (l .inside))) (meets← (g .next n i) t (leads-tail g bad n i t l)))
+      (and-i (lt-ltb _ _ (ahead w (g .next n i) t (l .inside))) (meetsIn← (g .next n i) t (leads-tail g bad n i t l)))
 
   -- no other list of its length to a bad node comes before it
-  pub leastFrom-least : (n : ℕ) (t : List ℕ) → Leads g bad n t → Lex (leastFrom g bad (length t) n) t
+  pub leastFrom-least : (n : ℕ) (t : List ℕ) → LeadsToBad g bad n t → Lex (leastFrom g bad (length t) n) t
   unfolding leastFrom
   leastFrom-least n [] l = tt
   leastFrom-least n (i ∷ t) l = go (eq-or-lt-of-le (choice-le n i t l)) (λ (e : c ≡ i). rw e (leastFrom-least (g .next n i) t (leads-tail g bad n i t l)))
@@ -156,18 +152,18 @@ module _ (g : Graph) (bad : ℕ → Bool) (w : WellFormed g) where
       go (inr h) k = inl h
 
   -- where a bad node is reached at all, the least trace leads to one
-  pub leastTrace-leads : distance g bad < g .size → Leads g bad 0 (leastTrace g bad)
+  pub leastTrace-leads : distance g bad < g .size → LeadsToBad g bad 0 (leastTrace g bad)
   unfolding leastTrace
   leastTrace-leads h = leastFrom-leads g bad (distance g bad) 0 (w .start) (distance-meets g bad h)
 
   -- and comes first in event order among all lists of its length that do
-  pub leastTrace-least : (t : List ℕ) → length t ≡ distance g bad → Leads g bad 0 t → Lex (leastTrace g bad) t
+  pub leastTrace-least : (t : List ℕ) → length t ≡ distance g bad → LeadsToBad g bad 0 t → Lex (leastTrace g bad) t
   unfolding leastTrace
   leastTrace-least t e l = rw (← e) (leastFrom-least 0 t l)
 
   -- it is the only one that does
-  pub leastTrace-unique : (s : List ℕ) → length s ≡ distance g bad → Leads g bad 0 s
-      → ((t : List ℕ) → length t ≡ distance g bad → Leads g bad 0 t → Lex s t) → s ≡ leastTrace g bad
+  pub leastTrace-unique : (s : List ℕ) → length s ≡ distance g bad → LeadsToBad g bad 0 s
+      → ((t : List ℕ) → length t ≡ distance g bad → LeadsToBad g bad 0 t → Lex s t) → s ≡ leastTrace g bad
   leastTrace-unique s e l h =
       lex-antisym s (leastTrace g bad) (e ∙ sym (leastTrace-length g bad))
       (h (leastTrace g bad) (leastTrace-length g bad) (leastTrace-leads (distance< s l))) (leastTrace-least s e l)

@@ -29,6 +29,7 @@ lex-antisym (a ∷ s) (b ∷ t) e (inl x) (inr y) = absurd (omega (arith, y .0))
 lex-antisym (a ∷ s) (b ∷ t) e (inr x) (inl y) = absurd (omega (arith, x .0))
 lex-antisym (a ∷ s) (b ∷ t) e (inr x) (inr y) = let p = x .0 in let q = lex-antisym s t (omega arith) (x .1) (y .1) in cc
 
+-- of three in order the first and the last are
 pub lex-trans : (s t u : List ℕ) → Lex s t → Lex t u → Lex s u
 lex-trans [] t u x y = tt
 lex-trans (a ∷ s) [] u x y = absurd x

@@ -9,9 +9,9 @@ use native.Mathlib.Omega.{arith}
 use lib.ListN.{length}
 use Rattle.walks.specs.Graph.{Graph, WellFormed, walk, Trace}
 use Rattle.walks.specs.Bound.{bound}
-use Rattle.walks.specs.Reach.{ReachedBefore, Reachable, nearer, nearer-means}
+use Rattle.walks.specs.Reach.{ReachedBefore, Reachable}
 use Rattle.walks.specs.Order.{Lex}
-use Rattle.walks.specs.Near.{Leads, distance, distance-le, distance≤, distance<, distance-means}
+use Rattle.walks.specs.Near.{LeadsToBad, distance, distance-le, distance≤, distance<, distance-means}
 use Rattle.walks.specs.Near.{leastTrace, leastTrace-length, leastTrace-leads, leastTrace-least, leastTrace-unique}
 use Rattle.walks.specs.Cleared.{Lists, cleared, cleared-means, cleared-all, cleared-more}
 use Rattle.walks.specs.Product.{code, code-div, code-mod, code-lt, code-unique, code-split, code-start, code-div-lt, code-mod-lt}
@@ -51,10 +51,6 @@ pairDistance r d bad = distance (product r d) (onCodes d bad)
 unfoldable pub pairTrace : Graph → Graph → (ℕ → ℕ → Bool) → List ℕ
 pairTrace r d bad = leastTrace (product r d) (onCodes d bad)
 
--- Test: the pair (n, m) is reached in fewer than k common events.
-unfoldable pub pairNearer : Graph → Graph → ℕ → ℕ → ℕ → Bool
-pairNearer r d k n m = nearer (product r d) k (code d n m)
-
 -- How many pairs are reached in fewer than k common events.
 unfoldable pub pairCleared : Graph → Graph → ℕ → ℕ
 pairCleared r d k = cleared (product r d) k
@@ -85,7 +81,7 @@ module _ {r d : Graph} (wr : WellFormed r) (wd : WellFormed d) where
       (s .0, s .1, e .0, e .1)
 
   -- to lead to a bad pair is to lead to a bad node of the product
-  pub pair-leads→ : (bad : ℕ → ℕ → Bool) (n m : ℕ) (t : List ℕ) → PairLeads r d bad n m t → Leads (product r d) (onCodes d bad) (code d n m) t
+  pub pair-leads→ : (bad : ℕ → ℕ → Bool) (n m : ℕ) (t : List ℕ) → PairLeads r d bad n m t → LeadsToBad (product r d) (onCodes d bad) (code d n m) t
   unfolding product
   pair-leads→ bad n m t l =
       let e = product-walk wr wd n m t (l .in-r) (l .in-d) in
@@ -95,7 +91,7 @@ module _ {r d : Graph} (wr : WellFormed r) (wd : WellFormed d) where
       }
 
   pub pair-leads← : (bad : ℕ → ℕ → Bool) (n m : ℕ) (t : List ℕ) → n < r .size → m < d .size
-      → Leads (product r d) (onCodes d bad) (code d n m) t → PairLeads r d bad n m t
+      → LeadsToBad (product r d) (onCodes d bad) (code d n m) t → PairLeads r d bad n m t
   unfolding product
   pair-leads← bad n m t h k l =
       let b = product-both wr wd n m t h k (l .inside) in
@@ -104,11 +100,11 @@ module _ {r d : Graph} (wr : WellFormed r) (wd : WellFormed d) where
 
   module _ (bad : ℕ → ℕ → Bool) where
     -- a list to a bad pair, in the product
-    to : (t : List ℕ) → PairLeads r d bad 0 0 t → Leads (product r d) (onCodes d bad) 0 t
+    to : (t : List ℕ) → PairLeads r d bad 0 0 t → LeadsToBad (product r d) (onCodes d bad) 0 t
     to t l = rw (code-start d) at (pair-leads→ bad 0 0 t l)
 
     -- and back
-    from : (t : List ℕ) → Leads (product r d) (onCodes d bad) 0 t → PairLeads r d bad 0 0 t
+    from : (t : List ℕ) → LeadsToBad (product r d) (onCodes d bad) 0 t → PairLeads r d bad 0 0 t
     from t l = pair-leads← bad 0 0 t (wr .start) (wd .start) (rw (code-start d) l)
 
     -- no common trace to a bad pair is shorter than the distance
@@ -132,9 +128,6 @@ module _ {r d : Graph} (wr : WellFormed r) (wd : WellFormed d) where
     -- where the distance is the number of pairs, no common trace leads to a bad pair
     pub pairDistance-none : r .size * d .size ≤ pairDistance r d bad → (t : List ℕ) → PairLeads r d bad 0 0 t → ⊥
     pairDistance-none h t l = omega (arith, pairDistance< t l)
-
-    pub pairDistance-least : (t : List ℕ) → length t < pairDistance r d bad → PairLeads r d bad 0 0 t → ⊥
-    pairDistance-least t h l = omega (arith, pairDistance≤ t l)
 
     -- where a bad pair is reached at all, the least trace is a common trace to one
     pub pairTrace-leads : pairDistance r d bad < r .size * d .size → PairLeads r d bad 0 0 (pairTrace r d bad)
@@ -171,16 +164,6 @@ module _ {r d : Graph} (wr : WellFormed r) (wd : WellFormed d) where
 
       back : PairReachable r d n m → Reachable (product r d) (code d n m)
       back (t, a, b) = (t, product-at wr wd t n m h l .1 (a, b))
-
-  pub pairNearer-means : (k n m : ℕ) → n < r .size → m < d .size → (pairNearer r d k n m ≡ true) ↔ PairReachedBefore r d k n m
-  unfolding pairNearer product
-  pairNearer-means k n m h l = (forth, back)
-    where
-      forth : pairNearer r d k n m ≡ true → PairReachedBefore r d k n m
-      forth e = before k n m h l .0 (nearer-means w k (code d n m) (code-lt r d n m h l) .0 e)
-
-      back : PairReachedBefore r d k n m → pairNearer r d k n m ≡ true
-      back e = nearer-means w k (code d n m) (code-lt r d n m h l) .1 (before k n m h l .1 e)
 
   module _ {P : ℕ → Type 0} {R : ℕ → ℕ → Type 0} (same : (n m : ℕ) → n < r .size → m < d .size → P (code d n m) ↔ R n m) where
     -- a listing of codes lists pairs

@@ -4,7 +4,7 @@ use mathlib.Core.Path.{refl, _≡_}
 use mathlib.Core.Bool.{true}
 use Prim.Native.Nat.{_-_, _≤_}
 use lib.ListN.{length}
-use Rattle.base.specs.Truth.{not-f, f-not}
+use borrow.Author.Tests.{not-true, not-false}
 use Rattle.base.specs.Range.{all}
 use Rattle.live_lines_spec.specs.Numbers.{digitAt}
 use Rattle.live_words.proofs.Loops.{digits-stop, digits-more, digits-done}
@@ -28,7 +28,7 @@ is-digit-requires : tie.Need-is-digit-requires Inv-loop μ-loop
 is-digit-requires c κs = tt
 
 returns : tie.Need-returns Inv-loop μ-loop
-returns c = digits-stop (c .before .before .before .before .before .before .args .bytes .now) (c .before .before .before .before .loop .i) (c .before .is-digit .ensures) (omega arith) (not-f _ (c .if1 .taken))
+returns c = digits-stop (c .before .before .before .before .before .before .args .bytes .now) (c .before .before .before .before .loop .i) (c .before .is-digit .ensures) (omega arith) (not-true _ (c .if1 .taken))
 
 add-i : tie.Need-add-i Inv-loop μ-loop
 add-i c = omega arith
@@ -37,7 +37,7 @@ loop-less : tie.Need-loop-less Inv-loop μ-loop
 loop-less c = omega arith
 
 loop-again : tie.Need-loop-again Inv-loop μ-loop
-loop-again c = (omega arith, digits-more (c .before .before .before .before .before .before .args .bytes .now) (c .before .before .before .before .loop .i) (c .before .is-digit .ensures) (c .before .before .before .before .loop .inv .1) (f-not _ (c .if1 .left)))
+loop-again c = (omega arith, digits-more (c .before .before .before .before .before .before .args .bytes .now) (c .before .before .before .before .loop .i) (c .before .is-digit .ensures) (c .before .before .before .before .loop .inv .1) (not-false _ (c .if1 .left)))
 
 returns-2 : tie.Need-returns-2 Inv-loop μ-loop
 returns-2 c = digits-done (c .before .before .before .args .bytes .now) (c .before .loop .i) (omega arith) (omega arith) (c .before .loop .inv .1)

@@ -1,6 +1,6 @@
 -- A word that is bad, or the test.
 use native.Mathlib.Omega.{arith}
-use Rattle.base.specs.Truth.{not-f, f-not}
+use borrow.Author.Tests.{not-true, not-false}
 use Rattle.live_words.proofs.Parts.{asked-k, asked-h, asked-last, asked-all}
 use Rattle.live_words.proofs.asked_of.Statement.{statement}
 use Rattle.live_words.proofs.asked_of.Tie as tie
@@ -21,7 +21,7 @@ last-ok-requires : tie.Need-last-ok-requires
 last-ok-requires c κs = tt
 
 returns-3 : tie.Need-returns-3
-returns-3 c = asked-last (c .before .before .before .before .before .before .before .before .before .args .k .now) (c .before .before .before .before .before .before .before .before .before .args .h .now) (c .before .before .before .before .before .before .before .before .before .args .there) (c .before .before .before .before .before .before .before .before .before .args .word .now) (c .before .before .before .before .before .number-of .ensures) (c .before .before .before .before .number-of2 .ensures) (c .before .last-ok .ensures) (c .before .before .before .if1 .left) (c .before .before .if2 .left) (not-f _ (c .if3 .taken))
+returns-3 c = asked-last (c .before .before .before .before .before .before .before .before .before .args .k .now) (c .before .before .before .before .before .before .before .before .before .args .h .now) (c .before .before .before .before .before .before .before .before .before .args .there) (c .before .before .before .before .before .before .before .before .before .args .word .now) (c .before .before .before .before .before .number-of .ensures) (c .before .before .before .before .number-of2 .ensures) (c .before .last-ok .ensures) (c .before .before .before .if1 .left) (c .before .before .if2 .left) (not-true _ (c .if3 .taken))
 
 cast-t10 : tie.Need-cast-t10
 cast-t10 c = omega arith
@@ -30,7 +30,7 @@ cast-t11 : tie.Need-cast-t11
 cast-t11 c = omega arith
 
 returns-4 : tie.Need-returns-4
-returns-4 c = asked-all (c .before .before .before .before .before .before .before .before .before .args .k .now) (c .before .before .before .before .before .before .before .before .before .args .h .now) (c .before .before .before .before .before .before .before .before .before .args .there) (c .before .before .before .before .before .before .before .before .before .args .word .now) (c .before .before .before .before .before .number-of .ensures) (c .before .before .before .before .number-of2 .ensures) (c .before .last-ok .ensures) (c .before .before .before .if1 .left) (c .before .before .if2 .left) (f-not _ (c .if3 .left))
+returns-4 c = asked-all (c .before .before .before .before .before .before .before .before .before .args .k .now) (c .before .before .before .before .before .before .before .before .before .args .h .now) (c .before .before .before .before .before .before .before .before .before .args .there) (c .before .before .before .before .before .before .before .before .before .args .word .now) (c .before .before .before .before .before .number-of .ensures) (c .before .before .before .before .number-of2 .ensures) (c .before .last-ok .ensures) (c .before .before .before .if1 .left) (c .before .before .if2 .left) (not-false _ (c .if3 .left))
 
 pub asked-of-spec : {M : Type 1} → statement M
 asked-of-spec =

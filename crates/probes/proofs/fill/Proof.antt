@@ -18,8 +18,8 @@ Inv-loop sets c e out₀ last at₀ x₀ out at x =
 abbrev μ-loop : tie.MeasureT-loop
 μ-loop sets c e out₀ last at₀ x₀ out at x = last - x
 
-rounds-requires : tie.Need-rounds-requires Inv-loop μ-loop
-rounds-requires c κs = omega arith
+turns-of-requires : tie.Need-turns-of-requires Inv-loop μ-loop
+turns-of-requires c κs = omega arith
 
 next-turn-requires : tie.Need-next-turn-requires Inv-loop μ-loop
 next-turn-requires c κs = omega arith
@@ -95,7 +95,7 @@ fill-spec =
     (tie.spec
     Inv-loop
     μ-loop
-    rounds-requires
+    turns-of-requires
     next-turn-requires
     loop-holds
     set-of-requires

@@ -28,8 +28,8 @@ Inv-probes sets c e d device end probe₀ acceptance₀ missed₀ x₀ probe acc
 abbrev μ-probes : tie.MeasureT-probes
 μ-probes sets c e d device end probe₀ acceptance₀ missed₀ x₀ probe acceptance missed x = end - x
 
-rounds-requires : tie.Need-rounds-requires Inv-loop μ-loop Inv-probes μ-probes
-rounds-requires c κs = omega arith
+turns-of-requires : tie.Need-turns-of-requires Inv-loop μ-loop Inv-probes μ-probes
+turns-of-requires c κs = omega arith
 
 next-turn-requires : tie.Need-next-turn-requires Inv-loop μ-loop Inv-probes μ-probes
 next-turn-requires c κs = omega arith
@@ -120,7 +120,7 @@ first-missed-spec =
     μ-loop
     Inv-probes
     μ-probes
-    rounds-requires
+    turns-of-requires
     next-turn-requires
     probes-holds
     set-of-requires

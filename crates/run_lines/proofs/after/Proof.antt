@@ -4,8 +4,7 @@ use mathlib.Core.Bool.{Bool, true, false, cond}
 use Prim.Native.Nat.{ℕ, _-_, _≤_, _<_}
 use native.Mathlib.Omega.{arith}
 use lib.Dec.{ltb}
-use borrow.Author.Tests.{lt-ltb, le-ltb}
-use Rattle.base.specs.Truth.{not-f, f-not}
+use borrow.Author.Tests.{lt-ltb, le-ltb, not-true, not-false}
 use Rattle.run_lines.specs.declared.Line.{Line}
 use Rattle.run_lines.specs.Lines.{withNumber, withDigit, lineAfter}
 use Rattle.run_lines.proofs.after.Statement.{statement}
@@ -30,7 +29,7 @@ goes l b n h = sym (on-true (l .named) _ _ n ∙ on-false (ltb b 48) _ _ (le-ltb
 returns : tie.Need-returns
 unfolding lineAfter
 returns c =
-    let z : c .before .before .args .line .named ≡ false = not-f _ (c .if1 .taken) in
+    let z : c .before .before .args .line .named ≡ false = not-true _ (c .if1 .taken) in
     rw z
 
 with-number-requires : tie.Need-with-number-requires
@@ -39,7 +38,7 @@ with-number-requires c κs = tt
 returns-2 : tie.Need-returns-2
 returns-2 c =
     let a = c .before .before .before .before .args in
-    c .with-number .ensures ∙ ends (a .line) (a .b) (f-not _ (c .before .before .if1 .left)) (omega arith)
+    c .with-number .ensures ∙ ends (a .line) (a .b) (not-false _ (c .before .before .if1 .left)) (omega arith)
 
 with-digit-requires : tie.Need-with-digit-requires
 with-digit-requires c κs = tt
@@ -47,7 +46,7 @@ with-digit-requires c κs = tt
 returns-3 : tie.Need-returns-3
 returns-3 c =
     let a = c .before .before .before .before .args in
-    c .with-digit .ensures ∙ goes (a .line) (a .b) (f-not _ (c .before .before .if1 .left)) (omega arith)
+    c .with-digit .ensures ∙ goes (a .line) (a .b) (not-false _ (c .before .before .if1 .left)) (omega arith)
 
 pub after-spec : {M : Type 1} → statement M
 after-spec = tie.close (tie.spec returns with-number-requires returns-2 with-digit-requires returns-3)

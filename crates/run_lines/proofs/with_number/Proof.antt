@@ -2,8 +2,7 @@
 use mathlib.Core.Path.{_≡_}
 use mathlib.Core.Bool.{true, false}
 use native.Mathlib.Omega.{arith}
-use borrow.Author.Tests.{lt-ltb, le-ltb}
-use Rattle.base.specs.Truth.{not-f, f-not}
+use borrow.Author.Tests.{lt-ltb, le-ltb, not-true, not-false}
 use Rattle.run_lines.specs.Lines.{withNumber}
 use Rattle.run_lines.proofs.with_number.Statement.{statement}
 use Rattle.run_lines.proofs.with_number.Tie as tie
@@ -11,14 +10,14 @@ use Rattle.run_lines.proofs.with_number.Tie as tie
 returns : tie.Need-returns
 unfolding withNumber
 returns c =
-    let z : c .before .before .args .line .begun ≡ false = not-f _ (c .if1 .taken) in
+    let z : c .before .before .args .line .begun ≡ false = not-true _ (c .if1 .taken) in
     rw z
 
 returns-2 : tie.Need-returns-2
 unfolding withNumber
 returns-2 c =
     let l = c .before .before .before .args .line in
-    let z : l .begun ≡ true = f-not _ (c .before .if1 .left) in
+    let z : l .begun ≡ true = not-false _ (c .before .if1 .left) in
     rw (z, le-ltb (l .count) 64 (omega arith))
 
 mul-l : tie.Need-mul-l
@@ -34,7 +33,7 @@ returns-3 : tie.Need-returns-3
 unfolding withNumber
 returns-3 c =
     let l = c .before .before .before .args .line in
-    let z : l .begun ≡ true = f-not _ (c .before .if1 .left) in
+    let z : l .begun ≡ true = not-false _ (c .before .if1 .left) in
     rw (z, lt-ltb (l .count) 64 (omega arith))
 
 pub with-number-spec : {M : Type 1} → statement M

@@ -22,8 +22,8 @@ abbrev μ-loop : tie.MeasureT-loop
 loop-holds : tie.Need-loop-holds Inv-loop μ-loop
 loop-holds c = (omega arith, λ k l. absurd (omega arith))
 
-depth-at-requires : tie.Need-depth-at-requires Inv-loop μ-loop
-depth-at-requires c κs =
+entry-dist-requires : tie.Need-entry-dist-requires Inv-loop μ-loop
+entry-dist-requires c κs =
     let o = c .before .before .before .pre in
     (o .small, o .room, omega (arith, o .upto, c .loop-test .taken), o .nodes (c .before .loop .x) (c .loop-test .taken))
 
@@ -33,7 +33,7 @@ returns c =
     let a = c .before .before .before .before .before .args in
     sym (first-is (λ k. leb (a .d) (distAt (a .n) (a .work .now) (nodeAt (a .work .now) k))) (a .head) (c .before .before .before .loop .x)
     (c .before .before .loop-test .taken) (c .before .before .before .loop .inv .1)
-    (le-leb _ _ (rw (c .before .depth-at .ensures) at (c .if1 .taken))))
+    (le-leb _ _ (rw (c .before .entry-dist .ensures) at (c .if1 .taken))))
 
 add-x : tie.Need-add-x Inv-loop μ-loop
 add-x c = omega arith
@@ -45,7 +45,7 @@ loop-again : tie.Need-loop-again Inv-loop μ-loop
 loop-again c = (
   omega arith,
   below-more _ _ (c .before .before .before .loop .inv .1)
-      (lt-leb _ _ (rw (c .before .depth-at .ensures) at (c .if1 .left))),
+      (lt-leb _ _ (rw (c .before .entry-dist .ensures) at (c .if1 .left))),
 )
 
 returns-2 : tie.Need-returns-2 Inv-loop μ-loop
@@ -63,7 +63,7 @@ level-start-spec =
     Inv-loop
     μ-loop
     loop-holds
-    depth-at-requires
+    entry-dist-requires
     returns
     add-x
     loop-less

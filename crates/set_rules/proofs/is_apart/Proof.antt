@@ -6,7 +6,7 @@ use Prim.Native.Nat.{ℕ, _-_, _≤_}
 use native.Mathlib.Omega.{arith}
 use Rattle.base.specs.Range.{all, all-more, all-stop, all-done}
 use Rattle.sheet_spec.specs.Kept.{acceptance}
-use Rattle.sheet_spec.specs.Rules.{apart}
+use Rattle.sheet_spec.specs.Rules.{noneInside}
 use Rattle.events.specs.Sets.{inside}
 use Rattle.set_rules.specs.Shapes.{setsAlone}
 use Rattle.set_rules.proofs.is_apart.Statement.{statement}
@@ -42,7 +42,7 @@ is-inside-requires : tie.Need-is-inside-requires Inv-loop μ-loop
 is-inside-requires c κs = tt
 
 returns : tie.Need-returns Inv-loop μ-loop
-unfolding apart acceptance setsAlone
+unfolding noneInside acceptance setsAlone
 returns c =
     let l = c .before .before .before .before .loop in
     let a = c .before .before .before .before .before .before .args in
@@ -62,7 +62,7 @@ loop-again c =
     (omega arith, all-more (outside (a .sets .now) (a .j)) (l .k) (l .inv .1) (ap not (sym (c .before .is-inside .ensures) ∙ c .if1 .left)))
 
 returns-2 : tie.Need-returns-2 Inv-loop μ-loop
-unfolding apart
+unfolding noneInside
 returns-2 c =
     let l = c .before .loop in
     let a = c .before .before .before .args in

@@ -14,8 +14,8 @@ Inv-loop sets c e from end x₀ x = (x ≤ end) × (nextFrom (turn (take c sets)
 abbrev μ-loop : tie.MeasureT-loop
 μ-loop sets c e from end x₀ x = end - x
 
-rounds-requires : tie.Need-rounds-requires Inv-loop μ-loop
-rounds-requires c κs = omega arith
+turns-of-requires : tie.Need-turns-of-requires Inv-loop μ-loop
+turns-of-requires c κs = omega arith
 
 loop-holds : tie.Need-loop-holds Inv-loop μ-loop
 loop-holds c = (omega arith, refl)
@@ -45,7 +45,7 @@ returns-2 : tie.Need-returns-2 Inv-loop μ-loop
 returns-2 c =
     let l = c .before in
     let a = l .before .before .args in
-    let e : l .before .rounds .result ≡ l .loop .x = omega arith in
+    let e : l .before .turns-of .result ≡ l .loop .x = omega arith in
     e ∙ sym (next-end (turn (take (a .c) (a .sets)) (a .e)) (turns (a .e)) (l .loop .x) (omega arith)) ∙ l .loop .inv .1
 
 pub next-turn-spec : {M : Type 1} → statement M
@@ -54,7 +54,7 @@ next-turn-spec =
     (tie.spec
     Inv-loop
     μ-loop
-    rounds-requires
+    turns-of-requires
     loop-holds
     is-listed-requires
     returns

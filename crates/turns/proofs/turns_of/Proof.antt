@@ -1,10 +1,10 @@
--- `turns::rounds`: a turn for each set of `e` events.
+-- `turns::turns_of`: a turn for each set of `e` events.
 use Prim.Native.Nat.{_≤_, _^_}
 use native.Mathlib.Omega.{arith}
 use lib.Pow.{pow-mono}
 use Rattle.probes_spec.specs.Shapes.{turns}
-use Rattle.turns.proofs.rounds.Statement.{statement}
-use Rattle.turns.proofs.rounds.Tie as tie
+use Rattle.turns.proofs.turns_of.Statement.{statement}
+use Rattle.turns.proofs.turns_of.Tie as tie
 
 cast-result : tie.Need-cast-result
 cast-result c = omega arith
@@ -16,5 +16,5 @@ returns : tie.Need-returns
 unfolding turns
 returns c = let h : 2 ^ c .args .e ≤ 2 ^ 12 = pow-mono (c .pre) in omega arith
 
-pub rounds-spec : {M : Type 1} → statement M
-rounds-spec = tie.close (tie.spec cast-result shl-result returns)
+pub turns-of-spec : {M : Type 1} → statement M
+turns-of-spec = tie.close (tie.spec cast-result shl-result returns)
