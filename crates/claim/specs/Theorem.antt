@@ -6,9 +6,9 @@ use mathlib.Core.List.{List}
 use Prim.Native.Nat.{ℕ, _-_, _*_, _≤_, _<_}
 use native.Mathlib.Omega.{arith}
 use native.Mathlib.Nat.{mul-le-mul}
-use lib.ListN.{take, drop}
-use lib.Seq.{take-at}
+use lib.ListN.{take}
 use Rattle.base.specs.Truth.{lt-or-ge, not-i, clash, dec}
+use Rattle.base.specs.Front.{atFront-taken}
 use Rattle.events.specs.Bit.{bit, Apart}
 use Rattle.sheet_spec.specs.declared.Sheet.{Sheet}
 use Rattle.sheet_spec.specs.Kept.{row, acceptance}
@@ -149,7 +149,7 @@ module _ (P Q : Sheet) (accP : sheetFault P ≡ 0) (accQ : sheetFault Q ≡ 0) (
   trace-front work trace l n = go (lt-or-ge (nearest to P Q) (pairs P Q))
     where
       go : (nearest to P Q < pairs P Q) ⊎ (pairs P Q ≤ nearest to P Q) → take (nearest to P Q) (traceAfter to P Q work trace) ≡ nearestTrace to P Q
-      go (inl k) = rw (given-trace P Q work trace to (fits work trace l) k) (take-at (nearestTrace to P Q) (drop (nearest to P Q) trace) (nearest to P Q) (trace-length op oq same to))
+      go (inl k) = rw (given-trace P Q work trace to (fits work trace l) k) (atFront-taken trace (nearestTrace to P Q) (trace-length op oq same to))
       go (inr k) = absurd (n (refines-nearest op oq same to .1 k))
 
   described : (work trace : List ℕ) → LongEnough P Q work trace → Describes to P Q (outcomeOf to P Q work trace) (traceOf to P Q)

@@ -16,7 +16,7 @@ use Rattle.base.specs.Table.{upTo}
 use Rattle.walks.specs.Graph.{Graph}
 use Rattle.walks.specs.Cleared.{cleared}
 use Rattle.walks.specs.Product.{product}
-use Rattle.walks.specs.Pairs.{pairDistance, pairTrace, pairCleared, pairTrace-length, pairTrace-leads, pairCleared-more}
+use Rattle.walks.specs.Pairs.{pairDistance, pairTrace, pairCleared, pairTrace-leads, pairCleared-more}
 use Rattle.sheet_spec.specs.declared.Sheet.{Sheet}
 use Rattle.sheet_spec.specs.Kept.{row, successor, step, graph}
 use Rattle.sheet_spec.specs.Rules.{sheetFault}
@@ -109,7 +109,7 @@ module _ (traceOnly : Bool) (P Q : Sheet) (op : Sound P) (oq : Sound Q) where
     where
       go : (nearest traceOnly P Q < P .n * Q .n) ⊎ (P .n * Q .n ≤ nearest traceOnly P Q) → traceFound (graph P) (graph Q) table trace ≡ traceAfter traceOnly P Q work trace
       go (inl l) =
-          rw (pairTrace-length (graph P) (graph Q) table, same-distance, lt-ltb (nearest traceOnly P Q) (P .n * Q .n) l, same-trace l)
+          rw (same-distance, lt-ltb (nearest traceOnly P Q) (P .n * Q .n) l, same-trace l)
           (sym (given-trace P Q work trace traceOnly z l))
       go (inr l) = rw (same-distance, le-ltb (nearest traceOnly P Q) (P .n * Q .n) l) (sym (given-no-trace P Q work trace traceOnly l))
 

@@ -3,9 +3,9 @@ use mathlib.Core.Path.{_≡_, refl, sym, _∙_}
 use mathlib.Core.Bool.{Bool}
 use mathlib.Core.List.{List}
 use Prim.Native.Nat.{ℕ, _-_, _*_, _≤_, _<_}
-use lib.ListN.{length, take, drop}
-use lib.Seq.{take-at}
+use lib.ListN.{length, take}
 use borrow.Author.Tests.{lt-ltb}
+use Rattle.base.specs.Front.{atFront-taken}
 use Rattle.sheet_spec.specs.declared.Sheet.{Sheet}
 use Rattle.sheet_spec.specs.Rules.{sheetFault}
 use Rattle.sheet_spec.specs.Sound.{Sound, check-sound}
@@ -42,4 +42,4 @@ module _ (to : Bool) (P Q : Sheet) (accP : sheetFault P ≡ 0) (accQ : sheetFaul
   trace-unique o t d l =
       describes-only op oq same to o t d .1
       ∙ rw (lt-ltb (nearest to P Q) (pairs P Q) l, given-trace P Q work trace to z l)
-      (sym (take-at (nearestTrace to P Q) (drop (nearest to P Q) trace) (nearest to P Q) (trace-length op oq same to)))
+      (sym (atFront-taken trace (nearestTrace to P Q) (trace-length op oq same to)))

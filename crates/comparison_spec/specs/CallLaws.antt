@@ -1,15 +1,15 @@
 -- The call of a comparison: when each refusal is given, and what it then answers and leaves.
-use mathlib.Core.Path.{_≡_, refl, _∙_, subst}
+use mathlib.Core.Path.{_≡_, refl, _∙_}
 use mathlib.Core.Logic.{_⊎_, inl, inr, _≢_, _↔_}
 use mathlib.Core.Bool.{Bool, true, false, _&&_, cond}
-use mathlib.Core.List.{List, _++_}
+use mathlib.Core.List.{List}
 use Prim.Native.Nat.{ℕ, _+_, _-_, _*_, _≤_, _<_}
 use native.Mathlib.Omega.{arith}
 use lib.Dec.{eqb, leb}
-use lib.ListN.{length, getD, drop, replicate, length-replicate, getD-replicate, List·getD-append}
-use lib.Seq.{getD-append-add, getD-drop}
+use lib.ListN.{length, getD, replicate, length-replicate, getD-replicate}
 use borrow.Author.Tests.{eq-eqb, ne-eqb, lt-ltb, le-ltb}
 use Rattle.base.specs.Finds.{finds-le}
+use Rattle.base.specs.Front.{atFront, atFront-before, atFront-behind}
 use Rattle.base.specs.Refusal.{unless, unless-hit, unless-pass, unless-none, unless-other}
 use Rattle.sheet_spec.specs.declared.Sheet.{Sheet}
 use Rattle.sheet_spec.specs.Rules.{sheetFault}
@@ -18,12 +18,6 @@ use Rattle.sheet_spec.specs.PairFaults.{BothAccepted, pair-reference, pair-devi
 use Rattle.comparison_spec.specs.declared.Outcome.the-variants.{Denied}
 use Rattle.comparison_spec.specs.Numbers.{compared}
 use Rattle.comparison_spec.specs.Comparison.{pairs, nearest, nearestTrace, comparisonOf, compareFault, outcomeOf, traceAfter, workAfter}
-
--- behind a front of zeros the list is as it was
-past-zeros : (n : ℕ) (w : List ℕ) (x : ℕ) → getD (replicate n 0 ++ drop n w) (n + x) 0 ≡ getD w (n + x) 0
-past-zeros n w x =
-    subst (λ (k : ℕ). getD (replicate n 0 ++ drop n w) (k + x) 0 ≡ getD w (n + x) 0) (length-replicate {A = ℕ} n 0)
-    (getD-append-add (replicate n 0) (drop n w) x 0 ∙ getD-drop n w x 0)
 
 module _ (P Q : Sheet) (work trace : List ℕ) where
   -- what is tested after 12
@@ -110,7 +104,7 @@ module _ (P Q : Sheet) (work trace : List ℕ) where
     unfolding outcomeOf
     given-outcome z = rw (eq-eqb (compareFault P Q work trace) 0 z)
 
-    pub given-trace : compareFault P Q work trace ≡ 0 → nearest to P Q < pairs P Q → traceAfter to P Q work trace ≡ nearestTrace to P Q ++ drop (nearest to P Q) trace
+    pub given-trace : compareFault P Q work trace ≡ 0 → nearest to P Q < pairs P Q → traceAfter to P Q work trace ≡ atFront trace (nearestTrace to P Q)
     unfolding traceAfter
     given-trace z l = rw (eq-eqb (compareFault P Q work trace) 0 z, lt-ltb (nearest to P Q) (pairs P Q) l)
 
@@ -118,11 +112,11 @@ module _ (P Q : Sheet) (work trace : List ℕ) where
     unfolding traceAfter
     given-no-trace l = rw (le-ltb (nearest to P Q) (pairs P Q) l) (off (eqb (compareFault P Q work trace) 0))
       where
-        off : (b : Bool) → cond (b && false) (nearestTrace to P Q ++ drop (nearest to P Q) trace) trace ≡ trace
+        off : (b : Bool) → cond (b && false) (atFront trace (nearestTrace to P Q)) trace ≡ trace
         off true = refl
         off false = refl
 
-    pub given-work : compareFault P Q work trace ≡ 0 → workAfter P Q work trace ≡ replicate (3 * pairs P Q) 0 ++ drop (3 * pairs P Q) work
+    pub given-work : compareFault P Q work trace ≡ 0 → workAfter P Q work trace ≡ atFront work (replicate (3 * pairs P Q) 0)
     unfolding workAfter
     given-work z = rw (eq-eqb (compareFault P Q work trace) 0 z)
 
@@ -133,8 +127,8 @@ module _ (P Q : Sheet) (work trace : List ℕ) where
 
     -- place by place: 3 p q words of the work list are 0, and later words are left
     pub work-zero : compareFault P Q work trace ≡ 0 → (x : ℕ) → x < 3 * pairs P Q → getD (workAfter P Q work trace) x 1 ≡ 0
-    work-zero z x l = rw (given-work z) (List·getD-append (replicate (3 * pairs P Q) 0) (drop (3 * pairs P Q) work) 1 x (omega (arith, length-replicate {A = ℕ} (3 * pairs P Q) 0))
+    work-zero z x l = rw (given-work z) (atFront-before work (replicate (3 * pairs P Q) 0) x 1 (omega (arith, length-replicate {A = ℕ} (3 * pairs P Q) 0))
         ∙ getD-replicate {A = ℕ} (3 * pairs P Q) x 0 1 l)
 
     pub work-left : compareFault P Q work trace ≡ 0 → (x : ℕ) → getD (workAfter P Q work trace) (3 * pairs P Q + x) 0 ≡ getD work (3 * pairs P Q + x) 0
-    work-left z x = rw (given-work z) (past-zeros (3 * pairs P Q) work x)
+    work-left z x = rw (given-work z) (atFront-behind work (replicate (3 * pairs P Q) 0) (3 * pairs P Q + x) 0 (omega (arith, length-replicate {A = ℕ} (3 * pairs P Q) 0)))

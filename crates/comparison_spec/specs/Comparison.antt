@@ -2,11 +2,12 @@
 -- `traceOnly` counts strays alone. What these definitions mean is said in Meaning; ComparisonLaws,
 -- OutcomeLaws and CallLaws tie the two.
 use mathlib.Core.Bool.{Bool, _&&_, cond}
-use mathlib.Core.List.{List, _++_}
+use mathlib.Core.List.{List}
 use Prim.Native.Nat.{ℕ, _-_, _*_}
 use lib.Dec.{eqb, ltb, leb}
-use lib.ListN.{length, drop, replicate}
+use lib.ListN.{length, replicate}
 use Rattle.base.specs.Refusal.{unless}
+use Rattle.base.specs.Front.{atFront}
 use Rattle.walks.specs.Graph.{walk}
 use Rattle.walks.specs.Pairs.{pairDistance, pairTrace, pairCleared}
 use Rattle.sheet_spec.specs.declared.Row.{Row}
@@ -75,10 +76,10 @@ outcomeOf traceOnly P Q work trace =
 unfoldable pub traceAfter : Bool → Sheet → Sheet → List ℕ → List ℕ → List ℕ
 traceAfter traceOnly P Q work trace =
     cond (eqb (compareFault P Q work trace) 0 && ltb (nearest traceOnly P Q) (pairs P Q))
-    (nearestTrace traceOnly P Q ++ drop (nearest traceOnly P Q) trace)
+    (atFront trace (nearestTrace traceOnly P Q))
     trace
 
 -- the work list at exit: 3 p q words are 0 and later words left; untouched where the call is refused
 unfoldable pub workAfter : Sheet → Sheet → List ℕ → List ℕ → List ℕ
 workAfter P Q work trace =
-    cond (eqb (compareFault P Q work trace) 0) (replicate (3 * pairs P Q) 0 ++ drop (3 * pairs P Q) work) work
+    cond (eqb (compareFault P Q work trace) 0) (atFront work (replicate (3 * pairs P Q) 0)) work

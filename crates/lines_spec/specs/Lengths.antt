@@ -6,14 +6,14 @@ use Prim.Native.Nat.{ℕ, zero, suc, _+_, _-_, _*_, _^_, _≤_, _<_}
 use native.Mathlib.Nat.{le-trans, mul-le-mul}
 use native.Mathlib.Omega.{arith}
 use lib.Dec.{eqb, ltb, leb}
-use lib.ListN.{length, getD, take, drop, length-append}
+use lib.ListN.{length, getD, take, length-append}
 use lib.Pow.{pow-mono}
-use lib.Seq.{take-at}
 use borrow.Author.Tests.{ltb-true}
 use Rattle.base.specs.Refusal.{unless}
 use Rattle.base.specs.Count.{count-le}
 use Rattle.base.specs.Range.{first≤}
 use Rattle.base.specs.Table.{length-upTo, getD-upTo}
+use Rattle.base.specs.Front.{atFront, atFront-taken}
 use Rattle.walks.specs.Graph.{Graph, walk}
 use Rattle.walks.specs.Near.{later, choice, leastFrom, leastTrace}
 use Rattle.walks.specs.Cleared.{cleared}
@@ -117,9 +117,9 @@ module _ (P Q : Sheet) (hP : sheetFault P ≡ 0) (hQ : sheetFault Q ≡ 0) where
   unfolding nearest nearestTrace pairTrace pairDistance leastTrace product
   events-length = least-length (product (graph P) (graph Q)) (onCodes (graph Q) (violating false P Q)) (check-sound P hP .ranges .e-high) _ 0
 
-  told-length : (rest : List ℕ) → nearest false P Q < pairs P Q → length (traceLine (take (nearest false P Q) (nearestTrace false P Q ++ rest))) ≤ 3075
-  told-length rest h =
-      rw (take-at (nearestTrace false P Q) rest (nearest false P Q) nearest-length, trace-length (nearestTrace false P Q)) (omega (arith, h, pairs-le, events-length))
+  told-length : (list : List ℕ) → nearest false P Q < pairs P Q → length (traceLine (take (nearest false P Q) (atFront list (nearestTrace false P Q)))) ≤ 3075
+  told-length list h =
+      rw (atFront-taken list (nearestTrace false P Q) nearest-length, trace-length (nearestTrace false P Q)) (omega (arith, h, pairs-le, events-length))
     where
       nearest-length : length (nearestTrace false P Q) ≡ nearest false P Q
       nearest-length = unfold nearest in (unfold nearestTrace in (pairTrace-length (graph P) (graph Q) (violating false P Q)))
@@ -181,11 +181,11 @@ module _ (P Q : Sheet) (hP : sheetFault P ≡ 0) (hQ : sheetFault Q ≡ 0) where
       go : (x y : Bool) → ltb (nearest false P Q) (pairs P Q) ≡ y
           → length (outcomeLines
           (cond x (cond y (named (nearest false P Q) (clearedOf false P Q) (P .e) (lastRow false P Q P) (lastRow false P Q Q)) (Refines (clearedOf false P Q))) (Denied k))
-          (cond (x && y) (nearestTrace false P Q ++ drop (nearest false P Q) traceList) traceList)) ≤ 3129
+          (cond (x && y) (atFront traceList (nearestTrace false P Q)) traceList)) ≤ 3129
       go true true e =
           let h = ltb-true (nearest false P Q) (pairs P Q) e in
           named-length (nearest false P Q) (clearedOf false P Q) (lastRow false P Q P) (lastRow false P Q Q) nearest-le cleared-le (narrow-last h)
-          (nearestTrace false P Q ++ drop (nearest false P Q) traceList) (told-length (drop (nearest false P Q) traceList) h)
+          (atFront traceList (nearestTrace false P Q)) (told-length traceList h)
       go true false e = omega (arith, number-length (ascii "refines cleared ") 3 (clearedOf false P Q) (omega (arith, cleared-le)))
       go false y e = omega (arith, number-length (ascii "comparison refused ") 1 k (omega (arith, compare-le workList traceList)))
 

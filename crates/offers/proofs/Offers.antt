@@ -14,13 +14,12 @@ use borrow.Author.Tests.{lt-ltb, le-ltb, ne-eqb}
 use mir.Val.{Val}
 use denote.Laws.{Is}
 use Rattle.base.specs.Truth.{or-r}
+use Rattle.base.specs.Front.{atFront, atFront-before}
 use Rattle.sheet_spec.specs.declared.Row.{Row}
 use Rattle.sheet_spec.specs.Kept.{acceptance, acceptances, initials}
 use Rattle.sheet_spec.specs.Slices.{upTo-is}
 use Rattle.sheet_spec.proofs.Row as R
 use Rattle.probes_spec.specs.Probes.{probes}
-use Rattle.probes_spec.specs.Listing.{front as frontWith}
-use Rattle.probes_spec.specs.ListingLaws.{front-at}
 use Rattle.probes_spec.specs.ProbeLaws.{probes-few}
 use Rattle.tests_spec.specs.declared.Run.{Run}
 use Rattle.tests_spec.specs.Flags.{flag}
@@ -71,11 +70,11 @@ module _ (ps : List ℕ) (h : ℕ) {m : ℕ} (q : m ≡ length ps) where
   chosen-none z = rw (← q, z)
 
   -- from a list that has the probes at its front
-  pub chosen-some : (out : List ℕ) {found : List ℕ} → m ≢ 0 → found ≡ frontWith out ps → getD found (h % m) 0 ≡ chosen ps h
+  pub chosen-some : (out : List ℕ) {found : List ℕ} → m ≢ 0 → found ≡ atFront out ps → getD found (h % m) 0 ≡ chosen ps h
   unfolding chosen
   chosen-some out n p =
       let l : h % m < length ps = rw (← q) (mod-lt h (omega arith)) in
-      rw p (front-at out ps (h % m) l ∙ rw (← q, ne-eqb m 0 n))
+      rw p (atFront-before out ps (h % m) 0 l ∙ rw (← q, ne-eqb m 0 n))
 
   -- the place is in a list of 4,096
   pub chosen-place : length ps ≤ 4096 → m ≢ 0 → h % m < 4096

@@ -5,6 +5,7 @@ use mathlib.Core.List.{List}
 use Prim.Native.Nat.{ℕ, _≤_, _<_}
 use native.Mathlib.Omega.{arith}
 use lib.ListN.{length, take}
+use Rattle.base.specs.Front.{atFront}
 use Rattle.sheet_spec.specs.declared.Sheet.{Sheet}
 use Rattle.sheet_spec.specs.Kept.{row}
 use Rattle.sheet_spec.specs.Form.{SheetForm}
@@ -14,7 +15,7 @@ use Rattle.sheet_spec.specs.Sound.{check-sound}
 use Rattle.probes_spec.specs.declared.Listed.{Listed}
 use Rattle.probes_spec.specs.declared.Listed.the-variants.{Count, Denied}
 use Rattle.probes_spec.specs.Probes.{probes}
-use Rattle.probes_spec.specs.Listing.{nodeProbes, listFault, listedNumbers, listedOf, listNumbers, front, listAfter}
+use Rattle.probes_spec.specs.Listing.{nodeProbes, listFault, listedNumbers, listedOf, listNumbers, listAfter}
 use Rattle.probes_spec.specs.ListingLaws.{list-sheet, list-9, list-10, list-0, listed-numbers, listed-denied, after-denied, listed-count, after-front, node-few}
 
 module _ (s : Sheet) (v : ℕ) (out : List ℕ) where
@@ -44,7 +45,7 @@ module _ (s : Sheet) (v : ℕ) (out : List ℕ) where
 
   -- all probes
   pub told-all : sheetFault s ≡ 0 → v < s .n → length (nodeProbes s v) ≤ length out
-      → (m : ℕ) (after : List ℕ) → m ≡ length (nodeProbes s v) → after ≡ front out (nodeProbes s v) → Told (Count m) after
+      → (m : ℕ) (after : List ℕ) → m ≡ length (nodeProbes s v) → after ≡ atFront out (nodeProbes s v) → Told (Count m) after
   told-all h l b m after p q =
       let z : listFault s v out ≡ 0 = list-0 s v out .1 (h, l, b) in
       told (Count m) after (ap Count p ∙ sym (listed-count s v out z)) (q ∙ sym (after-front s v out z))

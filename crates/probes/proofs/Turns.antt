@@ -9,13 +9,13 @@ use native.Mathlib.Decide.{le-ind}
 use native.Mathlib.Numerals.{add-one}
 use native.Mathlib.Omega.{arith}
 use lib.ListN.{length, getD, set, take, drop, length-append}
-use lib.Seq.{drop-cons, set-append-seam, take-suc, length-take-le, take-append-seam}
+use lib.Seq.{drop-cons, set-append-seam, take-suc, length-take-le}
 use Rattle.base.specs.Truth.{dec}
+use Rattle.base.specs.Front.{atFront, atFront-taken}
 use Rattle.probes_spec.specs.Probes.{gather, probes}
 use Rattle.probes_spec.specs.Gather.{gather-yes, gather-no, gather-skip, gather-short, gather-room}
 use Rattle.probes_spec.specs.Shapes.{turns, value, turn, nextIn, nextFrom}
 use Rattle.probes_spec.specs.ShapeLaws.{turns-probes}
-use Rattle.probes_spec.specs.Listing.{front}
 
 -- ---- the first number from x on that passes a test
 
@@ -114,33 +114,30 @@ module _ (accs : List ℕ) (e : ℕ) where
 
 -- ---- the list that is filled
 
-pub front-none : (out : List ℕ) → out ≡ front out []
-unfolding front
+pub front-none : (out : List ℕ) → out ≡ atFront out []
 front-none out = refl
 
-pub front-put : (out ps : List ℕ) (v : ℕ) → length ps < length out → set (front out ps) (length ps) v ≡ front out (ps ++ (v ∷ []))
-unfolding front
+pub front-put : (out ps : List ℕ) (v : ℕ) → length ps < length out → set (atFront out ps) (length ps) v ≡ atFront out (ps ++ (v ∷ []))
 front-put out ps v h =
     ap (λ (r : List ℕ). set (ps ++ r) (length ps) v) (drop-cons out (length ps) 0 h) ∙ set-append-seam ps _ _ v
     ∙ sym (append-assoc ps (v ∷ []) (drop (suc (length ps)) out))
     ∙ ap (λ (n : ℕ). (ps ++ (v ∷ [])) ++ drop n out) (sym (length-append ps (v ∷ []) ∙ add-one (length ps)))
 
 -- the set of a turn is written after what was seen
-pub fill-more : (accs : List ℕ) (e x : ℕ) → Stands accs e x → x < turns e → (out now : List ℕ) (n y : ℕ) → n ≡ length (seen accs e x) → now ≡ front out (seen accs e x)
-    → length (probes accs e) ≤ length out → y ≡ nextFrom (turn accs e) (turns e) (x + 1) → set now n (value e x) ≡ front out (seen accs e y)
+pub fill-more : (accs : List ℕ) (e x : ℕ) → Stands accs e x → x < turns e → (out now : List ℕ) (n y : ℕ) → n ≡ length (seen accs e x) → now ≡ atFront out (seen accs e x)
+    → length (probes accs e) ≤ length out → y ≡ nextFrom (turn accs e) (turns e) (x + 1) → set now n (value e x) ≡ atFront out (seen accs e y)
 fill-more accs e x s h out now n y a b room q =
     rw (seen-next accs e x s h y q, a, b) (front-put out (seen accs e x) (value e x) (omega (arith, seen-room accs e x s h)))
 
 -- ---- the list that is copied
 
 -- one set more
-pub copy-more : (found out now : List ℕ) (i : ℕ) → i < length found → i < length out → now ≡ front out (take i found) → set now i (getD found i 0) ≡ front out (take (i + 1) found)
+pub copy-more : (found out now : List ℕ) (i : ℕ) → i < length found → i < length out → now ≡ atFront out (take i found) → set now i (getD found i 0) ≡ atFront out (take (i + 1) found)
 copy-more found out now i h k e =
     let l : length (take i found) ≡ i = length-take-le i found (omega arith) in
     rw (e, add-one i, take-suc found i 0 h)
-    (ap (λ (n : ℕ). set (front out (take i found)) n (getD found i 0)) (sym l) ∙ front-put out (take i found) (getD found i 0) (omega arith))
+    (ap (λ (n : ℕ). set (atFront out (take i found)) n (getD found i 0)) (sym l) ∙ front-put out (take i found) (getD found i 0) (omega arith))
 
 -- of a list that has others at its front, as many as they are
-pub front-taken : (out ps : List ℕ) {found : List ℕ} {m : ℕ} → found ≡ front out ps → m ≡ length ps → take m found ≡ ps
-unfolding front
-front-taken out ps p q = rw (p, q) (take-append-seam ps (drop (length ps) out))
+pub front-taken : (out ps : List ℕ) {found : List ℕ} {m : ℕ} → found ≡ atFront out ps → m ≡ length ps → take m found ≡ ps
+front-taken out ps p q = rw p (atFront-taken out ps (sym q))

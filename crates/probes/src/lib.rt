@@ -4,9 +4,10 @@
 ghost use mathlib.Core.Path.{_≡_};
 ghost use Prim.Native.Nat.{_≤_};
 ghost use lib.ListN.{length, take};
+ghost use Rattle.base.specs.Front.{atFront};
 ghost use Rattle.probes_spec.specs.Probes.{probes};
 ghost use Rattle.probes_spec.specs.FirstMissed.{firstMissed};
-ghost use Rattle.probes_spec.specs.Listing.{front, listedNumbers, listedOf, listNumbers, listAfter};
+ghost use Rattle.probes_spec.specs.Listing.{listedNumbers, listedOf, listNumbers, listAfter};
 use probes_spec::Listed;
 use probes_spec::Missed;
 use sheet_spec::Sheet;
@@ -16,7 +17,7 @@ use sheet_spec::Sheet;
 // Writes the probes to the front of a list that is long enough, and answers how many they are.
 pub fn fill(sets: [u16; 16], c: usize, e: usize, out: &mut [u16]) -> usize
     requires { ⌜ (c ≤ 16) × (e ≤ 12) × (length (probes (take c sets) e) ≤ length (now out)) ⌝ }
-    ensures { λ r. ⌜ (now (out .exit) ≡ front (now (out .entry)) (probes (take c sets) e)) × (r ≡ length (probes (take c sets) e)) ⌝ }
+    ensures { λ r. ⌜ (now (out .exit) ≡ atFront (now (out .entry)) (probes (take c sets) e)) × (r ≡ length (probes (take c sets) e)) ⌝ }
 {
     let last = turns::turns_of(e);
     let mut at: usize = 0;
@@ -32,7 +33,7 @@ pub fn fill(sets: [u16; 16], c: usize, e: usize, out: &mut [u16]) -> usize
 // Copies the first `m` sets of a list to the front of another.
 fn copy(found: &[u16], m: usize, out: &mut [u16])
     requires { ⌜ (m ≤ 4096) × (m ≤ length (now found)) × (m ≤ length (now out)) ⌝ }
-    ensures { λ r. ⌜ now (out .exit) ≡ front (now (out .entry)) (take m (now (found .entry))) ⌝ }
+    ensures { λ r. ⌜ now (out .exit) ≡ atFront (now (out .entry)) (take m (now (found .entry))) ⌝ }
 {
     let mut i: usize = 0;
     while i < m {

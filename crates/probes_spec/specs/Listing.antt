@@ -1,10 +1,11 @@
 -- The probe call (01, "Probes" and the refusals 9 and 10): what it answers, and what the lent list then holds.
 use mathlib.Core.Bool.{cond}
-use mathlib.Core.List.{List, _++_}
+use mathlib.Core.List.{List}
 use Prim.Native.Nat.{ℕ}
 use lib.Dec.{eqb, ltb, leb}
-use lib.ListN.{length, drop}
+use lib.ListN.{length}
 use Rattle.base.specs.Refusal.{unless, orElse}
+use Rattle.base.specs.Front.{atFront}
 use Rattle.sheet_spec.specs.declared.Sheet.{Sheet}
 use Rattle.sheet_spec.specs.Kept.{row, acceptances}
 use Rattle.sheet_spec.specs.Rules.{sheetFault}
@@ -33,10 +34,6 @@ listedOf s v out = cond (eqb (listFault s v out) 0) (Count (length (nodeProbes s
 unfoldable pub listNumbers : Sheet → ℕ → List ℕ → ℕ × ℕ
 listNumbers s v out = (listFault s v out, cond (eqb (listFault s v out) 0) (length (nodeProbes s v)) 0)
 
--- a list with others at its front, and its rest untouched
-unfoldable pub front : List ℕ → List ℕ → List ℕ
-front out ps = ps ++ drop (length ps) out
-
 -- the list after the call: the probes at its front; after a refusal as it was
 unfoldable pub listAfter : Sheet → ℕ → List ℕ → List ℕ
-listAfter s v out = cond (eqb (listFault s v out) 0) (front out (nodeProbes s v)) out
+listAfter s v out = cond (eqb (listFault s v out) 0) (atFront out (nodeProbes s v)) out

@@ -2,16 +2,16 @@
 use mathlib.Core.Path.{_≡_, refl, sym, _∙_}
 use mathlib.Core.Logic.{_⊎_, inl, inr, _↔_, _≢_}
 use mathlib.Core.Bool.{Bool, true, false, cond}
-use mathlib.Core.List.{List, _++_}
-use Prim.Native.Nat.{ℕ, _+_, _-_, _^_, _≤_, _<_}
+use mathlib.Core.List.{List}
+use Prim.Native.Nat.{ℕ, _^_, _≤_, _<_}
 use native.Mathlib.Omega.{arith}
 use lib.Dec.{eqb, ltb, leb}
-use lib.ListN.{length, getD, drop, length-append, length-drop, List·getD-append}
-use lib.Seq.{getD-append-add, getD-drop}
+use lib.ListN.{length, getD}
 use lib.Pow.{pow-mono}
 use borrow.Author.Tests.{eqb-true, eq-eqb, ne-eqb}
 use Rattle.base.specs.Truth.{dec, clash, lt-or-ge}
 use Rattle.base.specs.Finds.{finds-lt, finds-le}
+use Rattle.base.specs.Front.{atFront, atFront-length, atFront-before, atFront-behind}
 use Rattle.base.specs.Refusal.{unless, unless-hit, unless-pass, unless-none, unless-other, orElse-some, orElse-first, orElse-then}
 use Rattle.sheet_spec.specs.declared.Sheet.{Sheet}
 use Rattle.sheet_spec.specs.Kept.{row, acceptance, acceptances, mayStop}
@@ -22,12 +22,7 @@ use Rattle.sheet_spec.specs.Sound.{Sound, check-sound}
 use Rattle.probes_spec.specs.declared.Listed.the-variants.{Count, Denied}
 use Rattle.probes_spec.specs.Probes.{probes, Probe, Narrow}
 use Rattle.probes_spec.specs.ProbeLaws.{probe-at, probe-listed, probes-few, probes-none, probes-some}
-use Rattle.probes_spec.specs.Listing.{nodeProbes, listFault, listedNumbers, listedOf, listNumbers, front, listAfter}
-
--- a list with others at its front has them at their places
-pub front-at : (out ps : List ℕ) (x : ℕ) → x < length ps → getD (front out ps) x 0 ≡ getD ps x 0
-unfolding front
-front-at out ps x l = List·getD-append ps (drop (length ps) out) 0 x l
+use Rattle.probes_spec.specs.Listing.{nodeProbes, listFault, listedNumbers, listedOf, listNumbers, listAfter}
 
 -- a sheet's own refusal is none of this call's
 own-other : (s : Sheet) (m : ℕ) → 8 < m → sheetFault s ≢ m
@@ -139,30 +134,24 @@ module _ (s : Sheet) (v : ℕ) (out : List ℕ) where
     numbers-count = rw (eq-eqb (listFault s v out) 0 z, z)
 
     -- the probes stand at the front of the list, the rest is untouched
-    pub after-front : listAfter s v out ≡ front out (nodeProbes s v)
+    pub after-front : listAfter s v out ≡ atFront out (nodeProbes s v)
     unfolding listAfter
     after-front = rw (eq-eqb (listFault s v out) 0 z)
 
     -- .. place by place
     pub after-probe : (x : ℕ) → x < length (nodeProbes s v) → getD (listAfter s v out) x 0 ≡ getD (nodeProbes s v) x 0
-    after-probe x l = rw after-front (front-at out (nodeProbes s v) x l)
+    after-probe x l = rw after-front (atFront-before out (nodeProbes s v) x 0 l)
 
     pub after-rest : (x : ℕ) → length (nodeProbes s v) ≤ x → getD (listAfter s v out) x 0 ≡ getD out x 0
-    unfolding front
-    after-rest x l = rw after-front (past (nodeProbes s v) out x l)
-      where
-        past : (ps out : List ℕ) (x : ℕ) → length ps ≤ x → getD (ps ++ drop (length ps) out) x 0 ≡ getD out x 0
-        past ps out x l =
-            let e : x ≡ length ps + (x - length ps) = omega arith in
-            rw e (getD-append-add ps (drop (length ps) out) (x - length ps) 0 ∙ getD-drop (length ps) out (x - length ps) 0)
+    after-rest x l = rw after-front (atFront-behind out (nodeProbes s v) x 0 l)
 
   -- the list keeps its length
   pub after-length : length (listAfter s v out) ≡ length out
-  unfolding listAfter front
+  unfolding listAfter
   after-length = go (eqb (listFault s v out) 0) refl
     where
-      go : (b : Bool) → eqb (listFault s v out) 0 ≡ b → length (cond b (nodeProbes s v ++ drop (length (nodeProbes s v)) out) out) ≡ length out
-      go true e = simp (length-append, length-drop) (omega (arith, list-0 .0 (eqb-true (listFault s v out) 0 e) .2))
+      go : (b : Bool) → eqb (listFault s v out) 0 ≡ b → length (cond b (atFront out (nodeProbes s v)) out) ≡ length out
+      go true e = atFront-length out (nodeProbes s v) (list-0 .0 (eqb-true (listFault s v out) 0 e) .2)
       go false e = refl
 
 -- ---- the probes of a node of a sheet that is not refused

@@ -2,18 +2,19 @@
 use mathlib.Core.Path.{_≡_, sym, ap, _∙_}
 use mathlib.Core.Logic.{_⊎_, inl, inr}
 use mathlib.Core.Bool.{Bool, true, false, cond}
-use mathlib.Core.List.{List, _++_}
+use mathlib.Core.List.{List}
 use Prim.Native.Nat.{ℕ, _*_, _/_, _%_, _≤_, _<_}
 use native.Mathlib.Omega.{arith}
 use native.Mathlib.Nat.{div-add-mod', div-lt-iff-lt-mul, mod-lt}
 use lib.Dec.{leb, ltb}
-use lib.ListN.{length, drop, replicate}
+use lib.ListN.{replicate}
 use borrow.Author.Tests.{lt-ltb, le-ltb}
 use Rattle.base.specs.Truth.{lt-or-ge}
 use Rattle.base.specs.Range.{first}
+use Rattle.base.specs.Front.{atFront}
 use Rattle.walks.specs.Graph.{Graph, WellFormed, walk}
 use Rattle.walks.specs.Product.{code, product, product-at}
-use Rattle.walks.specs.Pairs.{pairDistance, pairTrace, pairTrace-length, pairCleared, onCodes}
+use Rattle.walks.specs.Pairs.{pairDistance, pairTrace, pairCleared, onCodes}
 use Rattle.search_spec.specs.declared.Found.{Found}
 use Rattle.search_spec.specs.declared.Found.the-variants.{Clear, Bad}
 use Rattle.search_spec.specs.Tables.{tableGraph, tablePairs, badIn, badCode, table-wellFormed, pairs-wellFormed}
@@ -30,11 +31,11 @@ module _ (r d : Graph) (bad : ℕ → ℕ → Bool) where
 
   -- The trace list at exit: the least trace in front and the rest untouched; as it was if no bad pair is reached.
   unfoldable pub traceFound : List ℕ → List ℕ
-  traceFound trace = cond (ltb (pairDistance r d bad) (r .size * d .size)) (pairTrace r d bad ++ drop (length (pairTrace r d bad)) trace) trace
+  traceFound trace = cond (ltb (pairDistance r d bad) (r .size * d .size)) (atFront trace (pairTrace r d bad)) trace
 
 -- The work list at exit: the first 3 n words are 0 and the rest untouched.
 unfoldable pub workFound : ℕ → List ℕ → List ℕ
-workFound n work = replicate (3 * n) 0 ++ drop (3 * n) work
+workFound n work = atFront work (replicate (3 * n) 0)
 
 -- What a search over two tables answers and leaves in its lists.
 pub record Searched (a b : List ℕ) (p q e : ℕ) (bad : List Bool) (work trace work′ trace′ : List ℕ) (found : Found) : Type 0 where
@@ -62,7 +63,7 @@ settled q n w h t = cond (ltb h t)
 -- The trace list as the work list has it.
 unfoldable pub readOut : ℕ → List ℕ → ℕ → ℕ → List ℕ → List ℕ
 readOut n w h t trace = cond (ltb h t)
-    (readBack (nodeAt w) (linkAt n w) (distAt n w (nodeAt w h)) h ++ drop (distAt n w (nodeAt w h)) trace)
+    (atFront trace (readBack (nodeAt w) (linkAt n w) (distAt n w (nodeAt w h)) h))
     trace
 
 module _ (a b : List ℕ) (p q e : ℕ) (bad : List Bool) (h : ℕ) (s : St) (hp : 0 < p) (hq : 0 < q)
@@ -156,7 +157,5 @@ module _ (a b : List ℕ) (p q e : ℕ) (bad : List Bool) (h : ℕ) (s : St) (hp
   readOut-is trace = go (lt-or-ge h (s .tail))
     where
       go : (h < s .tail) ⊎ (s .tail ≤ h) → readOut n w h (s .tail) trace ≡ traceFound R D T trace
-      go (inl l) =
-          let c : length (pairTrace R D T) ≡ distAt n w (nodeAt w h) = pairTrace-length R D T ∙ deep l in
-          rw (lt-ltb h (s .tail) l, lt-ltb (pairDistance R D T) n (near l), c, events l)
+      go (inl l) = rw (lt-ltb h (s .tail) l, lt-ltb (pairDistance R D T) n (near l), events l)
       go (inr l) = let k : n ≤ pairDistance R D T = omega (arith, far l) in rw (le-ltb h (s .tail) l, le-ltb (pairDistance R D T) n k)

@@ -12,6 +12,7 @@ use lib.ListN.{length, getD, set, drop, replicate, length-set, length-replicate,
 use lib.Seq.{drop-at, drop-cons, getD-set-same, drop-set-lt, append-snoc, set-at}
 use borrow.Author.Tests.{lt-ltb, le-ltb}
 use Rattle.base.specs.Table.{upTo, length-upTo, getD-upTo, fill-next, upTo-ext, upTo-all}
+use Rattle.base.specs.Front.{atFront-count}
 use Rattle.walks.specs.Graph.{Graph}
 use Rattle.search_spec.specs.declared.Found.{Found}
 use Rattle.search_spec.specs.declared.Found.the-variants.{Clear, Bad}
@@ -206,7 +207,7 @@ module _ (q n : ℕ) (w : List ℕ) (h t : ℕ) where
   unfolding settled readOut
   settle-bad node d c o o′ l en ed ec eo =
       let f : d ≡ distAt n w (nodeAt w h) = ed ∙ ap (distAt n w) en in
-      (rw (lt-ltb h t l, ec, f, en), rw (lt-ltb h t l, ← f) eo)
+      (rw (lt-ltb h t l, ec, f, en), rw (lt-ltb h t l, ← f) (eo ∙ sym (atFront-count o (readBack (nodeAt w) (linkAt n w) d h) (readBack-length (nodeAt w) (linkAt n w) d h))))
 
   -- none
   pub settle-clear : (o : List ℕ) → t ≤ h → (Clear t ≡ settled q n w h t) × (o ≡ readOut n w h t o)
@@ -286,7 +287,7 @@ module _ (p q e : ℕ) (work trace : List ℕ) (o : SearchOk p q e work trace) w
       answer = cf .0 ∙ settled-is a b p q e bad h s (o .first-some) (o .second-some) end;
       traced = cf .1 ∙ readOut-is a b p q e bad h s (o .first-some) (o .second-some) end trace;
       zeroed = unfold workFound in (cw ∙ ap (λ (y : List ℕ). replicate m 0 ++ y)
-          (cs ∙ ap (drop m) cv ∙ drop-at (replicate m 0) (drop m work) m (length-replicate m 0)));
+          (cs ∙ ap (drop m) cv ∙ drop-at (replicate m 0) (drop m work) m (length-replicate m 0)) ∙ sym (atFront-count work (replicate m 0) (length-replicate m 0)));
     }
       where
         m : ℕ

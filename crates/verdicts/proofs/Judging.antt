@@ -6,7 +6,8 @@ use Prim.Native.Nat.{ℕ, _*_, _≤_, _<_}
 use native.Mathlib.Omega.{arith}
 use native.Mathlib.Nat.{mul-le-mul}
 use lib.ListN.{length, drop}
-use Rattle.base.specs.Table.{upTo, upTo-ext}
+use Rattle.base.specs.Table.{upTo, length-upTo, upTo-ext}
+use Rattle.base.specs.Front.{atFront-count}
 use Rattle.sheet_spec.specs.declared.Sheet.{Sheet}
 use Rattle.sheet_spec.specs.Rules.{sheetFault}
 use Rattle.sheet_spec.specs.Sound.{Sound, check-sound}
@@ -112,5 +113,9 @@ module _ (P Q : Sheet) (to : Bool) (o : List ℕ) where
                 → Says (Judged (p′ * q′)) after
             by-pass {after} h =
                 let d : Judged (p′ * q′) ≡ suiteOf P Q o = ap Judged count ∙ sym (given-suite P Q o fits) in
-                let t = upTo-ext (λ k. kindOf (failsFrom to (sheetWith (P .rows) e p′) (sheetWith (Q .rows) e q′) k 0 0)) (verdictNumber to P Q) (p′ * q′) number in
-                (d, ap suited d, h ∙ ap (λ (x : List ℕ). x ++ drop (p′ * q′) o) t ∙ ap (λ (n : ℕ). upTo (verdictNumber to P Q) n ++ drop n o) count ∙ sym (given-verdicts P Q o fits to))
+                let t = upTo-ext (λ k. kindOf (failsFrom to (sheetWith (P .rows) e p′) (sheetWith (Q .rows) e q′) k 0 0)) (verdictNumber to P Q) (p′ * q′) number in (
+                  d,
+                  ap suited d,
+                  h ∙ ap (λ (x : List ℕ). x ++ drop (p′ * q′) o) t ∙ ap (λ (n : ℕ). upTo (verdictNumber to P Q) n ++ drop n o) count
+                      ∙ sym (given-verdicts P Q o fits to ∙ atFront-count o (upTo (verdictNumber to P Q) (tests P Q)) (length-upTo (verdictNumber to P Q) (tests P Q))),
+                )

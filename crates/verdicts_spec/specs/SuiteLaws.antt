@@ -1,18 +1,18 @@
 -- The call that judges all tests: when each refusal is given, what is then answered, and what stands in the list.
-use mathlib.Core.Path.{_≡_, refl, ap, _∙_}
+use mathlib.Core.Path.{_≡_, refl, _∙_}
 use mathlib.Core.Logic.{_⊎_, inl, inr, _≢_, _↔_}
 use mathlib.Core.Bool.{Bool, true, false, cond}
-use mathlib.Core.List.{List, _++_}
-use Prim.Native.Nat.{ℕ, _+_, _-_, _≤_, _<_}
+use mathlib.Core.List.{List}
+use Prim.Native.Nat.{ℕ, _≤_, _<_}
 use native.Mathlib.Omega.{arith}
 use lib.Dec.{eqb, leb}
-use lib.ListN.{length, getD, drop, length-append, length-drop, List·getD-append}
-use lib.Seq.{getD-append-add, getD-drop}
+use lib.ListN.{length, getD}
 use borrow.Author.Tests.{eqb-true, eq-eqb, ne-eqb}
 use Rattle.base.specs.Truth.{lt-or-ge}
 use Rattle.base.specs.Finds.{finds-le}
 use Rattle.base.specs.Refusal.{unless, unless-hit, unless-none, unless-other}
 use Rattle.base.specs.Table.{upTo, length-upTo, getD-upTo}
+use Rattle.base.specs.Front.{atFront, atFront-length, atFront-before, atFront-behind}
 use Rattle.sheet_spec.specs.declared.Sheet.{Sheet}
 use Rattle.sheet_spec.specs.Rules.{sheetFault}
 use Rattle.sheet_spec.specs.CheckLaws.{finally}
@@ -20,13 +20,6 @@ use Rattle.sheet_spec.specs.PairFaults.{BothAccepted, pair-reference, pair-devi
 use Rattle.verdicts_spec.specs.declared.Suite.the-variants.{Judged, Denied}
 use Rattle.verdicts_spec.specs.Suites.{tests, verdictNumber, suiteFault, suiteOf, verdictsAfter}
 use Rattle.verdicts_spec.specs.Numbers.{suited}
-
--- behind what a table fills, a list is as it was
-past : (f : ℕ → ℕ) (n : ℕ) (o : List ℕ) (x : ℕ) → n ≤ x → getD (upTo f n ++ drop n o) x 0 ≡ getD o x 0
-past f n o x l =
-    let e : x ≡ length (upTo f n) + (x - n) = omega (arith, length-upTo f n) in
-    let d : n + (x - n) ≡ x = omega arith in
-    ap (λ (y : ℕ). getD (upTo f n ++ drop n o) y 0) e ∙ getD-append-add (upTo f n) (drop n o) (x - n) 0 ∙ getD-drop n o (x - n) 0 ∙ ap (λ (y : ℕ). getD o y 0) d
 
 module _ (P Q : Sheet) (out : List ℕ) where
   -- what is tested after 11
@@ -102,7 +95,7 @@ module _ (P Q : Sheet) (out : List ℕ) where
 
     module _ (to : Bool) where
       -- the verdicts stand at the front of the list
-      pub given-verdicts : verdictsAfter to P Q out ≡ upTo (verdictNumber to P Q) (tests P Q) ++ drop (tests P Q) out
+      pub given-verdicts : verdictsAfter to P Q out ≡ atFront out (upTo (verdictNumber to P Q) (tests P Q))
       unfolding verdictsAfter
       given-verdicts = rw (eq-eqb (suiteFault P Q out) 0 z)
 
@@ -110,19 +103,19 @@ module _ (P Q : Sheet) (out : List ℕ) where
       pub verdict-place : (k : ℕ) → k < tests P Q → getD (verdictsAfter to P Q out) k 0 ≡ verdictNumber to P Q k
       verdict-place k l =
           rw given-verdicts
-          (List·getD-append (upTo (verdictNumber to P Q) (tests P Q)) (drop (tests P Q) out) 0 k (omega (arith, length-upTo (verdictNumber to P Q) (tests P Q)))
+          (atFront-before out (upTo (verdictNumber to P Q) (tests P Q)) k 0 (omega (arith, length-upTo (verdictNumber to P Q) (tests P Q)))
           ∙ getD-upTo (verdictNumber to P Q) (tests P Q) k 0 l)
 
       pub verdict-rest : (x : ℕ) → tests P Q ≤ x → getD (verdictsAfter to P Q out) x 0 ≡ getD out x 0
-      verdict-rest x l = rw given-verdicts (past (verdictNumber to P Q) (tests P Q) out x l)
+      verdict-rest x l = rw given-verdicts (atFront-behind out (upTo (verdictNumber to P Q) (tests P Q)) x 0 (omega (arith, length-upTo (verdictNumber to P Q) (tests P Q))))
 
   -- the list keeps its length
   pub verdicts-length : (to : Bool) → length (verdictsAfter to P Q out) ≡ length out
   unfolding verdictsAfter
   verdicts-length to = go (eqb (suiteFault P Q out) 0) refl
     where
-      go : (b : Bool) → eqb (suiteFault P Q out) 0 ≡ b → length (cond b (upTo (verdictNumber to P Q) (tests P Q) ++ drop (tests P Q) out) out) ≡ length out
+      go : (b : Bool) → eqb (suiteFault P Q out) 0 ≡ b → length (cond b (atFront out (upTo (verdictNumber to P Q) (tests P Q))) out) ≡ length out
       go true e =
           let room = given-room (eqb-true (suiteFault P Q out) 0 e) in
-          simp (length-append, length-drop) (omega (arith, room, length-upTo (verdictNumber to P Q) (tests P Q)))
+          atFront-length out (upTo (verdictNumber to P Q) (tests P Q)) (omega (arith, room, length-upTo (verdictNumber to P Q) (tests P Q)))
       go false e = refl

@@ -1,12 +1,13 @@
 -- All verdicts at once: what the call answers, and what the lent list then holds. P is the reference, of p nodes, and Q the device,
 -- of q nodes; `traceOnly` is true for trace-only tests. The verdict of test k is `verdictOf`, the same that a single verdict gives.
 use mathlib.Core.Bool.{Bool, cond}
-use mathlib.Core.List.{List, _++_}
+use mathlib.Core.List.{List}
 use Prim.Native.Nat.{ℕ, _*_}
 use lib.Dec.{eqb, leb}
-use lib.ListN.{length, drop}
+use lib.ListN.{length}
 use Rattle.base.specs.Refusal.{unless}
 use Rattle.base.specs.Table.{upTo}
+use Rattle.base.specs.Front.{atFront}
 use Rattle.sheet_spec.specs.declared.Sheet.{Sheet}
 use Rattle.sheet_spec.specs.Rules.{pairFault}
 use Rattle.tests_spec.specs.Verdicts.{verdictOf}
@@ -33,4 +34,4 @@ suiteOf P Q out = cond (eqb (suiteFault P Q out) 0) (Judged (tests P Q)) (Denied
 -- the list at exit: the verdicts of tests 0 to p q - 1 at its front and the rest untouched; after a refusal as it was
 unfoldable pub verdictsAfter : Bool → Sheet → Sheet → List ℕ → List ℕ
 verdictsAfter traceOnly P Q out =
-    cond (eqb (suiteFault P Q out) 0) (upTo (verdictNumber traceOnly P Q) (tests P Q) ++ drop (tests P Q) out) out
+    cond (eqb (suiteFault P Q out) 0) (atFront out (upTo (verdictNumber traceOnly P Q) (tests P Q))) out

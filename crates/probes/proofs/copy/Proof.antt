@@ -4,13 +4,13 @@ use Prim.Native.Nat.{_-_, _≤_}
 use native.Mathlib.Omega.{arith}
 use denote.Ref.{now}
 use lib.ListN.{length, getD, take, length-set}
-use Rattle.probes_spec.specs.Listing.{front}
+use Rattle.base.specs.Front.{atFront}
 use Rattle.probes.proofs.Turns.{front-none, copy-more}
 use Rattle.probes.proofs.copy.Statement.{statement}
 use Rattle.probes.proofs.copy.Tie as tie
 
 abbrev Inv-loop : tie.InvT-loop
-Inv-loop found m out₀ i₀ out i = (i ≤ m) × (out ≡ front out₀ (take i found)) × (length out ≡ length out₀)
+Inv-loop found m out₀ i₀ out i = (i ≤ m) × (out ≡ atFront out₀ (take i found)) × (length out ≡ length out₀)
 
 abbrev μ-loop : tie.MeasureT-loop
 μ-loop found m out₀ i₀ out i = m - i

@@ -5,15 +5,15 @@ use Prim.Native.Nat.{_+_, _-_, _≤_}
 use native.Mathlib.Omega.{arith}
 use denote.Ref.{now}
 use lib.ListN.{length, take, set, length-set}
+use Rattle.base.specs.Front.{atFront}
 use Rattle.probes_spec.specs.Shapes.{turns, turn}
-use Rattle.probes_spec.specs.Listing.{front}
 use Rattle.probes.proofs.Turns.{next-low, Stands, seen, stands-next, seen-start, seen-count, seen-room, seen-short, seen-end, front-none, fill-more}
 use Rattle.probes.proofs.fill.Statement.{statement}
 use Rattle.probes.proofs.fill.Tie as tie
 
 abbrev Inv-loop : tie.InvT-loop
 Inv-loop sets c e out₀ last at₀ x₀ out at x =
-    (x ≤ last) × Stands (take c sets) e x × (at ≡ length (seen (take c sets) e x)) × (out ≡ front out₀ (seen (take c sets) e x)) × (length out ≡ length out₀)
+    (x ≤ last) × Stands (take c sets) e x × (at ≡ length (seen (take c sets) e x)) × (out ≡ atFront out₀ (seen (take c sets) e x)) × (length out ≡ length out₀)
 
 abbrev μ-loop : tie.MeasureT-loop
 μ-loop sets c e out₀ last at₀ x₀ out at x = last - x
@@ -29,7 +29,7 @@ loop-holds c =
     let a = c .before .before .before .args in
     let s = stands-next (take (a .c) (a .sets)) (a .e) 0 (c .next-turn .result) (omega arith) (c .next-turn .ensures) in
     let q = seen-start (take (a .c) (a .sets)) (a .e) (c .next-turn .result) (c .next-turn .ensures) in
-    (omega (arith, s .most), s, sym (ap length q), front-none (now (a .out)) ∙ ap (front (now (a .out))) (sym q), omega arith)
+    (omega (arith, s .most), s, sym (ap length q), front-none (now (a .out)) ∙ ap (atFront (now (a .out))) (sym q), omega arith)
 
 set-of-requires : tie.Need-set-of-requires Inv-loop μ-loop
 set-of-requires c κs = tt
@@ -87,7 +87,7 @@ returns c =
     let l = c .before in
     let a = l .before .before .before .before .args in
     let q = seen-end (take (a .c) (a .sets)) (a .e) (l .loop .x) (l .loop .inv .1) (omega arith) in
-    (l .loop .inv .3 ∙ ap (front (now (a .out))) q, l .loop .inv .2 ∙ ap length q)
+    (l .loop .inv .3 ∙ ap (atFront (now (a .out))) q, l .loop .inv .2 ∙ ap length q)
 
 pub fill-spec : {M : Type 1} → statement M
 fill-spec =

@@ -4,10 +4,11 @@ use Prim.Native.Nat.{_≤_, _<_}
 use native.Mathlib.Omega.{arith}
 use denote.Ref.{now}
 use lib.ListN.{length, replicate}
+use Rattle.base.specs.Front.{atFront}
 use Rattle.sheet_spec.specs.Rules.{sheetFault}
 use Rattle.sheet_spec.specs.Form.{SheetForm}
 use Rattle.rows.proofs.Shape.{sheet-form}
-use Rattle.probes_spec.specs.Listing.{front, nodeProbes}
+use Rattle.probes_spec.specs.Listing.{nodeProbes}
 use Rattle.probes.proofs.Turns.{front-taken}
 use Rattle.probes.proofs.Lists.{told-own, told-9, told-10, told-all, node-ranges, node-list, node-small, node-place}
 use Rattle.probes.proofs.list.Statement.{statement}
@@ -111,9 +112,9 @@ returns-4 c =
     let a = w .before .before .before .before .before .before .args in
     let q = node-list (a .t1) (sheet-good w) (a .node) (w .wide2 .result) (w .before .wide .result) (d .wide3 .result) (node-good w) (w .wide2 .ensures) (w .before .wide .ensures) (d .wide3 .ensures) (form w) in
     let out = now (a .out) in
-    let t = front-taken (replicate 4096 0) (nodeProbes (a .t1) (a .node)) (g .fill .ensures .0 ∙ ap (front (replicate 4096 0)) q) (g .fill .ensures .1 ∙ ap length q) in
+    let t = front-taken (replicate 4096 0) (nodeProbes (a .t1) (a .node)) (g .fill .ensures .0 ∙ ap (atFront (replicate 4096 0)) q) (g .fill .ensures .1 ∙ ap length q) in
     told-all (a .t1) (a .node) out (sheet-good w) (node-good w) (omega (arith, c .before .before .before .before .before .if3 .left, g .fill .ensures .1, ap length q))
-    (g .fill .result) (c .before .before .copy .last .1 .1 .0) (g .fill .ensures .1 ∙ ap length q) (c .before .before .copy .ensures ∙ ap (front out) t)
+    (g .fill .result) (c .before .before .copy .last .1 .1 .0) (g .fill .ensures .1 ∙ ap length q) (c .before .before .copy .ensures ∙ ap (atFront out) t)
 
 pub list-spec : {M : Type 1} → statement M
 list-spec =
