@@ -4,14 +4,14 @@ use mathlib.Core.Bool.{Bool, false}
 use mathlib.Core.List.{List}
 use Prim.Native.Nat.{ℕ, _*_, _/_, _%_, _≤_, _<_}
 use native.Mathlib.Omega.{arith}
-use native.Mathlib.Nat.{mod-lt, div-lt-iff-lt-mul, mul-le-mul-right}
+use native.Mathlib.Nat.{mod-lt, div-lt-iff-lt-mul}
 use lib.ListN.{getD}
 use Rattle.base.specs.Table.{upTo, getD-upTo}
 use Rattle.sheet_spec.specs.declared.Sheet.{Sheet}
 use Rattle.sheet_spec.specs.Kept.{row, initials}
 use Rattle.sheet_spec.specs.Rules.{sheetFault}
 use Rattle.sheet_spec.specs.RuleLaws.{Ranges}
-use Rattle.sheet_spec.specs.Sound.{check-sound}
+use Rattle.sheet_spec.specs.Sound.{check-sound, nodes-most}
 use Rattle.base.specs.Loops.{Filling}
 use Rattle.refinement_spec.specs.PairTests.{violates, violating}
 use Rattle.rows.specs.Tables.{initialsIn}
@@ -29,7 +29,7 @@ module _ (P Q : Sheet) (accepted : (sheetFault P ≡ 0) × (sheetFault Q ≡ 0))
 
   -- how many pairs there may be
   pub pairs-most : p * q ≤ 1024
-  pairs-most = rw (ep, eq) (omega (arith, mul-le-mul-right (Q .n) (range-P .n-high), range-Q .n-high))
+  pairs-most = rw (ep, eq) (nodes-most (check-sound P (accepted .0)) (check-sound Q (accepted .1)))
 
   -- the two nodes of a pair
   pub first-node : (k : ℕ) → k < p * q → k / q < 32

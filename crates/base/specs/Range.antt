@@ -50,6 +50,18 @@ unfolding all
 all← f zero h = refl
 all← f (suc n) h = and-i (all← f n (λ i l. h i (omega arith))) (h n (omega arith))
 
+-- tests that agree below the bound
+module _ (f g : ℕ → Bool) where
+  pub any-ext : (n : ℕ) → ((i : ℕ) → i < n → f i ≡ g i) → any f n ≡ any g n
+  unfolding any
+  any-ext zero h = refl
+  any-ext (suc n) h = rw (any-ext n (λ i l. h i (omega arith)), h n (omega arith))
+
+  pub all-ext : (n : ℕ) → ((i : ℕ) → i < n → f i ≡ g i) → all f n ≡ all g n
+  unfolding all
+  all-ext zero h = refl
+  all-ext (suc n) h = rw (all-ext n (λ i l. h i (omega arith)), h n (omega arith))
+
 -- a test that fails somewhere names a place
 pub not-all : (f : ℕ → Bool) (n : ℕ) → all f n ≡ false → (i : ℕ) × (i < n) × (f i ≡ false)
 unfolding all

@@ -44,6 +44,14 @@ pub or-r : (a : Bool) {b : Bool} → b ≡ true → (a || b) ≡ true
 or-r true t = refl
 or-r false t = t
 
+pub or-false : (a : Bool) → a ≡ (a || false)
+or-false true = refl
+or-false false = refl
+
+pub or-assoc : (a b c : Bool) → ((a || b) || c) ≡ (a || (b || c))
+or-assoc true b c = refl
+or-assoc false b c = refl
+
 pub not-i : {a : Bool} → (a ≡ true → ⊥) → a ≡ false
 not-i {a = true} h = absurd (h refl)
 not-i {a = false} h = refl

@@ -5,7 +5,6 @@ use mathlib.Core.Bool.{Bool, true, false, true≢false}
 use mathlib.Core.List.{List}
 use Prim.Native.Nat.{ℕ, _-_, _*_, _≤_, _<_}
 use native.Mathlib.Omega.{arith}
-use native.Mathlib.Nat.{mul-le-mul}
 use lib.ListN.{take}
 use Rattle.base.specs.Truth.{lt-or-ge, not-i, clash, dec}
 use Rattle.base.specs.Front.{atFront-taken}
@@ -16,7 +15,7 @@ use Rattle.sheet_spec.specs.Rules.{sheetFault}
 use Rattle.sheet_spec.specs.RowLaws.{acceptances-length, acceptances-at}
 use Rattle.sheet_spec.specs.Accepted.{read-accepted}
 use Rattle.sheet_spec.specs.EncodingLaws.{reads→}
-use Rattle.sheet_spec.specs.Sound.{Sound, check-sound}
+use Rattle.sheet_spec.specs.Sound.{Sound, check-sound, nodes-most}
 use Rattle.refinement_spec.specs.Refinement.{Refuses, Strays, ViolationIn, RefinesIn}
 use Rattle.refinement_spec.specs.RefinementLaws.{after-unique, violation-near, refines-means}
 use Rattle.tests_spec.specs.declared.Verdict.the-variants.{Passes, Fails}
@@ -48,7 +47,7 @@ module _ (P Q : Sheet) (accP : sheetFault P ≡ 0) (accQ : sheetFault Q ≡ 0) (
 
   -- every test below p q has a number that a test may have
   few : P .n * Q .n ≤ 1024
-  few = mul-le-mul (op .ranges .n-high) (oq .ranges .n-high)
+  few = nodes-most op oq
 
   -- a verdict that is given is one of the two words
   judges : (k : ℕ) → k ≤ 1023 → (verdictOf P Q k to ≡ Passes) ⊎ (verdictOf P Q k to ≡ Fails)

@@ -7,7 +7,6 @@ use mathlib.Core.List.{List}
 use Prim.Native.Nat.{ℕ, _+_, _*_, _≤_, _<_}
 use native.Mathlib.Omega.{arith}
 use native.Mathlib.Decide.{ℕ-discrete}
-use native.Mathlib.Nat.{mul-le-mul-right}
 use lib.ListN.{length, getD}
 use borrow.Author.Tests.{lt-ltb, le-ltb}
 use Rattle.base.specs.Truth.{lt-or-ge}
@@ -20,7 +19,7 @@ use Rattle.walks.specs.Pairs.{pairDistance, pairTrace, pairCleared, pairTrace-l
 use Rattle.sheet_spec.specs.declared.Sheet.{Sheet}
 use Rattle.sheet_spec.specs.Kept.{row, successor, step, graph}
 use Rattle.sheet_spec.specs.Rules.{sheetFault}
-use Rattle.sheet_spec.specs.Sound.{Sound, check-sound}
+use Rattle.sheet_spec.specs.Sound.{Sound, check-sound, nodes-most}
 use Rattle.refinement_spec.specs.PairTests.{violating}
 use Rattle.comparison_spec.specs.declared.Outcome.{Outcome}
 use Rattle.comparison_spec.specs.declared.Outcome.the-variants.{Denied}
@@ -70,9 +69,6 @@ module _ (traceOnly : Bool) (P Q : Sheet) (op : Sound P) (oq : Sound Q) where
   abbrev table : ℕ → ℕ → Bool
   table = badIn (badTable traceOnly P Q) (Q .n)
 
-  small : P .n * Q .n ≤ 1024
-  small = omega (arith, mul-le-mul-right (Q .n) (op .ranges .n-high), oq .ranges .n-high)
-
   same-distance : pairDistance (graph P) (graph Q) table ≡ nearest traceOnly P Q
   unfolding nearest
   same-distance = distance-same (op .graphed) (oq .graphed) table (violating traceOnly P Q) (bad-agree traceOnly P Q)
@@ -99,8 +95,8 @@ module _ (traceOnly : Bool) (P Q : Sheet) (op : Sound P) (oq : Sound Q) where
       go (inl l) =
           let w = pairTrace-leads (op .graphed) (oq .graphed) table l in
           rw (lt-ltb (pairDistance (graph P) (graph Q) table) (P .n * Q .n) l)
-          (omega (arith, small), w .in-r, w .in-d, omega (arith, small, cleared-le (graph P) (graph Q) (pairDistance (graph P) (graph Q) table)))
-      go (inr l) = rw (le-ltb (pairDistance (graph P) (graph Q) table) (P .n * Q .n) l) (omega (arith, small, cleared-le (graph P) (graph Q) (P .n * Q .n)))
+          (omega (arith, nodes-most op oq), w .in-r, w .in-d, omega (arith, nodes-most op oq, cleared-le (graph P) (graph Q) (pairDistance (graph P) (graph Q) table)))
+      go (inr l) = rw (le-ltb (pairDistance (graph P) (graph Q) table) (P .n * Q .n) l) (omega (arith, nodes-most op oq, cleared-le (graph P) (graph Q) (P .n * Q .n)))
 
   -- .. and so is the trace list
   after-trace : (work trace : List ℕ) → compareFault P Q work trace ≡ 0 → traceFound (graph P) (graph Q) table trace ≡ traceAfter traceOnly P Q work trace

@@ -3,20 +3,20 @@ use mathlib.Core.Path.{_≡_, sym}
 use mathlib.Core.Logic.{_≢_}
 use Prim.Native.Nat.{ℕ, _-_, _*_, _≤_, _<_}
 use native.Mathlib.Omega.{arith}
-use native.Mathlib.Nat.{mul-pos, mul-le-mul-right}
+use native.Mathlib.Nat.{mul-pos}
 use borrow.Author.Tests.{eq-eqb, ne-eqb, le-leb, lt-leb}
 use Rattle.base.specs.Refusal.{orElse-some}
 use Rattle.sheet_spec.specs.declared.Sheet.{Sheet}
 use Rattle.sheet_spec.specs.Rules.{sheetFault}
-use Rattle.sheet_spec.specs.Sound.{check-sound}
+use Rattle.sheet_spec.specs.Sound.{check-sound, nodes-most}
 use Rattle.comparison_faults.specs.FaultOn.{faultOn}
 
 -- two sheets that are not refused: how many pairs of nodes there are
 pub size-of : (P Q : Sheet) (a b : ℕ) → sheetFault P ≡ 0 → sheetFault Q ≡ 0 → a ≡ P .n → b ≡ Q .n → (1 ≤ a * b) × (a * b ≤ 1024)
 size-of P Q a b z y ea eb =
-    let p = check-sound P z .ranges in
-    let q = check-sound Q y .ranges in
-    rw (ea, eb) (mul-pos (p .n-low) (q .n-low), omega (arith, mul-le-mul-right (Q .n) (p .n-high), q .n-high))
+    let p = check-sound P z in
+    let q = check-sound Q y in
+    rw (ea, eb) (mul-pos (p .ranges .n-low) (q .ranges .n-low), nodes-most p q)
 
 module _ (P Q : Sheet) (words places : ℕ) {j : ℕ} (ej : j ≡ sheetFault P) where
   -- the reference's own

@@ -1,23 +1,17 @@
 -- What it means that a layer has a pair among the words.
-use mathlib.Core.Path.{_≡_, refl, sym, _∙_}
+use mathlib.Core.Path.{_≡_, sym, _∙_}
 use mathlib.Core.Logic.{_⊎_, inl, inr}
 use mathlib.Core.Bool.{Bool, true, _&&_}
 use mathlib.Core.List.{List}
-use Prim.Native.Nat.{ℕ, zero, suc, _≤_, _<_}
+use Prim.Native.Nat.{ℕ, _≤_, _<_}
 use native.Mathlib.Omega.{arith}
 use lib.ListN.{getD}
 use Rattle.base.specs.Truth.{lt-or-ge, and-l, and-r, and-i, same}
-use Rattle.base.specs.Range.{any, any→, any←}
+use Rattle.base.specs.Range.{any, any→, any←, any-ext}
 use Rattle.events.specs.Bit.{bit, bit-high, setOf, setOf-lt}
 use Rattle.events.specs.Sets.{has, has→, has←, meets, meets→, meets←}
 use Rattle.events.specs.Gathered.{has-setOf}
 use Rattle.images.specs.Shapes.{layerHits}
-
--- two tests that agree below n
-any-ext : (f g : ℕ → Bool) (n : ℕ) → ((i : ℕ) → i < n → f i ≡ g i) → any f n ≡ any g n
-unfolding any
-any-ext f g zero h = refl
-any-ext f g (suc n) h = rw (any-ext f g n (λ i l. h i (omega arith)), h n (omega arith))
 
 -- a set meets a gathered one exactly if some node is in it and passes the test
 meets-setOf : (x q : ℕ) (f : ℕ → Bool) → meets x (setOf f q) ≡ any (λ m. has x m && f m) q

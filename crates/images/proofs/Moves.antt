@@ -11,6 +11,7 @@ use lib.Bits.{bitOr, or-zero-r}
 use lib.ListN.{length, getD, set, replicate, length-set, length-replicate}
 use lib.Seq.{getD-set-same, getD-set-other, set-getD}
 use borrow.Author.Tests.{ltb-true, eq-eqb, ne-eqb}
+use Rattle.base.specs.Truth.{or-false, or-assoc}
 use Rattle.base.specs.Range.{any}
 use Rattle.events.specs.Sets.{has}
 use Rattle.pair_tables.specs.Shapes.{leadsTo}
@@ -75,14 +76,6 @@ module _ (mine theirs : List ℕ) (p : ℕ) (small : p ≤ 32) where
   unfolding spread
   spread-length out n from zero = refl
   spread-length out n from (suc i) = placed-length (spread out mine theirs n p from i) (leadsTo mine n i) i from ∙ spread-length out n from i
-
-  or-assoc : (a b c : Bool) → ((a || b) || c) ≡ (a || (b || c))
-  or-assoc true b c = refl
-  or-assoc false b c = refl
-
-  or-false : (a : Bool) → a ≡ (a || false)
-  or-false true = refl
-  or-false false = refl
 
   spread-has : (out : List ℕ) (n from i v y : ℕ) → length out ≡ 32
       → has (getD (spread out mine theirs n p from i) v 0) y ≡ (has (getD out v 0) y || any (moves n from v y) i)

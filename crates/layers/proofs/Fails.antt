@@ -1,14 +1,14 @@
 -- A test that goes layer by layer finds what failsFrom finds pair by pair.
 use mathlib.Core.Path.{_≡_, refl, sym, ap, _∙_}
 use mathlib.Core.Logic.{_⊎_, inl, inr}
-use mathlib.Core.Bool.{Bool, true, false, not, _&&_, _||_}
+use mathlib.Core.Bool.{Bool, true, not, _&&_, _||_}
 use mathlib.Core.List.{List, _++_}
 use Prim.Native.Nat.{ℕ, zero, suc, _≤_, _<_}
 use native.Mathlib.Omega.{arith}
 use lib.Dec.{eqb, ltb}
 use lib.ListN.{getD, drop}
 use borrow.Author.Tests.{lt-ltb, ltb-true, eqb-true, eq-eqb}
-use Rattle.base.specs.Truth.{clash, and-l, and-r, and-i, or-e, or-l, or-r, same}
+use Rattle.base.specs.Truth.{clash, and-l, and-r, and-i, or-e, or-l, or-r, or-assoc, same}
 use Rattle.base.specs.Range.{any, any→, any←}
 use Rattle.base.specs.Table.{upTo, upTo-ext}
 use Rattle.events.specs.Bit.{bit·zero}
@@ -155,11 +155,7 @@ module _ (to : Bool) (mine theirs : List Row) (p q e : ℕ) (np : p ≤ 32) (nq 
   -- a test with one event more: faulty here, or after one event
   split : (k n m : ℕ) → failsFrom to P Q (suc k) n m ≡ (early to mine theirs q e n m || any (onward k n m) e)
   unfolding failsFrom
-  split k n m = or-assoc (hasStray e (rowIn mine n) (rowIn theirs m)) (not to && (mayStop (rowIn theirs m) && not (mayStop (rowIn mine n)))) (any (onward k n m) e)
-    where
-      or-assoc : (a b c : Bool) → (a || (b || c)) ≡ ((a || b) || c)
-      or-assoc true b c = refl
-      or-assoc false b c = refl
+  split k n m = sym (or-assoc (hasStray e (rowIn mine n) (rowIn theirs m)) (not to && (mayStop (rowIn theirs m) && not (mayStop (rowIn mine n)))) (any (onward k n m) e))
 
   module _ (k : ℕ) (ih : (l : List ℕ) → found k l ≡ some l (failsFrom to P Q k)) (l : List ℕ) where
     hit : layerHits l (earlyTable to mine theirs q e) p ≡ some l (early to mine theirs q e)

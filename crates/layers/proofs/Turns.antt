@@ -9,6 +9,7 @@ use native.Mathlib.Nat.{sub-zero, zero-add, add-zero}
 use native.Mathlib.Numerals.{add-one}
 use lib.ListN.{length, getD, set, drop, length-set}
 use lib.Seq.{set-at, drop-cons}
+use Rattle.base.specs.Truth.{or-assoc}
 use Rattle.base.specs.Table.{upTo, length-upTo}
 use Rattle.images.specs.Shapes.{next, layerHits, start}
 use Rattle.layers.specs.Shapes.{failsOn, kindOf}
@@ -51,10 +52,6 @@ unfolding upTo
 fill-place f o i l =
     rw (drop-cons o i 0 l, set-at (upTo f i) (getD o i 0) (drop (suc i) o) (f i) i (length-upTo f i), add-one i, append-assoc (upTo f i) (f i ∷ []) (drop (suc i) o))
 
-or-assoc : (a b c : Bool) → (a || (b || c)) ≡ ((a || b) || c)
-or-assoc true b c = refl
-or-assoc false b c = refl
-
 module _ (mine theirs early late : List ℕ) (p e tests : ℕ) (o : List ℕ) where
   -- the number of test k's verdict
   abbrev pub kind : ℕ → ℕ
@@ -81,7 +78,7 @@ module _ (mine theirs early late : List ℕ) (p e tests : ℕ) (o : List ℕ) wh
         below = omega arith;
         rest = λ m.
             let z : k + 1 + m ≡ k + suc m = omega arith in
-            rw (z, b, n) (h .rest (suc m) ∙ or-assoc faulty (layerHits layer early p) (failsOn mine theirs early late p e m (next mine theirs p e layer p)));
+            rw (z, b, n) (h .rest (suc m) ∙ sym (or-assoc faulty (layerHits layer early p) (failsOn mine theirs early late p e m (next mine theirs p e layer p))));
         written =
             let y : x ≡ kind k = a ∙ ap kindOf (sym (h .rest 0) ∙ rw (add-zero k)) in
             rw (h .written, y) (fill-place kind o k (omega arith));

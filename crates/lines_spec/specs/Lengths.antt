@@ -3,7 +3,7 @@ use mathlib.Core.Path.{_≡_, refl, sym, _∙_}
 use mathlib.Core.Bool.{Bool, true, false, _&&_, cond}
 use mathlib.Core.List.{List, _++_}
 use Prim.Native.Nat.{ℕ, zero, suc, _+_, _-_, _*_, _^_, _≤_, _<_}
-use native.Mathlib.Nat.{le-trans, mul-le-mul}
+use native.Mathlib.Nat.{le-trans}
 use native.Mathlib.Omega.{arith}
 use lib.Dec.{eqb, ltb, leb}
 use lib.ListN.{length, getD, take, length-append}
@@ -23,7 +23,7 @@ use Rattle.sheet_spec.specs.declared.Row.{Row}
 use Rattle.sheet_spec.specs.declared.Sheet.{Sheet}
 use Rattle.sheet_spec.specs.Kept.{graph, acceptance, acceptances, initials}
 use Rattle.sheet_spec.specs.Rules.{sheetFault}
-use Rattle.sheet_spec.specs.Sound.{check-sound}
+use Rattle.sheet_spec.specs.Sound.{check-sound, nodes-most}
 use Rattle.probes_spec.specs.declared.Missed.{Missed}
 use Rattle.probes_spec.specs.declared.Missed.the-variants.{Nothing, Found}
 use Rattle.probes_spec.specs.Probes.{probes}
@@ -95,7 +95,7 @@ module _ (P Q : Sheet) (hP : sheetFault P ≡ 0) (hQ : sheetFault Q ≡ 0) where
   -- there are at most 1,024 pairs
   pairs-le : pairs P Q ≤ 1024
   unfolding pairs
-  pairs-le = mul-le-mul (check-sound P hP .ranges .n-high) (check-sound Q hQ .ranges .n-high)
+  pairs-le = nodes-most (check-sound P hP) (check-sound Q hQ)
 
   nearest-le : nearest false P Q ≤ 1024
   unfolding nearest pairs

@@ -1,24 +1,24 @@
--- What is offered: the parts of the offer, and what owning a row tells of its sets.
-use mathlib.Core.Path.{_≡_, refl, sym, _∙_}
+-- What is offered: the parts of the offer.
+use mathlib.Core.Path.{_≡_, sym, _∙_}
 use mathlib.Core.Logic.{_≢_}
-use mathlib.Core.Bool.{Bool, true, false, _||_}
+use mathlib.Core.Bool.{Bool, true, false}
 use mathlib.Core.List.{List}
 use Prim.Native.Nat.{ℕ, _-_, _%_, _^_, _≤_, _<_}
 use native.Mathlib.Omega.{arith}
 use native.Mathlib.Nat.{mod-lt}
 use lib.Bits.{bitOr}
-use lib.ListN.{length, getD, take, length-map}
+use lib.ListN.{length, getD, take}
 use lib.Pow.{pow-mono}
-use lib.Seq.{getD-take, length-take-le}
 use borrow.Author.Tests.{lt-ltb, le-ltb, ne-eqb}
 use mir.Val.{Val}
 use denote.Laws.{Is}
-use Rattle.base.specs.Truth.{or-r}
+use Rattle.base.specs.Truth.{or-r, or-false}
 use Rattle.base.specs.Front.{atFront, atFront-before}
 use Rattle.sheet_spec.specs.declared.Row.{Row}
-use Rattle.sheet_spec.specs.Kept.{acceptance, acceptances, initials}
-use Rattle.sheet_spec.specs.Slices.{upTo-is}
+use Rattle.sheet_spec.specs.Kept.{initials}
+use Rattle.sheet_spec.specs.RowLaws.{acceptances-take}
 use Rattle.sheet_spec.proofs.Row as R
+use Rattle.rows.proofs.Shape.{row-form}
 use Rattle.probes_spec.specs.Probes.{probes}
 use Rattle.probes_spec.specs.ProbeLaws.{probes-few}
 use Rattle.tests_spec.specs.declared.Run.{Run}
@@ -26,13 +26,6 @@ use Rattle.tests_spec.specs.Flags.{flag}
 use Rattle.tests_spec.specs.Runs.{allEvents, chosen}
 use Rattle.tests_spec.specs.Offers.{initials-small}
 use Rattle.offers.specs.Shapes.{offersAll, offerAt}
-
--- the acceptances of a row that is owned are the front of its array
-pub front : (w : Row) (vs : List Val) → Is R.the-row w vs → w .c ≤ 16 → acceptances w ≡ take (w .c) (w .sets)
-unfolding acceptances acceptance
-front w vs p h =
-    let l : length (w .sets) ≡ 16 = sym (length-map (w .sets) (λ (v : ℕ). v)) ∙ p .1 .1 .1 .0 .1 .0 .1 in
-    upTo-is (acceptance w) (take (w .c) (w .sets)) (w .c) 0 (length-take-le (w .c) (w .sets) (omega arith)) (λ j k. sym (getD-take (w .c) (w .sets) j 0 k))
 
 -- no initial is outside the e events
 pub inside : (e : ℕ) (w : Row) → e ≤ 12 → initials e w ≤ allEvents e
@@ -43,11 +36,7 @@ pub all-below : (r : Run) → r .depth < r .k → true ≡ offersAll r
 all-below r l = sym (or-r (flag (r .traces)) (lt-ltb (r .depth) (r .k) l))
 
 pub all-traces : (r : Run) → r .k ≤ r .depth → flag (r .traces) ≡ offersAll r
-all-traces r l = rw (le-ltb (r .depth) (r .k) l) (or-none (flag (r .traces)))
-  where
-    or-none : (b : Bool) → b ≡ (b || false)
-    or-none true = refl
-    or-none false = refl
+all-traces r l = rw (le-ltb (r .depth) (r .k) l) (or-false (flag (r .traces)))
 
 module _ (e : ℕ) (w : Row) (r : Run) {all : ℕ} {t : Bool} (a : all ≡ allEvents e) (b : t ≡ offersAll r) where
   pub offer-all : t ≡ true → all ≡ offerAt e w r
@@ -57,7 +46,7 @@ module _ (e : ℕ) (w : Row) (r : Run) {all : ℕ} {t : Bool} (a : all ≡ allEv
   pub offer-last : {vs : List Val} {x y c : ℕ} → Is R.the-row w vs → w .c ≤ 16 → t ≡ false → x ≡ initials e w → c ≡ w .c
       → y ≡ chosen (probes (take c (w .sets)) e) (r .h) → bitOr y (all - x) ≡ offerAt e w r
   unfolding offerAt
-  offer-last {vs} p s h q d u = rw (u, d, a, q, ← b, h, front w vs p s)
+  offer-last {vs} p s h q d u = rw (u, d, a, q, ← b, h, acceptances-take w (row-form w vs p) s)
 
 -- at most 4,096 probes
 pub few : (accs : List ℕ) (e : ℕ) → e ≤ 12 → length (probes accs e) ≤ 4096

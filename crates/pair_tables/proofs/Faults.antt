@@ -6,6 +6,7 @@ use Prim.Native.Nat.{ℕ, _≤_, _<_}
 use native.Mathlib.Omega.{arith}
 use lib.Bits.{bitOr}
 use lib.ListN.{getD}
+use Rattle.base.specs.Truth.{or-false}
 use Rattle.base.specs.Table.{upTo, getD-upTo}
 use Rattle.events.specs.Bit.{setOf}
 use Rattle.sheet_spec.specs.declared.Row.{Row}
@@ -16,10 +17,6 @@ use Rattle.pair_tables.specs.Shapes.{strayWord, stopWord, refusalWord, e
 use Rattle.events.specs.Gathered.{or-setOf, setOf-ext}
 
 -- "or" and "and" where one side is known
-never : (x : Bool) → x ≡ (x || false)
-never true = refl
-never false = refl
-
 none : (x y : Bool) → x ≡ (x || (true && (y && false)))
 none true y = refl
 none false true = refl
@@ -58,7 +55,7 @@ module _ (to : Bool) (mine theirs : List Row) (q e : ℕ) where
         t m = mayStop (rowIn theirs m)
 
         go : (a b : Bool) → cond (a || b) (setOf s q) (bitOr (setOf s q) (setOf t q)) ≡ setOf (λ m. s m || (not a && (t m && not b))) q
-        go true b = setOf-ext s (λ m. s m || false) q (λ m k. never (s m))
+        go true b = setOf-ext s (λ m. s m || false) q (λ m k. or-false (s m))
         go false true = setOf-ext s (λ m. s m || (true && (t m && false))) q (λ m k. none (s m) (t m))
         go false false = or-setOf s t q ∙ setOf-ext (λ m. s m || t m) (λ m. s m || (true && (t m && true))) q (λ m k. some (s m) (t m))
 
@@ -73,5 +70,5 @@ module _ (to : Bool) (mine theirs : List Row) (q e : ℕ) where
         r m = hasRefusal (rowIn mine n) (rowIn theirs m)
 
         go : (a : Bool) → cond a (setOf s q) (bitOr (setOf s q) (setOf r q)) ≡ setOf (λ m. s m || (not a && r m)) q
-        go true = setOf-ext s (λ m. s m || false) q (λ m k. never (s m))
+        go true = setOf-ext s (λ m. s m || false) q (λ m k. or-false (s m))
         go false = or-setOf s r q

@@ -16,25 +16,13 @@ use Rattle.base.specs.Refusal.{unless, unless-hit, unless-pass, unless-none, un
 use Rattle.sheet_spec.specs.declared.Sheet.{Sheet}
 use Rattle.sheet_spec.specs.Kept.{row, acceptance, acceptances, mayStop}
 use Rattle.sheet_spec.specs.Rules.{sheetFault}
-use Rattle.sheet_spec.specs.CheckLaws.{check-numbers}
+use Rattle.sheet_spec.specs.CheckLaws.{check-other}
 use Rattle.sheet_spec.specs.RowLaws.{mayStop-means, acceptances-length, acceptances-at}
 use Rattle.sheet_spec.specs.Sound.{Sound, check-sound}
 use Rattle.probes_spec.specs.declared.Listed.the-variants.{Count, Denied}
 use Rattle.probes_spec.specs.Probes.{probes, Probe, Narrow}
 use Rattle.probes_spec.specs.ProbeLaws.{probe-at, probe-listed, probes-few, probes-none, probes-some}
 use Rattle.probes_spec.specs.Listing.{nodeProbes, listFault, listedNumbers, listedOf, listNumbers, listAfter}
-
--- a sheet's own refusal is none of this call's
-own-other : (s : Sheet) (m : ℕ) → 8 < m → sheetFault s ≢ m
-own-other s m h e = go (check-numbers s m e)
-  where
-    go : (m ≡ 0) ⊎ ((m ≡ 3) ⊎ ((m ≡ 5) ⊎ ((m ≡ 6) ⊎ ((m ≡ 7) ⊎ (m ≡ 8))))) → ⊥
-    go (inl p) = omega arith
-    go (inr (inl p)) = omega arith
-    go (inr (inr (inl p))) = omega arith
-    go (inr (inr (inr (inl p)))) = omega arith
-    go (inr (inr (inr (inr (inl p))))) = omega arith
-    go (inr (inr (inr (inr (inr p))))) = omega arith
 
 -- the numbers of each case
 pub count-numbers : (m : ℕ) → listedNumbers (Count m) ≡ (0, m)
@@ -62,7 +50,7 @@ module _ (s : Sheet) (v : ℕ) (out : List ℕ) where
   pub list-9 : (listFault s v out ≡ 9) ↔ ((sheetFault s ≡ 0) × (s .n ≤ v))
   unfolding listFault
   list-9 =
-      let a = orElse-then (sheetFault s) (unless (ltb v (s .n)) 9 (unless (leb (length (nodeProbes s v)) (length out)) 10 0)) 9 (inl (own-other s 9 (omega arith))) in
+      let a = orElse-then (sheetFault s) (unless (ltb v (s .n)) 9 (unless (leb (length (nodeProbes s v)) (length out)) 10 0)) 9 (inl (check-other s 9 (omega arith))) in
       let b = unless-hit 9 (unless (leb (length (nodeProbes s v)) (length out)) 10 0) (finds-lt v (s .n)) (unless-other (leb (length (nodeProbes s v)) (length out)) (omega arith) (omega arith)) in
       ((λ x. (a .0 x .0, b .0 (a .0 x .1))), λ y. a .1 (y .0, b .1 (y .1)))
 
@@ -77,7 +65,7 @@ module _ (s : Sheet) (v : ℕ) (out : List ℕ) where
   pub list-10 : (listFault s v out ≡ 10) ↔ ((sheetFault s ≡ 0) × (v < s .n) × (length out < length (nodeProbes s v)))
   unfolding listFault
   list-10 =
-      let a = orElse-then (sheetFault s) (unless (ltb v (s .n)) 9 (unless (leb (length (nodeProbes s v)) (length out)) 10 0)) 10 (inl (own-other s 10 (omega arith))) in
+      let a = orElse-then (sheetFault s) (unless (ltb v (s .n)) 9 (unless (leb (length (nodeProbes s v)) (length out)) 10 0)) 10 (inl (check-other s 10 (omega arith))) in
       let b = unless-pass 9 (unless (leb (length (nodeProbes s v)) (length out)) 10 0) 10 (finds-lt v (s .n)) (omega arith) in
       let c = unless-hit 10 0 (finds-le (length (nodeProbes s v)) (length out)) (omega arith) in
       ((λ x. let w = b .0 (a .0 x .1) in (a .0 x .0, not-beyond (w .0), c .0 (w .1))), λ y. a .1 (y .0, b .1 ((λ l. omega (arith, l, y .1)), c .1 (y .2))))

@@ -8,7 +8,7 @@ use lib.Dec.{eqb}
 use lib.Bits.{bitOr}
 use lib.ListN.{getD}
 use borrow.Author.Tests.{lt-ltb}
-use Rattle.base.specs.Range.{any, all}
+use Rattle.base.specs.Range.{any, all, any-ext, all-ext}
 use Rattle.base.specs.Table.{upTo, getD-upTo}
 use Rattle.events.specs.Bit.{setOf}
 use Rattle.events.specs.Sets.{has}
@@ -19,18 +19,6 @@ use Rattle.sheet_spec.specs.Kept.{row, successor, step, graph}
 use Rattle.sheet_spec.specs.Rules.{reachedOk}
 use Rattle.row_rules.specs.Targets.{targets-is}
 use Rattle.reached.specs.Shapes.{targetsOf, withTargets, grown, rounds}
-
--- tests that agree below a bound
-module _ (f g : ℕ → Bool) where
-  any-ext : (n : ℕ) → ((i : ℕ) → i < n → f i ≡ g i) → any f n ≡ any g n
-  unfolding any
-  any-ext zero h = refl
-  any-ext (suc n) h = rw (any-ext n (λ i l. h i (omega arith)), h n (omega arith))
-
-  all-ext : (n : ℕ) → ((i : ℕ) → i < n → f i ≡ g i) → all f n ≡ all g n
-  unfolding all
-  all-ext zero h = refl
-  all-ext (suc n) h = rw (all-ext n (λ i l. h i (omega arith)), h n (omega arith))
 
 -- one round over the first k nodes: node 0, and the nodes to which t leads from a node that was seen
 module _ (sets : List ℕ) (t : ℕ → ℕ → Bool) (h : (u : ℕ) → u < 32 → getD sets u 0 ≡ setOf (t u) 32) (seen : ℕ → Bool) where

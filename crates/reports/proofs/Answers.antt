@@ -17,9 +17,9 @@ use Rattle.tests_spec.specs.declared.Report.the-variants.{Event, Blocked}
 use Rattle.tests_spec.specs.declared.Answer.the-variants.{Going, Stray, Refused, Passed, Denied}
 use Rattle.tests_spec.specs.declared.Stepped.{Stepped}
 use Rattle.tests_spec.specs.Flags.{flag, flag-clear, flag-set}
-use Rattle.tests_spec.specs.Runs.{outside, probesAt, offerOf, recordOk, eventFault, reportFault, movedBy, endedRun, answerOf, stepOf}
+use Rattle.tests_spec.specs.Runs.{outside, probesAt, offerOf, answered, recordOk, eventFault, reportFault, movedBy, endedRun, answerOf, stepOf}
 use Rattle.offers.specs.Shapes.{offerAt}
-use Rattle.reports.specs.Shapes.{answered, recordFault, eventFaultAt, movedTo}
+use Rattle.reports.specs.Shapes.{recordFault, eventFaultAt, movedTo}
 use Rattle.reports.proofs.Refusals.{right}
 
 -- the offer at a row is that of the sheet at its node

@@ -6,14 +6,8 @@ use Rattle.base.specs.Refusal.{unless}
 use Rattle.events.specs.Sets.{has}
 use Rattle.sheet_spec.specs.declared.Row.{Row}
 use Rattle.tests_spec.specs.declared.Run.{Run}
-use Rattle.tests_spec.specs.declared.Answer.{Answer}
-use Rattle.tests_spec.specs.declared.Stepped.{Stepped}
 use Rattle.tests_spec.specs.Flags.{flag}
 use Rattle.offers.specs.Shapes.{offerAt}
-
--- an answer beside a record
-abbrev pub answered : Answer → Run → Stepped
-answered a r = record { answer = a; run = r }
 
 -- 16 and 9, with n nodes on the sheet
 unfoldable pub recordFault : ℕ → Run → ℕ

@@ -1,5 +1,5 @@
 -- What owning a row or a sheet tells of its lists: their lengths and ranges, and so what a read of each place gives.
-use mathlib.Core.Path.{_≡_, refl, sym, _∙_}
+use mathlib.Core.Path.{_≡_, sym, _∙_}
 use mathlib.Core.List.{List, [], _∷_, map}
 use Prim.Native.Nat.{ℕ, zero, suc, _<_, _≤_}
 use native.Mathlib.Omega.{arith}
@@ -14,14 +14,9 @@ use Rattle.sheet_spec.specs.declared.Row.{Row}
 use Rattle.sheet_spec.specs.declared.Sheet.{Sheet}
 use Rattle.sheet_spec.specs.Kept.{noRow, successor, acceptance}
 use Rattle.sheet_spec.specs.Form.{RowForm, SheetForm}
+use Rattle.sheet_spec.specs.Slices.{getD-inside}
 use Rattle.sheet_spec.proofs.Row as R
 use Rattle.sheet_spec.proofs.Sheet as S
-
--- within a list the value for outside does not matter
-any-default : (l : List ℕ) (i a b : ℕ) → i < length l → getD l i a ≡ getD l i b
-any-default [] i a b h = absurd (omega arith)
-any-default (x ∷ l) zero a b h = refl
-any-default (x ∷ l) (suc i) a b h = any-default l i a b (omega arith)
 
 -- what holds of each element of an owned array, and of the value for outside, holds at every place
 each-at : {X d : Type 0} (g : X → d) (f : d → List Val → Fml) (P : X → Type 0) → ((x : X) (vs : List Val) → shadow (f (g x) vs) → P x)
@@ -48,7 +43,7 @@ module _ (r : Row) (vs : List Val) (p : Is R.the-row r vs) where
 
   pub succ-in : (i : ℕ) → i < 12 → getD (r .succ) i 0 ≡ successor r i
   unfolding successor
-  succ-in i h = any-default (r .succ) i 0 255 (omega (arith, succs))
+  succ-in i h = getD-inside (r .succ) i 0 255 (omega (arith, succs))
 
   pub succ-out : (i : ℕ) → 12 ≤ i → 255 ≡ successor r i
   unfolding successor

@@ -70,6 +70,10 @@ readBack-length N K zero x = refl
 readBack-length N K (suc d) x =
     length-snoc (readBack N K d ((K (N x) - 2) / 12)) ((K (N x) - 2) % 12) ∙ ap suc (readBack-length N K d ((K (N x) - 2) / 12))
 
+-- entries are different nodes
+distinct : {g : Graph} {N K D : ℕ → ℕ} {head k tail : ℕ} → Queue g N K D head k tail → (x y : ℕ) → x < y → y < tail → N x ≢ N y
+distinct {K = K} q x y l h e = omega (arith, q .rising x y l h, ap K e)
+
 -- events below e are below 12
 below-12 : (e : ℕ) → e ≤ 12 → (t : List ℕ) → Below e t → Below 12 t
 below-12 e h [] b = tt
@@ -218,10 +222,6 @@ module _ {g : Graph} (w : WellFormed g) (N K D : ℕ → ℕ) (head tail : ℕ) 
       go (inr k) =
           omega (arith, path-length x, path-length y, rank-length 12 (P x) (P y) (omega arith) (trace-12 (P y) (path-trace y h)) (omega (arith, ordered x y k h)))
 
-  -- entries are different nodes
-  pub distinct : (x y : ℕ) → x < y → y < tail → N x ≢ N y
-  distinct x y l h e = omega (arith, q .rising x y l h, ap K e)
-
   -- The count of the nodes nearer than depth k is L, if the first L entries are, and the others and those to be taken are not.
   cleared-is : (k L : ℕ) → L ≤ tail → ((x : ℕ) → x < L → ReachedBefore g k (N x)) → ((x : ℕ) → L ≤ x → x < tail → k ≤ D (N x))
       → ((x : ℕ) → head ≤ x → x < tail → k ≤ D (N x)) → cleared g k ≡ L
@@ -229,7 +229,7 @@ module _ {g : Graph} (w : WellFormed g) (N K D : ℕ → ℕ) (head tail : ℕ) 
   cleared-is k L le near far left = cleared-listed w k L N (record {
     below = λ x h. q .entry x (omega arith) .0;
     holds = near;
-    differ = λ x y a b. distinct x y a (omega arith);
+    differ = λ x y a b. distinct q x y a (omega arith);
     every = λ v l r. listed v l r;
   })
     where
@@ -336,17 +336,13 @@ module _ {g : Graph} (w : WellFormed g) (N K D : ℕ → ℕ) (head tail : ℕ) 
           further (inr l) = let e : L ≡ head = omega (arith, upto) in rw e (omega arith)
 
 module _ (g : Graph) (N K D : ℕ → ℕ) (head k tail : ℕ) (q : Queue g N K D head k tail) where
-  -- entries are different nodes
-  apart : (x y : ℕ) → x < y → y < tail → N x ≢ N y
-  apart x y l h e = omega (arith, q .rising x y l h, ap K e)
-
   -- there are no more entries than nodes
   pub capacity : tail ≤ g .size
   capacity = go (lt-or-ge (g .size) tail)
     where
       go : (g .size < tail) ⊎ (tail ≤ g .size) → tail ≤ g .size
       go (inr l) = l
-      go (inl l) = let t = pigeonhole (g .size) N (λ x h. q .entry x (omega arith) .0) in absurd (apart (t .0) (t .1) (t .2) (omega (arith, t .3)) (t .4))
+      go (inl l) = let t = pigeonhole (g .size) N (λ x h. q .entry x (omega arith) .0) in absurd (distinct q (t .0) (t .1) (t .2) (omega (arith, t .3)) (t .4))
 
   -- and fewer while some node has none
   pub room-left : (v : ℕ) → v < g .size → K v ≡ 0 → tail < g .size
@@ -374,5 +370,5 @@ module _ (g : Graph) (N K D : ℕ → ℕ) (head k tail : ℕ) (q : Queue g N K 
           twice (x, y, a, b, e) = pick (lt-or-ge y (g .size))
             where
               pick : (y < g .size) ⊎ (g .size ≤ y) → ⊥
-              pick (inl c) = apart x y a (omega arith) (sym (f-old x (omega arith)) ∙ e ∙ f-old y c)
+              pick (inl c) = distinct q x y a (omega arith) (sym (f-old x (omega arith)) ∙ e ∙ f-old y c)
               pick (inr c) = omega (arith, z, q .entry x (omega arith) .1, ap K (sym (f-old x (omega arith)) ∙ e ∙ f-new y c))

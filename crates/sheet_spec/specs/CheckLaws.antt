@@ -149,3 +149,7 @@ module _ (s : Sheet) where
       go (inr (inr (inr (inl p)))) = omega arith
       go (inr (inr (inr (inr (inl p))))) = omega arith
       go (inr (inr (inr (inr (inr p))))) = omega arith
+
+  -- so none is a number of a call's own
+  pub check-other : (m : ℕ) → 8 < m → sheetFault s ≢ m
+  check-other m l e = omega (arith, check-below)

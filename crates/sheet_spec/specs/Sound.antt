@@ -3,7 +3,8 @@ use mathlib.Core.Path.{_≡_}
 use mathlib.Core.Logic.{_⊎_, inl, inr, _≢_}
 use mathlib.Core.Bool.{true}
 use mathlib.Core.List.{List}
-use Prim.Native.Nat.{ℕ, _^_, _≤_, _<_}
+use Prim.Native.Nat.{ℕ, _*_, _^_, _≤_, _<_}
+use native.Mathlib.Nat.{mul-le-mul}
 use native.Mathlib.Omega.{arith}
 use native.Mathlib.Decide.{ℕ-discrete}
 use Rattle.base.specs.Truth.{lt-or-ge}
@@ -46,6 +47,10 @@ pub record Sound (s : Sheet) : Type 0 where
   pub reached : (v : ℕ) → v < s .n → (t : List ℕ) × Walk s 0 t v
   -- the graph of the sheet serves the theory of walks
   pub graphed : WellFormed (graph s)
+
+-- two sheets have at most 1,024 pairs of nodes
+pub nodes-most : {P Q : Sheet} → Sound P → Sound Q → P .n * Q .n ≤ 1024
+nodes-most p q = mul-le-mul (p .ranges .n-high) (q .ranges .n-high)
 
 -- a number that is not found to differ is the one
 settled : (a b : ℕ) → ¬ (a ≢ b) → a ≡ b

@@ -14,10 +14,10 @@ use Rattle.tests_spec.specs.declared.Report.{Report}
 use Rattle.tests_spec.specs.declared.Answer.the-variants.{Going, Denied}
 use Rattle.tests_spec.specs.declared.Stepped.{Stepped}
 use Rattle.tests_spec.specs.Flags.{flag, flagOf}
-use Rattle.tests_spec.specs.Runs.{newRun, openFault, openOf, recordOk, eventFault, reportFault, stepOf}
+use Rattle.tests_spec.specs.Runs.{newRun, answered, openFault, openOf, recordOk, eventFault, reportFault, stepOf}
 use Rattle.tests_spec.specs.Numbers.{said}
 use Rattle.offers.specs.Shapes.{offerAt}
-use Rattle.reports.specs.Shapes.{answered, recordFault}
+use Rattle.reports.specs.Shapes.{recordFault}
 use Rattle.reports.proofs.Answers.{offer-is, sound, refused}
 use Rattle.tests.specs.Shapes.{notOpened}
 

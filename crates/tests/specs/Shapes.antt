@@ -2,8 +2,7 @@
 use Prim.Native.Nat.{ℕ}
 use Rattle.tests_spec.specs.declared.Answer.the-variants.{Denied}
 use Rattle.tests_spec.specs.declared.Stepped.{Stepped}
-use Rattle.tests_spec.specs.Runs.{zeroRun}
-use Rattle.reports.specs.Shapes.{answered}
+use Rattle.tests_spec.specs.Runs.{zeroRun, answered}
 
 -- a refused opening
 abbrev pub notOpened : ℕ → Stepped

@@ -17,7 +17,7 @@ use Rattle.sheet_spec.specs.Kept.{row, initials, mayStop}
 use Rattle.sheet_spec.specs.Faults.{Initial}
 use Rattle.sheet_spec.specs.Rules.{sheetFault}
 use Rattle.sheet_spec.specs.RuleLaws.{initials→, initials←}
-use Rattle.sheet_spec.specs.CheckLaws.{check-numbers, further, finally}
+use Rattle.sheet_spec.specs.CheckLaws.{check-other, further, finally}
 use Rattle.sheet_spec.specs.Sound.{check-sound}
 use Rattle.tests_spec.specs.declared.Run.{Run}
 use Rattle.tests_spec.specs.declared.Report.{Report}
@@ -26,24 +26,8 @@ use Rattle.tests_spec.specs.declared.Answer.{Answer}
 use Rattle.tests_spec.specs.declared.Answer.the-variants.{Going, Stray, Refused, Passed, Denied}
 use Rattle.tests_spec.specs.declared.Stepped.{Stepped}
 use Rattle.tests_spec.specs.Flags.{flag}
-use Rattle.tests_spec.specs.Runs.{offerOf, newRun, zeroRun, openFault, openOf, recordOk, eventFault, reportFault, movedBy, endedRun, answerOf, stepOf}
+use Rattle.tests_spec.specs.Runs.{offerOf, newRun, zeroRun, answered, openFault, openOf, recordOk, eventFault, reportFault, movedBy, endedRun, answerOf, stepOf}
 use Rattle.tests_spec.specs.Numbers.{said}
-
--- an answer with its record
-abbrev pub with : Answer → Run → Stepped
-with a r = record { answer = a; run = r }
-
--- a sheet gives no refusal from 9 on
-pub sheet-small : (s : Sheet) (m : ℕ) → 8 < m → sheetFault s ≢ m
-sheet-small s m l e = go (check-numbers s m e)
-  where
-    go : (m ≡ 0) ⊎ ((m ≡ 3) ⊎ ((m ≡ 5) ⊎ ((m ≡ 6) ⊎ ((m ≡ 7) ⊎ (m ≡ 8))))) → ⊥
-    go (inl e) = omega arith
-    go (inr (inl e)) = omega arith
-    go (inr (inr (inl e))) = omega arith
-    go (inr (inr (inr (inl e)))) = omega arith
-    go (inr (inr (inr (inr (inl e))))) = omega arith
-    go (inr (inr (inr (inr (inr e))))) = omega arith
 
 -- Opening.
 module _ (s : Sheet) (k : ℕ) where
@@ -57,7 +41,7 @@ module _ (s : Sheet) (k : ℕ) where
   pub open-14 : (openFault s k ≡ 14) ↔ ((sheetFault s ≡ 0) × (1023 < k))
   unfolding openFault
   open-14 =
-      finally (orElse-then (sheetFault s) (unless (leb k 1023) 14 0) 14 (inl (sheet-small s 14 (omega arith))))
+      finally (orElse-then (sheetFault s) (unless (leb k 1023) 14 0) 14 (inl (check-other s 14 (omega arith))))
       (λ h. unless-hit 14 0 (finds-le k 1023) (λ e. omega arith))
 
   -- no refusal: the sheet is accepted and k is not above 1,023
@@ -68,12 +52,12 @@ module _ (s : Sheet) (k : ℕ) where
 
   module _ (h : ℕ) (to : Bool) where
     -- an opening that is not refused has the first offer and the record of a run at its start
-    pub open-going : openFault s k ≡ 0 → openOf s k h to ≡ with (Going (offerOf s (newRun k h to))) (newRun k h to)
+    pub open-going : openFault s k ≡ 0 → openOf s k h to ≡ answered (Going (offerOf s (newRun k h to))) (newRun k h to)
     unfolding openOf
     open-going z = rw (eq-eqb (openFault s k) 0 z)
 
     -- one that is refused has its number and a record of zeros
-    pub open-denied : openFault s k ≢ 0 → openOf s k h to ≡ with (Denied (openFault s k)) zeroRun
+    pub open-denied : openFault s k ≢ 0 → openOf s k h to ≡ answered (Denied (openFault s k)) zeroRun
     unfolding openOf
     open-denied z = rw (ne-eqb (openFault s k) 0 z)
 
@@ -158,7 +142,7 @@ module _ (s : Sheet) (r : Run) (x : Report) where
 
   pass-sheet : (m : ℕ) → (8 < m) ⊎ (m ≡ 0) → (reportFault s r x ≡ m) ↔ ((sheetFault s ≡ 0) × (after-sheet ≡ m))
   unfolding reportFault after-sheet
-  pass-sheet m (inl l) = orElse-then (sheetFault s) after-sheet m (inl (sheet-small s m l))
+  pass-sheet m (inl l) = orElse-then (sheetFault s) after-sheet m (inl (check-other s m l))
   pass-sheet m (inr z) = orElse-then (sheetFault s) after-sheet m (inr z)
 
   pass-16 : (m : ℕ) → (8 < m) ⊎ (m ≡ 0) → 16 ≢ m → (reportFault s r x ≡ m) ↔ (Shown s r × (after16 ≡ m))
@@ -208,7 +192,7 @@ module _ (s : Sheet) (r : Run) (x : Report) where
   report-0 = further (pass-9 0 (inr refl) (λ e. omega arith) (λ e. omega arith)) (λ h. event-0 s r x)
 
   -- a report that is refused is answered with its number, and the record is as it came
-  pub step-denied : reportFault s r x ≢ 0 → stepOf s r x ≡ with (Denied (reportFault s r x)) r
+  pub step-denied : reportFault s r x ≢ 0 → stepOf s r x ≡ answered (Denied (reportFault s r x)) r
   unfolding stepOf
   step-denied n = rw (ne-eqb (reportFault s r x) 0 n)
 
@@ -223,7 +207,7 @@ unrefused s r x z = report-0 s r x .0 z .0 .0 .0
 
 module _ (s : Sheet) (r : Run) where
   -- an event outside the initials: ended, failed as stray, with that event
-  pub stray-step : (i : ℕ) → reportFault s r (Event i) ≡ 0 → ¬ Initial (s .e) (row s (r .node)) i → stepOf s r (Event i) ≡ with (Stray i) (endedRun r)
+  pub stray-step : (i : ℕ) → reportFault s r (Event i) ≡ 0 → ¬ Initial (s .e) (row s (r .node)) i → stepOf s r (Event i) ≡ answered (Stray i) (endedRun r)
   unfolding answerOf
   stray-step i z n = step-answers s r (Event i) z ∙ rw out
     where
@@ -239,44 +223,44 @@ module _ (s : Sheet) (r : Run) where
 
   -- an event inside them below depth k: the run moves on and the depth grows by one
   pub moving-step : (i : ℕ) → reportFault s r (Event i) ≡ 0 → Initial (s .e) (row s (r .node)) i → r .depth < r .k
-      → stepOf s r (Event i) ≡ with (Going (offerOf s (movedBy s r i))) (movedBy s r i)
+      → stepOf s r (Event i) ≡ answered (Going (offerOf s (movedBy s r i))) (movedBy s r i)
   unfolding answerOf
   moving-step i z a l = step-answers s r (Event i) z ∙ rw (inner i z a, lt-ltb (r .depth) (r .k) l)
 
   -- an event inside them at depth k: the run has passed
   pub passing-step : (i : ℕ) → reportFault s r (Event i) ≡ 0 → Initial (s .e) (row s (r .node)) i → r .k ≤ r .depth
-      → stepOf s r (Event i) ≡ with Passed (endedRun r)
+      → stepOf s r (Event i) ≡ answered Passed (endedRun r)
   unfolding answerOf
   passing-step i z a l = step-answers s r (Event i) z ∙ rw (inner i z a, le-ltb (r .depth) (r .k) l)
 
   -- blocked: passed in a trace-only run and where the node may stop
-  pub blocked-passes : reportFault s r Blocked ≡ 0 → (flag (r .traces) ≡ true) ⊎ (mayStop (row s (r .node)) ≡ true) → stepOf s r Blocked ≡ with Passed (endedRun r)
+  pub blocked-passes : reportFault s r Blocked ≡ 0 → (flag (r .traces) ≡ true) ⊎ (mayStop (row s (r .node)) ≡ true) → stepOf s r Blocked ≡ answered Passed (endedRun r)
   unfolding answerOf
   blocked-passes z (inl t) = step-answers s r Blocked z ∙ rw t
   blocked-passes z (inr m) = step-answers s r Blocked z ∙ rw (or-r (flag (r .traces)) m)
 
   -- blocked otherwise: ended, failed as refused, with the set offered
   pub blocked-refused : reportFault s r Blocked ≡ 0 → flag (r .traces) ≡ false → mayStop (row s (r .node)) ≡ false
-      → stepOf s r Blocked ≡ with (Refused (offerOf s r)) (endedRun r)
+      → stepOf s r Blocked ≡ answered (Refused (offerOf s r)) (endedRun r)
   unfolding answerOf
   blocked-refused z t m = step-answers s r Blocked z ∙ rw (t, m)
 
 -- What becomes of a report: it is refused and alters nothing, or moves the run on below depth k, or ends it.
 pub data Taken (s : Sheet) (r : Run) (x : Report) : Type 0 where
-  denies : reportFault s r x ≢ 0 → stepOf s r x ≡ with (Denied (reportFault s r x)) r → Taken s r x
+  denies : reportFault s r x ≢ 0 → stepOf s r x ≡ answered (Denied (reportFault s r x)) r → Taken s r x
   moves : (i : ℕ) → x ≡ Event i → reportFault s r x ≡ 0 → Initial (s .e) (row s (r .node)) i → r .depth < r .k
-      → stepOf s r x ≡ with (Going (offerOf s (movedBy s r i))) (movedBy s r i) → Taken s r x
-  strays : (i : ℕ) → x ≡ Event i → reportFault s r x ≡ 0 → ¬ Initial (s .e) (row s (r .node)) i → stepOf s r x ≡ with (Stray i) (endedRun r) → Taken s r x
+      → stepOf s r x ≡ answered (Going (offerOf s (movedBy s r i))) (movedBy s r i) → Taken s r x
+  strays : (i : ℕ) → x ≡ Event i → reportFault s r x ≡ 0 → ¬ Initial (s .e) (row s (r .node)) i → stepOf s r x ≡ answered (Stray i) (endedRun r) → Taken s r x
   refuses : x ≡ Blocked → reportFault s r x ≡ 0 → flag (r .traces) ≡ false → mayStop (row s (r .node)) ≡ false
-      → stepOf s r x ≡ with (Refused (offerOf s r)) (endedRun r) → Taken s r x
-  passes : reportFault s r x ≡ 0 → stepOf s r x ≡ with Passed (endedRun r) → Taken s r x
+      → stepOf s r x ≡ answered (Refused (offerOf s r)) (endedRun r) → Taken s r x
+  passes : reportFault s r x ≡ 0 → stepOf s r x ≡ answered Passed (endedRun r) → Taken s r x
 
 -- every report is one of these
 pub taken : (s : Sheet) (r : Run) (x : Report) → Taken s r x
 taken s r x = go (dec (eqb (reportFault s r x) 0))
   where
-    answered : (x : Report) → reportFault s r x ≡ 0 → Taken s r x
-    answered (Event i) z = pick (dec (has (initials (s .e) (row s (r .node))) i)) (lt-or-ge (r .depth) (r .k))
+    given : (x : Report) → reportFault s r x ≡ 0 → Taken s r x
+    given (Event i) z = pick (dec (has (initials (s .e) (row s (r .node))) i)) (lt-or-ge (r .depth) (r .k))
       where
         small : s .e ≤ 12
         small = check-sound s (unrefused s r (Event i) z .0) .ranges .e-high
@@ -291,7 +275,7 @@ taken s r x = go (dec (eqb (reportFault s r x) 0))
         pick (inr t) d =
             let n : ¬ Initial (s .e) (row s (r .node)) i = λ a. clash (inner s r i z a) t in
             strays i refl z n (stray-step s r i z n)
-    answered Blocked z = pick (dec (flag (r .traces))) (dec (mayStop (row s (r .node))))
+    given Blocked z = pick (dec (flag (r .traces))) (dec (mayStop (row s (r .node))))
       where
         pick : (flag (r .traces) ≡ true) ⊎ (flag (r .traces) ≡ false) → (mayStop (row s (r .node)) ≡ true) ⊎ (mayStop (row s (r .node)) ≡ false) → Taken s r Blocked
         pick (inl t) m = passes z (blocked-passes s r z (inl t))
@@ -299,24 +283,24 @@ taken s r x = go (dec (eqb (reportFault s r x) 0))
         pick (inr t) (inr m) = refuses refl z t m (blocked-refused s r z t m)
 
     go : (eqb (reportFault s r x) 0 ≡ true) ⊎ (eqb (reportFault s r x) 0 ≡ false) → Taken s r x
-    go (inl t) = answered x (eqb-true _ 0 t)
+    go (inl t) = given x (eqb-true _ 0 t)
     go (inr t) = let n = eqb-false (reportFault s r x) 0 t in denies n (step-denied s r x n)
 
 -- the answer, read off an equation of a step
-pub answer-of : {z : Stepped} {a : Answer} {r : Run} → z ≡ with a r → z .answer ≡ a
+pub answer-of : {z : Stepped} {a : Answer} {r : Run} → z ≡ answered a r → z .answer ≡ a
 answer-of e = ap (λ (z : Stepped). z .answer) e
 
 -- and the record beside it
-pub run-of : {z : Stepped} {a : Answer} {r : Run} → z ≡ with a r → z .run ≡ r
+pub run-of : {z : Stepped} {a : Answer} {r : Run} → z ≡ answered a r → z .run ≡ r
 run-of e = ap (λ (z : Stepped). z .run) e
 
--- an answer has one kind
-pub kind-once : {a b : Answer} → a ≡ b → said a .kind ≡ said b .kind
-kind-once e = ap (λ (z : Answer). said z .kind) e
+-- the same answer has the same kind
+pub kind-same : {a b : Answer} → a ≡ b → said a .kind ≡ said b .kind
+kind-same e = ap (λ (z : Answer). said z .kind) e
 
--- and one value
-pub value-once : {a b : Answer} → a ≡ b → said a .value ≡ said b .value
-value-once e = ap (λ (z : Answer). said z .value) e
+-- and the same value
+pub value-same : {a b : Answer} → a ≡ b → said a .value ≡ said b .value
+value-same e = ap (λ (z : Answer). said z .value) e
 
 -- an opening is answered with a refusal exactly if it has that number
 pub open-refused : (s : Sheet) (k h : ℕ) (to : Bool) (m : ℕ) → (openOf s k h to .answer ≡ Denied m) ↔ ((openFault s k ≡ m) × (m ≢ 0))
@@ -324,7 +308,7 @@ unfolding said
 open-refused s k h to m = (λ e. forth e (dec (eqb (openFault s k) 0)), back)
   where
     forth : openOf s k h to .answer ≡ Denied m → (eqb (openFault s k) 0 ≡ true) ⊎ (eqb (openFault s k) 0 ≡ false) → (openFault s k ≡ m) × (m ≢ 0)
-    forth e (inl t) = absurd (omega (arith, kind-once (sym (answer-of (open-going s k h to (eqb-true _ 0 t))) ∙ e)))
+    forth e (inl t) = absurd (omega (arith, kind-same (sym (answer-of (open-going s k h to (eqb-true _ 0 t))) ∙ e)))
     forth e (inr t) =
         let n = eqb-false (openFault s k) 0 t in
         let q : openFault s k ≡ m = ap (λ (z : Answer). said z .refusal) (sym (answer-of (open-denied s k h to n)) ∙ e) in

@@ -19,9 +19,9 @@ use Rattle.tests_spec.specs.declared.Report.the-variants.{Event}
 use Rattle.tests_spec.specs.declared.Answer.{Answer}
 use Rattle.tests_spec.specs.declared.Answer.the-variants.{Going, Stray, Refused, Passed, Denied}
 use Rattle.tests_spec.specs.Flags.{flag, flag-set}
-use Rattle.tests_spec.specs.Runs.{offerOf, reportFault, movedBy, endedRun, stepOf}
+use Rattle.tests_spec.specs.Runs.{answered, offerOf, reportFault, movedBy, endedRun, stepOf}
 use Rattle.tests_spec.specs.Numbers.{said}
-use Rattle.tests_spec.specs.RunLaws.{Taken, answer-of, denies, kind-once, moves, passes, refuses, report-16, run-of, step-denied, strays, taken, unrefused, value-once, with}
+use Rattle.tests_spec.specs.RunLaws.{Taken, answer-of, denies, kind-same, moves, passes, refuses, report-16, run-of, step-denied, strays, taken, unrefused, value-same}
 
 -- the record q is r moved on by event i
 pub record Moved (s : Sheet) (r : Run) (i : ℕ) (q : Run) : Type 0 where
@@ -49,10 +49,10 @@ module _ (s : Sheet) (r : Run) (x : Report) where
     where
       forth : stepOf s r x .answer ≡ Denied m → Taken s r x → (reportFault s r x ≡ m) × (m ≢ 0)
       forth e (denies n p) = let q : reportFault s r x ≡ m = ap (λ (z : Answer). said z .refusal) (sym (answer-of p) ∙ e) in (q, λ z. n (q ∙ z))
-      forth e (moves i _ z a l p) = absurd (omega (arith, kind-once (sym (answer-of p) ∙ e)))
-      forth e (strays i _ z n p) = absurd (omega (arith, kind-once (sym (answer-of p) ∙ e)))
-      forth e (refuses _ z t m p) = absurd (omega (arith, kind-once (sym (answer-of p) ∙ e)))
-      forth e (passes z p) = absurd (omega (arith, kind-once (sym (answer-of p) ∙ e)))
+      forth e (moves i _ z a l p) = absurd (omega (arith, kind-same (sym (answer-of p) ∙ e)))
+      forth e (strays i _ z n p) = absurd (omega (arith, kind-same (sym (answer-of p) ∙ e)))
+      forth e (refuses _ z t m p) = absurd (omega (arith, kind-same (sym (answer-of p) ∙ e)))
+      forth e (passes z p) = absurd (omega (arith, kind-same (sym (answer-of p) ∙ e)))
 
       back : (reportFault s r x ≡ m) × (m ≢ 0) → stepOf s r x .answer ≡ Denied m
       back (e, n) = answer-of (step-denied s r x (λ z. n (sym e ∙ z))) ∙ ap Denied e
@@ -62,13 +62,13 @@ module _ (s : Sheet) (r : Run) (x : Report) where
   denied-still m e = let w = step-refused m .0 e in run-of (step-denied s r x (λ z. w .1 (sym (w .0) ∙ z)))
 
   -- an ended run, shown an accepted sheet, answers 16 and its record stays
-  pub ended-16 : sheetFault s ≡ 0 → flag (r .ended) ≡ true → stepOf s r x ≡ with (Denied 16) r
+  pub ended-16 : sheetFault s ≡ 0 → flag (r .ended) ≡ true → stepOf s r x ≡ answered (Denied 16) r
   ended-16 z t =
       let q : reportFault s r x ≡ 16 = report-16 s r x .1 (z, t) in
       step-denied s r x (λ e. omega (arith, q)) ∙ rw q
 
   -- shown any other sheet, every run answers that sheet's number and its record stays
-  pub sheet-refused : sheetFault s ≢ 0 → stepOf s r x ≡ with (Denied (sheetFault s)) r
+  pub sheet-refused : sheetFault s ≢ 0 → stepOf s r x ≡ answered (Denied (sheetFault s)) r
   sheet-refused n = step-denied s r x (λ e. n (sym q ∙ e)) ∙ rw q
     where
       q : reportFault s r x ≡ sheetFault s
@@ -88,11 +88,11 @@ module _ (s : Sheet) (r : Run) (x : Report) where
   traces-unrefused t X e = go (taken s r x)
     where
       go : Taken s r x → ⊥
-      go (denies n p) = omega (arith, kind-once (sym (answer-of p) ∙ e))
-      go (moves i _ z a l p) = omega (arith, kind-once (sym (answer-of p) ∙ e))
-      go (strays i _ z n p) = omega (arith, kind-once (sym (answer-of p) ∙ e))
+      go (denies n p) = omega (arith, kind-same (sym (answer-of p) ∙ e))
+      go (moves i _ z a l p) = omega (arith, kind-same (sym (answer-of p) ∙ e))
+      go (strays i _ z n p) = omega (arith, kind-same (sym (answer-of p) ∙ e))
       go (refuses _ z f m p) = clash t f
-      go (passes z p) = omega (arith, kind-once (sym (answer-of p) ∙ e))
+      go (passes z p) = omega (arith, kind-same (sym (answer-of p) ∙ e))
 
   -- a report with which the run goes on is an event; the run, at most k deep, is one deeper and at the event's successor, and
   -- nothing else of it alters; the answer has its next offer
@@ -102,24 +102,24 @@ module _ (s : Sheet) (r : Run) (x : Report) where
   going-deeper X e = go (taken s r x)
     where
       go : Taken s r x → (i : ℕ) × (x ≡ Event i) × (r .depth < r .k) × Moved s r i (stepOf s r x .run) × (X ≡ offerOf s (stepOf s r x .run))
-      go (denies n p) = absurd (omega (arith, kind-once (sym (answer-of p) ∙ e)))
+      go (denies n p) = absurd (omega (arith, kind-same (sym (answer-of p) ∙ e)))
       go (moves i q z a l p) = (
         i,
         q,
         l,
         rw (run-of p) (record { depth = refl; node = refl; k = refl; h = refl; traces = refl; ended = refl }),
-        sym (value-once (sym (answer-of p) ∙ e)) ∙ ap (offerOf s) (sym (run-of p)),
+        sym (value-same (sym (answer-of p) ∙ e)) ∙ ap (offerOf s) (sym (run-of p)),
       )
-      go (strays i _ z n p) = absurd (omega (arith, kind-once (sym (answer-of p) ∙ e)))
-      go (refuses _ z f m p) = absurd (omega (arith, kind-once (sym (answer-of p) ∙ e)))
-      go (passes z p) = absurd (omega (arith, kind-once (sym (answer-of p) ∙ e)))
+      go (strays i _ z n p) = absurd (omega (arith, kind-same (sym (answer-of p) ∙ e)))
+      go (refuses _ z f m p) = absurd (omega (arith, kind-same (sym (answer-of p) ∙ e)))
+      go (passes z p) = absurd (omega (arith, kind-same (sym (answer-of p) ∙ e)))
 
   -- an answer that neither refuses nor goes on ends the run: the record is marked, and nothing else of it alters
   pub ending-marks : ((m : ℕ) → stepOf s r x .answer ≢ Denied m) → ((X : ℕ) → stepOf s r x .answer ≢ Going X) → Marked r (stepOf s r x .run)
   unfolding endedRun
   ending-marks a b = go (taken s r x)
     where
-      marked : {a : Answer} → stepOf s r x ≡ with a (endedRun r) → Marked r (stepOf s r x .run)
+      marked : {a : Answer} → stepOf s r x ≡ answered a (endedRun r) → Marked r (stepOf s r x .run)
       marked p = rw (run-of p) (record { ended = refl; node = refl; depth = refl; k = refl; h = refl; traces = refl })
 
       go : Taken s r x → Marked r (stepOf s r x .run)

@@ -14,6 +14,7 @@ use Rattle.probes_spec.specs.Probes.{probes}
 use Rattle.tests_spec.specs.declared.Run.{Run}
 use Rattle.tests_spec.specs.declared.Report.{Report}
 use Rattle.tests_spec.specs.declared.Report.the-variants.{Event, Blocked}
+use Rattle.tests_spec.specs.declared.Answer.{Answer}
 use Rattle.tests_spec.specs.declared.Answer.the-variants.{Going, Stray, Refused, Passed, Denied}
 use Rattle.tests_spec.specs.declared.Stepped.{Stepped}
 use Rattle.tests_spec.specs.Flags.{flag, flagOf}
@@ -46,6 +47,10 @@ newRun k h traceOnly = record { k = k; h = h; traces = flagOf traceOnly; ended =
 abbrev pub zeroRun : Run
 zeroRun = record { k = 0; h = 0; traces = 0; ended = 0; node = 0; depth = 0 }
 
+-- an answer beside a record
+abbrev pub answered : Answer → Run → Stepped
+answered a r = record { answer = a; run = r }
+
 -- the refusal of an opening: the sheet's own; 14: k above 1,023
 unfoldable pub openFault : Sheet → ℕ → ℕ
 openFault s k = orElse (sheetFault s) (unless (leb k 1023) 14 0)
@@ -54,8 +59,8 @@ openFault s k = orElse (sheetFault s) (unless (leb k 1023) 14 0)
 unfoldable pub openOf : Sheet → ℕ → ℕ → Bool → Stepped
 openOf s k h traceOnly =
     cond (eqb (openFault s k) 0)
-    (record { answer = Going (offerOf s (newRun k h traceOnly)); run = newRun k h traceOnly })
-    (record { answer = Denied (openFault s k); run = zeroRun })
+    (answered (Going (offerOf s (newRun k h traceOnly))) (newRun k h traceOnly))
+    (answered (Denied (openFault s k)) zeroRun)
 
 -- 9: the record's node is not on the sheet, its depth exceeds its k, or its k is above 1,023
 unfoldable pub recordOk : Sheet → Run → Bool
@@ -84,14 +89,14 @@ unfoldable pub answerOf : Sheet → Run → Report → Stepped
 answerOf s r (Event i) =
     cond (has (initials (s .e) (row s (r .node))) i)
     (cond (ltb (r .depth) (r .k))
-    (record { answer = Going (offerOf s (movedBy s r i)); run = movedBy s r i })
-    (record { answer = Passed; run = endedRun r }))
-    (record { answer = Stray i; run = endedRun r })
+    (answered (Going (offerOf s (movedBy s r i))) (movedBy s r i))
+    (answered Passed (endedRun r)))
+    (answered (Stray i) (endedRun r))
 answerOf s r Blocked =
     cond (flag (r .traces) || mayStop (row s (r .node)))
-    (record { answer = Passed; run = endedRun r })
-    (record { answer = Refused (offerOf s r); run = endedRun r })
+    (answered Passed (endedRun r))
+    (answered (Refused (offerOf s r)) (endedRun r))
 
 -- a report is answered, or refused with its number and the record as it came
 unfoldable pub stepOf : Sheet → Run → Report → Stepped
-stepOf s r report = cond (eqb (reportFault s r report) 0) (answerOf s r report) (record { answer = Denied (reportFault s r report); run = r })
+stepOf s r report = cond (eqb (reportFault s r report) 0) (answerOf s r report) (answered (Denied (reportFault s r report)) r)

@@ -6,7 +6,7 @@ use mathlib.Core.Bool.{Bool, true, false, true≢false}
 use mathlib.Core.List.{List}
 use Prim.Native.Nat.{ℕ, zero, suc, _+_, _-_, _*_, _≤_, _<_}
 use native.Mathlib.Omega.{arith}
-use native.Mathlib.Nat.{add-zero, mul-le-mul}
+use native.Mathlib.Nat.{add-zero}
 use lib.ListN.{length}
 use Rattle.base.specs.Truth.{clash, lt-or-ge, not-i}
 use Rattle.walks.specs.Graph.{walk}
@@ -15,7 +15,7 @@ use Rattle.sheet_spec.specs.declared.Sheet.{Sheet}
 use Rattle.sheet_spec.specs.Kept.{row, acceptance, mayStop, graph}
 use Rattle.sheet_spec.specs.Rules.{sheetFault}
 use Rattle.sheet_spec.specs.RowLaws.{mayStop-means}
-use Rattle.sheet_spec.specs.Sound.{Sound, check-sound}
+use Rattle.sheet_spec.specs.Sound.{Sound, check-sound, nodes-most}
 use Rattle.refinement_spec.specs.Refinement.{After, Trace, Strays, Overrefuses, TraceRefines, RefinesIn}
 use Rattle.refinement_spec.specs.PairTests.{hasStray, hasRefusal, violating}
 use Rattle.refinement_spec.specs.PairLaws.{violates-means}
@@ -176,23 +176,19 @@ module _ (P Q : Sheet) (accP : sheetFault P ≡ 0) (accQ : sheetFault Q ≡ 0) (
         go (inl l) = (l, distance-fails l, nearer-passes)
         go (inr l) = absurd (n (refines-distance op oq same to .1 l))
 
-    -- every test below p·q has a number that a test may have
-    few : P .n * Q .n ≤ 1024
-    few = mul-le-mul (op .ranges .n-high) (oq .ranges .n-high)
-
     -- the same for runs: no run of a test below p·q can end failed exactly if the device refines the reference
     pub runs-complete : ((k : ℕ) → k < P .n * Q .n → ¬ FailsTest to P Q k) ↔ RefinesIn to P Q
     runs-complete = (λ f. tests-complete .0 (λ k l. not-i (λ t. f k l (means k l .0 t))), λ r k l x. clash (means k l .1 x) (refining-false r k))
       where
         means : (k : ℕ) → k < P .n * Q .n → (failsFrom to P Q k 0 0 ≡ true) ↔ FailsTest to P Q k
-        means k l = fails-means P Q accP accQ same to k (omega (arith, few))
+        means k l = fails-means P Q accP accQ same to k (omega (arith, nodes-most op oq))
 
     -- the same for verdicts
     pub verdicts-complete : ((k : ℕ) → k < P .n * Q .n → verdictOf P Q k to ≡ Passes) ↔ RefinesIn to P Q
     verdicts-complete = (λ f. runs-complete .0 (λ k l. means k l .0 (f k l)), λ r k l. means k l .1 (runs-complete .1 r k l))
       where
         means : (k : ℕ) → k < P .n * Q .n → (verdictOf P Q k to ≡ Passes) ↔ (¬ FailsTest to P Q k)
-        means k l = verdict-passes P Q accP accQ same to k (omega (arith, few))
+        means k l = verdict-passes P Q accP accQ same to k (omega (arith, nodes-most op oq))
 
   -- of the trace-only tests p·q - 1 decides alone
   pub single-test : (failsFrom true P Q (P .n * Q .n - 1) 0 0 ≡ false) ↔ TraceRefines P Q

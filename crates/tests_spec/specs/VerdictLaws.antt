@@ -31,13 +31,13 @@ use Rattle.tests_spec.specs.declared.Answer.the-variants.{Going}
 use Rattle.tests_spec.specs.declared.Verdict.{Verdict}
 use Rattle.tests_spec.specs.declared.Verdict.the-variants.{Passes, Fails, Denied as NoVerdict}
 use Rattle.tests_spec.specs.Flags.{flag, flagOf, flag-clear, flag-of}
-use Rattle.tests_spec.specs.Runs.{probesAt, chosen, offerOf, newRun, openOf, reportFault, movedBy, stepOf}
+use Rattle.tests_spec.specs.Runs.{probesAt, chosen, offerOf, newRun, answered, openOf, reportFault, movedBy, stepOf}
 use Rattle.tests_spec.specs.Verdicts.{CanReport, Failed, deviceAfter, EndsFailed, FailsTest, failsFrom, verdictFault, verdictOf}
 use Rattle.tests_spec.specs.Numbers.{said, judged}
 use Rattle.tests_spec.specs.Offers.{offer-all, offer-below, offer-at, offer-outside}
 use Rattle.tests_spec.specs.Blocks.{stop-blocks, all-blocked, block-refusal, refusal-block}
 use Rattle.tests_spec.specs.RunLaws.{open-0, open-going, Beyond, NotOffered, WrongRecord}
-use Rattle.tests_spec.specs.RunLaws.{report-0, with, answer-of, run-of, kind-once, value-once}
+use Rattle.tests_spec.specs.RunLaws.{report-0, answer-of, run-of, kind-same, value-same}
 use Rattle.tests_spec.specs.RunLaws.{stray-step, moving-step, blocked-refused, Taken, denies, moves, strays, refuses, passes, taken}
 use Rattle.tests_spec.specs.Layers.{StopsAt, FailsOnward, fails-next}
 
@@ -221,13 +221,13 @@ module _ (P Q : Sheet) (accP : sheetFault P ≡ 0) (accQ : sheetFault Q ≡ 0) (
           → Before h reports
           → failsFrom to P Q left n m ≡ true
       go (denies z p) (inl (_, f)) ih = absurd (subst Failed (answer-of p) f)
-      go (denies z p) (inr (next, g, f)) ih = absurd (omega (arith, kind-once (sym (answer-of p) ∙ g)))
+      go (denies z p) (inr (next, g, f)) ih = absurd (omega (arith, kind-same (sym (answer-of p) ∙ g)))
       go (passes z p) (inl (_, f)) ih = absurd (subst Failed (answer-of p) f)
-      go (passes z p) (inr (next, g, f)) ih = absurd (omega (arith, kind-once (sym (answer-of p) ∙ g)))
+      go (passes z p) (inr (next, g, f)) ih = absurd (omega (arith, kind-same (sym (answer-of p) ∙ g)))
       go (moves i q z u l p) (inl (_, f)) ih = absurd (subst Failed (answer-of p) f)
       go (moves i q z u l p) (inr (next, g, f)) ih =
           moved i left e l u (subst (CanReport Q m (offerOf P (live h n x))) q can .1) ih
-          (subst (λ (y : ℕ). EndsFailed P Q (movedBy P (live h n x) i) (successor (row Q m) i) y reports) (sym (value-once (sym (answer-of p) ∙ g)))
+          (subst (λ (y : ℕ). EndsFailed P Q (movedBy P (live h n x) i) (successor (row Q m) i) y reports) (sym (value-same (sym (answer-of p) ∙ g)))
           (subst (λ (y : Report). EndsFailed P Q (movedBy P (live h n x) i) (deviceAfter Q m y) next reports) q
           (subst (λ (y : Run). EndsFailed P Q y (deviceAfter Q m report) next reports) (run-of p) f)))
       go (strays i q z u p) alt ih =
@@ -337,7 +337,7 @@ module _ (P Q : Sheet) (accP : sheetFault P ≡ 0) (accQ : sheetFault Q ≡ 0) (
   unfolding said newRun
   fails-means = (forth, back)
     where
-      opened : (h : ℕ) → openOf P k h to ≡ with (Going (offerOf P (live h 0 0))) (live h 0 0)
+      opened : (h : ℕ) → openOf P k h to ≡ answered (Going (offerOf P (live h 0 0))) (live h 0 0)
       opened h = open-going P k h to (open-0 P k .1 (accP, λ l. omega arith))
 
       forth : failsFrom to P Q k 0 0 ≡ true → FailsTest to P Q k
@@ -355,7 +355,7 @@ module _ (P Q : Sheet) (accP : sheetFault P ≡ 0) (accQ : sheetFault Q ≡ 0) (
       back : FailsTest to P Q k → failsFrom to P Q k 0 0 ≡ true
       back (h, c, offer, g, (reports, f)) =
           ends→ h reports k 0 0 0 (omega arith) (op .ranges .n-low) (oq .ranges .n-low)
-          (subst (λ (y : ℕ). EndsFailed P Q (live h 0 0) 0 y reports) (sym (value-once (sym (answer-of (opened h)) ∙ g)))
+          (subst (λ (y : ℕ). EndsFailed P Q (live h 0 0) 0 y reports) (sym (value-same (sym (answer-of (opened h)) ∙ g)))
           (subst (λ (y : Run). EndsFailed P Q y 0 offer reports) (run-of (opened h)) f))
 
   -- for accepted sheets with the same events and k up to 1,023 nothing is refused ..

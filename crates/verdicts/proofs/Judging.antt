@@ -4,13 +4,12 @@ use mathlib.Core.Bool.{Bool, true, false, cond}
 use mathlib.Core.List.{List, _++_}
 use Prim.Native.Nat.{ℕ, _*_, _≤_, _<_}
 use native.Mathlib.Omega.{arith}
-use native.Mathlib.Nat.{mul-le-mul}
 use lib.ListN.{length, drop}
 use Rattle.base.specs.Table.{upTo, length-upTo, upTo-ext}
 use Rattle.base.specs.Front.{atFront-count}
 use Rattle.sheet_spec.specs.declared.Sheet.{Sheet}
 use Rattle.sheet_spec.specs.Rules.{sheetFault}
-use Rattle.sheet_spec.specs.Sound.{Sound, check-sound}
+use Rattle.sheet_spec.specs.Sound.{Sound, check-sound, nodes-most}
 use Rattle.tests_spec.specs.declared.Verdict.{Verdict}
 use Rattle.tests_spec.specs.declared.Verdict.the-variants.{Passes, Fails}
 use Rattle.tests_spec.specs.Verdicts.{failsFrom}
@@ -49,7 +48,7 @@ module _ (P Q : Sheet) {f g e p′ q′ : ℕ} (p : f ≡ sheetFault P) (z : f �
   )
 
   pub few : p′ * q′ ≤ 1024
-  few = mul-le-mul (sizes .1) (sizes .3)
+  few = rw (dp, dq) (nodes-most sound-P sound-Q)
 
 module _ (P Q : Sheet) (to : Bool) (o : List ℕ) where
   -- what the contract says of an answer and the list at exit

@@ -6,11 +6,10 @@ use mathlib.Core.Bool.{Bool}
 use mathlib.Core.List.{List}
 use Prim.Native.Nat.{ℕ, _≤_, _<_}
 use native.Mathlib.Omega.{arith}
-use native.Mathlib.Nat.{mul-le-mul}
 use lib.ListN.{length, getD}
 use Rattle.sheet_spec.specs.declared.Sheet.{Sheet}
 use Rattle.sheet_spec.specs.Rules.{sheetFault}
-use Rattle.sheet_spec.specs.Sound.{check-sound}
+use Rattle.sheet_spec.specs.Sound.{check-sound, nodes-most}
 use Rattle.refinement_spec.specs.Refinement.{RefinesIn}
 use Rattle.tests_spec.specs.declared.Verdict.{Verdict}
 use Rattle.tests_spec.specs.declared.Verdict.the-variants.{Passes, Fails, Denied as NoVerdict}
@@ -44,7 +43,7 @@ module _ (P Q : Sheet) (accP : sheetFault P ≡ 0) (accQ : sheetFault Q ≡ 0) (
   -- p q is at most 1,024, so every test has a number that a test may have
   pub tests-few : tests P Q ≤ 1024
   unfolding tests
-  tests-few = mul-le-mul (check-sound P accP .ranges .n-high) (check-sound Q accQ .ranges .n-high)
+  tests-few = nodes-most (check-sound P accP) (check-sound Q accQ)
 
   -- 14, or any other refusal, is never given for a test of the suite
   pub none-refused : (k : ℕ) → k < tests P Q → verdictFault P Q k ≡ 0
