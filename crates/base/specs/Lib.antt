@@ -1,6 +1,7 @@
 pub mod Truth
 pub mod Range
 pub mod Count
+pub mod Gather
 pub mod Table
 pub mod Front
 pub mod Finds

@@ -3,6 +3,7 @@ use mathlib.Core.Path.{_≡_, refl}
 use mathlib.Core.List.{[], _∷_, map}
 use Rattle.base.specs.Range.{all, any}
 use Rattle.base.specs.Table.{upTo}
+use Rattle.base.specs.Gather.{gather, select}
 use Rattle.events.specs.Bit.{bit, setOf}
 use Rattle.events.specs.Sets.{has, inside, meets}
 use Rattle.walks.specs.Graph.{walk}
@@ -10,11 +11,11 @@ use Rattle.walks.specs.Reach.{nearer, leads}
 use Rattle.sheet_spec.specs.Kept.{successor, acceptance, acceptances, initials, mayStop, step}
 use Rattle.sheet_spec.specs.Rules.{rangesOk, countOk, countsOk, successorOk, rowSuccessorsOk, successorsOk, ascends, noneInside, setOk, rowSetsOk, setsOk, blank, unusedOk, blanksOk, reachedOk, sheetFault}
 use Rattle.sheet_spec.specs.Reading.{lengthField, headFault, nextAt, layoutFault, startOf, succOf, setsOf, rowAt, rowOf, sheetOf, graphFault, bytesFault, answer, readSheet}
-use Rattle.probes_spec.specs.Probes.{hits, isProbe, gather, select, probes}
+use Rattle.probes_spec.specs.Probes.{hits, isProbe, probes}
 use Rattle.probes_spec.specs.Listing.{nodeProbes, listFault}
 use Rattle.text_spec.specs.Lines.{ascii, decimalIn, decimal, eventList}
 use Rattle.text_spec.specs.Sets.{eventsIn, members, setWords}
-use Rattle.node_lines_spec.specs.Joined.{joined}
+use Rattle.text_spec.specs.Joined.{joined}
 use Rattle.node_lines_spec.specs.Node.{probeSpace, placeWords, setList, probesLine, mayStopLine, deniedLine, nodeLine}
 use Rattle.node_lines_spec.specs.Cases.{threeNodes}
 use Rattle.sheet_spec.specs.Examples.{exampleReference, sheet}

@@ -9,6 +9,7 @@ use lib.ListN.{replicate}
 use Rattle.base.specs.Range.{all, any, first}
 use Rattle.base.specs.Count.{count}
 use Rattle.base.specs.Table.{upTo}
+use Rattle.base.specs.Gather.{gather, select}
 use Rattle.events.specs.Bit.{bit, setOf}
 use Rattle.events.specs.Sets.{has, inside, meets}
 use Rattle.walks.specs.Graph.{walk}
@@ -22,7 +23,7 @@ use Rattle.sheet_spec.specs.declared.ReadSheet.{ReadSheet}
 use Rattle.sheet_spec.specs.Kept.{successor, acceptance, acceptances, initials, mayStop, step}
 use Rattle.sheet_spec.specs.Rules.{rangesOk, countOk, countsOk, successorsOk, rowSuccessorsOk, successorOk, setsOk, rowSetsOk, setOk, ascends, noneInside, blank, unusedOk, blanksOk, reachedOk, sheetFault}
 use Rattle.sheet_spec.specs.Reading.{readSheet, answer, bytesFault, headFault, lengthField, layoutFault, nextAt, startOf, succOf, setsOf, rowAt, rowOf, sheetOf, graphFault}
-use Rattle.probes_spec.specs.Probes.{hits, isProbe, gather, select, probes}
+use Rattle.probes_spec.specs.Probes.{hits, isProbe, probes}
 use Rattle.probes_spec.specs.FirstMissed.{missing, orNext, firstMissing, firstMissed}
 use Rattle.refinement_spec.specs.PairTests.{strays, hasStray, firstStray, covers, hasRefusal, violates, violating}
 use Rattle.tests_spec.specs.declared.Run.{Run}

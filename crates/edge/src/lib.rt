@@ -5,7 +5,7 @@
 ghost use mathlib.Core.Path.{_≡_};
 ghost use Rattle.sheet_spec.specs.Rules.{sheetFault};
 ghost use Rattle.sheet_spec.specs.Reading.{readSheet};
-ghost use Rattle.probes_spec.specs.Listing.{listedNumbers, listNumbers, listAfter};
+ghost use Rattle.probes_spec.specs.Listing.{listedNumbers, listedOf, listAfter};
 ghost use Rattle.tests_spec.specs.Flags.{flag};
 ghost use Rattle.tests_spec.specs.Runs.{openOf, stepOf};
 ghost use Rattle.tests_spec.specs.Verdicts.{verdictOf};
@@ -73,7 +73,7 @@ fn listed_flat(a: Listed) -> BenchListed
 // Writes the probes of a node to the front of the lent list and answers how many there are; or the number of the refusal.
 #[no_mangle]
 pub extern "C" fn bench_list(sheet: Sheet, node: u8, out: &mut [u16]) -> BenchListed
-    ensures { λ r. ⌜ (r ≡ listedFlat (listNumbers sheet node (now (out .entry)))) × (now (out .exit) ≡ listAfter sheet node (now (out .entry))) ⌝ }
+    ensures { λ r. ⌜ (r ≡ listedFlat (listedNumbers (listedOf sheet node (now (out .entry))))) × (now (out .exit) ≡ listAfter sheet node (now (out .entry))) ⌝ }
 {
     let answer = probes::list(sheet, node, out);
     listed_flat(answer)

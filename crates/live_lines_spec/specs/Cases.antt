@@ -5,6 +5,7 @@ use mathlib.Core.Bool.{true, false}
 use mathlib.Core.List.{List, [], _∷_, _++_, map}
 use Prim.Native.Nat.{ℕ}
 use Rattle.base.specs.Range.{all}
+use Rattle.base.specs.Gather.{gather, select}
 use Rattle.events.specs.Bit.{bit}
 use Rattle.events.specs.Sets.{has}
 use Rattle.text_spec.specs.Lines.{ascii, decimalIn, decimal, numberLine, eventList}
@@ -48,13 +49,13 @@ asked-hold = refl
 -- answers to a report
 pub answers-hold : map answerLine (Going 19 ∷ Going 0 ∷ Stray 3 ∷ Refused 5 ∷ Passed ∷ Denied 15 ∷ [])
     ≡ (ascii "offer 0 1 4\n" ∷ ascii "offer\n" ∷ ascii "stray 3\n" ∷ ascii "refused 5 ( 0 2 )\n" ∷ ascii "passed\n" ∷ ascii "report refused 15\n" ∷ [])
-unfolding answerLine lineWith offerLine refusedSetLine numberLine setWords members eventsIn eventList decimal decimalIn has bit
+unfolding answerLine lineWith offerLine refusedSetLine numberLine setWords members eventsIn select gather eventList decimal decimalIn has bit
 answers-hold = refl
 
 -- answers to an opening
 pub openings-hold : (openingLine 0 (Going 3) ∷ openingLine 0 (Denied 14) ∷ openingLine 3 (Denied 3) ∷ openingLine 1 (Denied 14) ∷ [])
     ≡ (ascii "offer 0 1\n" ∷ ascii "test refused 14\n" ∷ ascii "reference refused 3\n" ∷ ascii "reference refused 1\n" ∷ [])
-unfolding openingLine lineWith offerLine numberLine members eventsIn eventList decimal decimalIn has bit
+unfolding openingLine lineWith offerLine numberLine members eventsIn select gather eventList decimal decimalIn has bit
 openings-hold = refl
 
 -- and where the run has not ended

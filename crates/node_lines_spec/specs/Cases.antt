@@ -4,6 +4,7 @@ use mathlib.Core.List.{List, [], _∷_, map}
 use Prim.Native.Nat.{ℕ}
 use Rattle.base.specs.Range.{all, any}
 use Rattle.base.specs.Table.{upTo}
+use Rattle.base.specs.Gather.{gather, select}
 use Rattle.events.specs.Bit.{bit, setOf}
 use Rattle.events.specs.Sets.{has, inside}
 use Rattle.walks.specs.Graph.{walk}
@@ -14,7 +15,7 @@ use Rattle.sheet_spec.specs.Reading.{lengthField, headFault, nextAt, layoutFaul
 use Rattle.text_spec.specs.Lines.{ascii, decimalIn, decimal, numberLine, sheetLine, eventList}
 use Rattle.text_spec.specs.Sets.{eventsIn, members, setWords}
 use Rattle.text_spec.specs.Input.{cutInput}
-use Rattle.node_lines_spec.specs.Joined.{joined}
+use Rattle.text_spec.specs.Joined.{joined}
 use Rattle.node_lines_spec.specs.Head.{refusalWords, refusedSheetLine, headLine}
 use Rattle.node_lines_spec.specs.Show.{eventLine, successorLine, acceptsLine, acceptanceLine, restLines, rowLines, nodeLines, showLines, showText}
 use Rattle.node_lines_spec.specs.Node.{placeWords, setList, probesLine, mayStopLine, deniedLine}
@@ -58,12 +59,12 @@ texts =
 
 -- one equation has them all
 pub texts-hold : map showText inputs ≡ texts
-unfolding inputs texts threeNodes showText cutInput showLines nodeLines rowLines restLines acceptanceLine acceptsLine successorLine eventLine headLine refusedSheetLine refusalWords joined numberLine sheetLine setWords members eventsIn eventList decimal decimalIn readSheet answer bytesFault headFault lengthField layoutFault nextAt startOf succOf setsOf rowAt rowOf sheetOf graphFault rangesOk countOk successorOk rowSuccessorsOk successorsOk ascends noneInside setOk rowSetsOk setsOk reachedOk successor acceptance acceptances initials mayStop step bit setOf has inside nearer leads walk all any upTo
+unfolding inputs texts threeNodes showText cutInput showLines nodeLines rowLines restLines acceptanceLine acceptsLine successorLine eventLine headLine refusedSheetLine refusalWords joined numberLine sheetLine setWords members eventsIn select gather eventList decimal decimalIn readSheet answer bytesFault headFault lengthField layoutFault nextAt startOf succOf setsOf rowAt rowOf sheetOf graphFault rangesOk countOk successorOk rowSuccessorsOk successorsOk ascends noneInside setOk rowSetsOk setsOk reachedOk successor acceptance acceptances initials mayStop step bit setOf has inside nearer leads walk all any upTo
 texts-hold = refl
 
 -- the lines of `probe_list` for a list of probes, a node that may stop, and a refusal
 pub probes-hold : probesLine 0 (1 ∷ 2 ∷ 12 ∷ []) ≡ ascii "node 0 probes 1 ( 0 ) 2 ( 1 ) 12 ( 2 3 )\n"
-unfolding probesLine setList placeWords joined setWords members eventsIn eventList decimal decimalIn has bit
+unfolding probesLine setList placeWords joined setWords members eventsIn select gather eventList decimal decimalIn has bit
 probes-hold = refl
 
 pub stop-holds : mayStopLine 31 ≡ ascii "node 31 may stop\n"

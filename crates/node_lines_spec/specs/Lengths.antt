@@ -28,8 +28,8 @@ use Rattle.text_spec.specs.Sets.{setWords}
 use Rattle.text_spec.specs.DecimalLaws.{decimal-few}
 use Rattle.text_spec.specs.Input.{cutInput}
 use Rattle.text_spec.specs.LengthLaws.{number-length, sheet-length, set-length}
-use Rattle.node_lines_spec.specs.Joined.{joined}
-use Rattle.node_lines_spec.specs.JoinedLaws.{joined-length}
+use Rattle.text_spec.specs.Joined.{joined}
+use Rattle.text_spec.specs.JoinedLaws.{joined-length}
 use Rattle.node_lines_spec.specs.Head.{refusalWords, refusedSheetLine, headLine}
 use Rattle.node_lines_spec.specs.Show.{eventLine, successorLine, acceptsLine, acceptanceLine, restLines, rowLines, nodeLines, showLines, showText}
 use Rattle.node_lines_spec.specs.NodeLaws.{line-stop, line-probes, line-sheet, line-9}

@@ -1,8 +1,6 @@
-pub mod Joined
 pub mod Head
 pub mod Show
 pub mod Node
-pub mod JoinedLaws
 pub mod ShowLaws
 pub mod NodeLaws
 pub mod Lengths

@@ -9,7 +9,7 @@ use Rattle.sheet_spec.specs.Kept.{row, mayStop}
 use Rattle.probes_spec.specs.Listing.{nodeProbes, listFault}
 use Rattle.text_spec.specs.Lines.{ascii, decimal, numbersText}
 use Rattle.text_spec.specs.Sets.{setWords}
-use Rattle.node_lines_spec.specs.Joined.{joined}
+use Rattle.text_spec.specs.Joined.{joined}
 
 -- the list that is lent to the probe call: 4,096 places, which is enough for every node
 unfoldable pub probeSpace : List ℕ

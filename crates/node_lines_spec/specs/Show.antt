@@ -11,7 +11,7 @@ use Rattle.sheet_spec.specs.Reading.{readSheet}
 use Rattle.text_spec.specs.Lines.{ascii, numberLine, numbersText}
 use Rattle.text_spec.specs.Sets.{setWords}
 use Rattle.text_spec.specs.Input.{cutInput}
-use Rattle.node_lines_spec.specs.Joined.{joined}
+use Rattle.text_spec.specs.Joined.{joined}
 use Rattle.node_lines_spec.specs.Head.{headLine}
 
 -- `event i to w`

@@ -14,7 +14,7 @@ use Rattle.sheet_spec.specs.AnswerLaws.{read-kept}
 use Rattle.sheet_spec.specs.Sound.{check-sound}
 use Rattle.text_spec.specs.Lines.{ascii, sheetLine}
 use Rattle.text_spec.specs.InputLaws.{cut-more}
-use Rattle.node_lines_spec.specs.Joined.{joined}
+use Rattle.text_spec.specs.Joined.{joined}
 use Rattle.node_lines_spec.specs.Head.{refusedSheetLine, headLine}
 use Rattle.node_lines_spec.specs.Show.{eventLine, successorLine, acceptanceLine, restLines, nodeLines, showLines, showText}
 

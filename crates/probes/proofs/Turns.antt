@@ -12,8 +12,8 @@ use lib.ListN.{length, getD, set, take, drop, length-append}
 use lib.Seq.{drop-cons, set-append-seam, take-suc, length-take-le}
 use Rattle.base.specs.Truth.{dec}
 use Rattle.base.specs.Front.{atFront, atFront-taken}
-use Rattle.probes_spec.specs.Probes.{gather, probes}
-use Rattle.probes_spec.specs.Gather.{gather-yes, gather-no, gather-skip, gather-short, gather-room}
+use Rattle.base.specs.Gather.{gather, gather-yes, gather-no, gather-skip, gather-short, gather-room}
+use Rattle.probes_spec.specs.Probes.{probes}
 use Rattle.probes_spec.specs.Shapes.{turns, value, turn, nextIn, nextFrom}
 use Rattle.probes_spec.specs.ShapeLaws.{turns-probes}
 

@@ -7,7 +7,7 @@ ghost use lib.ListN.{length, take};
 ghost use Rattle.base.specs.Front.{atFront};
 ghost use Rattle.probes_spec.specs.Probes.{probes};
 ghost use Rattle.probes_spec.specs.FirstMissed.{firstMissed};
-ghost use Rattle.probes_spec.specs.Listing.{listedNumbers, listedOf, listNumbers, listAfter};
+ghost use Rattle.probes_spec.specs.Listing.{listedNumbers, listedOf, listAfter};
 use probes_spec::Listed;
 use probes_spec::Missed;
 use sheet_spec::Sheet;
@@ -45,7 +45,7 @@ fn copy(found: &[u16], m: usize, out: &mut [u16])
 // Writes the probes of a node to the front of the lent list and answers how many there are; or the number of the refusal, and the
 // list is as it was: the sheet's own; 9, a node that is not below N; 10, a list shorter than the probes.
 pub fn list(sheet: Sheet, node: u8, out: &mut [u16]) -> Listed
-    ensures { λ r. ⌜ (r ≡ listedOf sheet node (now (out .entry))) × (listedNumbers r ≡ listNumbers sheet node (now (out .entry))) × (now (out .exit) ≡ listAfter sheet node (now (out .entry))) ⌝ }
+    ensures { λ r. ⌜ (r ≡ listedOf sheet node (now (out .entry))) × (listedNumbers r ≡ listedNumbers (listedOf sheet node (now (out .entry)))) × (now (out .exit) ≡ listAfter sheet node (now (out .entry))) ⌝ }
 {
     let fault = sheet::check(sheet);
     if fault != 0 {

@@ -1,5 +1,4 @@
 pub mod Probes
-pub mod Gather
 pub mod HitLaws
 pub mod ProbeLaws
 pub mod Shapes

@@ -30,10 +30,6 @@ listedNumbers (Denied k) = (k, 0)
 unfoldable pub listedOf : Sheet → ℕ → List ℕ → Listed
 listedOf s v out = cond (eqb (listFault s v out) 0) (Count (length (nodeProbes s v))) (Denied (listFault s v out))
 
--- .. in 01's numbers
-unfoldable pub listNumbers : Sheet → ℕ → List ℕ → ℕ × ℕ
-listNumbers s v out = (listFault s v out, cond (eqb (listFault s v out) 0) (length (nodeProbes s v)) 0)
-
 -- the list after the call: the probes at its front; after a refusal as it was
 unfoldable pub listAfter : Sheet → ℕ → List ℕ → List ℕ
 listAfter s v out = cond (eqb (listFault s v out) 0) (atFront out (nodeProbes s v)) out

@@ -22,7 +22,7 @@ use Rattle.sheet_spec.specs.Sound.{Sound, check-sound}
 use Rattle.probes_spec.specs.declared.Listed.the-variants.{Count, Denied}
 use Rattle.probes_spec.specs.Probes.{probes, Probe, Narrow}
 use Rattle.probes_spec.specs.ProbeLaws.{probe-at, probe-listed, probes-few, probes-none, probes-some}
-use Rattle.probes_spec.specs.Listing.{nodeProbes, listFault, listedNumbers, listedOf, listNumbers, listAfter}
+use Rattle.probes_spec.specs.Listing.{nodeProbes, listFault, listedNumbers, listedOf, listAfter}
 
 -- the numbers of each case
 pub count-numbers : (m : ℕ) → listedNumbers (Count m) ≡ (0, m)
@@ -86,26 +86,11 @@ module _ (s : Sheet) (v : ℕ) (out : List ℕ) where
           go (inl l) = absurd (f l)
           go (inr l) = l
 
-  -- the answer in 01's numbers
-  pub listed-numbers : listedNumbers (listedOf s v out) ≡ listNumbers s v out
-  unfolding listedOf listNumbers listedNumbers
-  listed-numbers = go (eqb (listFault s v out) 0) refl
-    where
-      go : (b : Bool) → eqb (listFault s v out) 0 ≡ b
-          → listedNumbers (cond b (Count (length (nodeProbes s v))) (Denied (listFault s v out))) ≡ (listFault s v out, cond b (length (nodeProbes s v)) 0)
-      go true e = rw (eqb-true (listFault s v out) 0 e)
-      go false e = refl
-
   module _ (n : listFault s v out ≢ 0) where
-    -- a refusal answers its number ..
+    -- a refusal answers its number, and alters nothing
     pub listed-denied : listedOf s v out ≡ Denied (listFault s v out)
     unfolding listedOf
     listed-denied = rw (ne-eqb (listFault s v out) 0 n)
-
-    -- .. with the value 0, and alters nothing
-    pub numbers-denied : listNumbers s v out ≡ (listFault s v out, 0)
-    unfolding listNumbers
-    numbers-denied = rw (ne-eqb (listFault s v out) 0 n)
 
     pub after-denied : listAfter s v out ≡ out
     unfolding listAfter
@@ -116,10 +101,6 @@ module _ (s : Sheet) (v : ℕ) (out : List ℕ) where
     pub listed-count : listedOf s v out ≡ Count (length (nodeProbes s v))
     unfolding listedOf
     listed-count = rw (eq-eqb (listFault s v out) 0 z)
-
-    pub numbers-count : listNumbers s v out ≡ (0, length (nodeProbes s v))
-    unfolding listNumbers
-    numbers-count = rw (eq-eqb (listFault s v out) 0 z, z)
 
     -- the probes stand at the front of the list, the rest is untouched
     pub after-front : listAfter s v out ≡ atFront out (nodeProbes s v)

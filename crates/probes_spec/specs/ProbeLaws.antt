@@ -10,10 +10,10 @@ use native.Mathlib.Omega.{arith}
 use lib.ListN.{length, getD}
 use lib.Pow.{pow-mono}
 use Rattle.base.specs.Truth.{dec, lt-or-ge, not-i, not-t, t-not}
+use Rattle.base.specs.Gather.{gather, select, gather-short, gather-room, gather-has, gather-from, select-ascends}
 use Rattle.events.specs.Bit.{bit, bit≤1, bit-and, bit-one, bit-high, bits-zero, some-bit, narrow, setOf, setOf-lt, bit-setOf, Within, Apart}
 use Rattle.events.specs.Sets.{has, has→, has-not, inside, inside→, inside-missing}
-use Rattle.probes_spec.specs.Probes.{isProbe, gather, select, probes, Hits, Probe, Narrow}
-use Rattle.probes_spec.specs.Gather.{gather-mono, gather-short, gather-room, gather-has, gather-from}
+use Rattle.probes_spec.specs.Probes.{isProbe, probes, Hits, Probe, Narrow}
 use Rattle.probes_spec.specs.HitLaws.{isProbe→, isProbe←, probe-inside, probe→alone}
 
 -- the test passes exactly for the minimal hitting sets
@@ -138,11 +138,5 @@ probe-chosen accs e b n X p =
 
 -- the order: ascending by number
 pub probes-ascending : (accs : List ℕ) (e x y : ℕ) → x < y → y < length (probes accs e) → getD (probes accs e) x 0 < getD (probes accs e) y 0
-probes-ascending accs e x y l h =
-    let v = at accs e x (omega arith) in
-    let w = at accs e y h in
-    rw (v .4, w .4) (go (v .0) (w .0) (v .3) (w .3) (lt-or-ge (v .0) (w .0)))
-  where
-    go : (a b : ℕ) → length (gather (isProbe accs) (λ y. y) a) ≡ x → length (gather (isProbe accs) (λ y. y) b) ≡ y → (a < b) ⊎ (b ≤ a) → a < b
-    go a b p q (inl k) = k
-    go a b p q (inr k) = absurd (omega (arith, gather-mono (isProbe accs) (λ y. y) b a k))
+unfolding probes
+probes-ascending accs e x y l h = select-ascends (isProbe accs) (2 ^ e) x y l h

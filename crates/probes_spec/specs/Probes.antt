@@ -3,11 +3,12 @@
 -- directions join the two. Crates above use `probes` by its name and the laws of ProbeLaws, and never unfold it (but `cases`, which
 -- computes).
 use mathlib.Core.Path.{_≡_}
-use mathlib.Core.Bool.{Bool, not, _&&_, cond}
-use mathlib.Core.List.{List, [], _∷_, _++_}
-use Prim.Native.Nat.{ℕ, zero, suc, _^_, _<_}
+use mathlib.Core.Bool.{Bool, not, _&&_}
+use mathlib.Core.List.{List}
+use Prim.Native.Nat.{ℕ, _^_, _<_}
 use lib.ListN.{length, getD}
 use Rattle.base.specs.Range.{all}
+use Rattle.base.specs.Gather.{select}
 use Rattle.events.specs.Bit.{bit, Within}
 use Rattle.events.specs.Sets.{inside, meets}
 
@@ -18,15 +19,6 @@ hits accs x = all (λ j. meets (getD accs j 0) x) (length accs)
 -- x meets every acceptance, and no smaller set inside x does (a set inside x is a number no greater than x)
 unfoldable pub isProbe : List ℕ → ℕ → Bool
 isProbe accs x = hits accs x && all (λ y. not (inside y x && hits accs y)) x
-
--- what f gives for each number below n that passes the test, in the order of the numbers
-unfoldable pub gather : (ℕ → Bool) → (ℕ → ℕ) → ℕ → List ℕ
-gather p f zero = []
-gather p f (suc n) = gather p f n ++ cond (p n) (f n ∷ []) []
-
--- the numbers below n that pass the test, ascending
-unfoldable pub select : (ℕ → Bool) → ℕ → List ℕ
-select p n = gather p (λ x. x) n
 
 -- the probes among the sets of e events, ascending
 unfoldable pub probes : List ℕ → ℕ → List ℕ

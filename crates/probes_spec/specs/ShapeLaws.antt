@@ -11,8 +11,9 @@ use lib.Bits.{bitAnd, bitOr, and-step, and-self}
 use lib.Pow.{pow-pos}
 use borrow.Author.Tests.{eqb-true, eqb-false, eq-eqb, ne-eqb}
 use Rattle.base.specs.Truth.{same}
+use Rattle.base.specs.Gather.{gather, select}
 use Rattle.events.specs.Bit.{bit, bit·zero, bit·suc, bit≤1, bit-and, bit-or, bit-one, bit-other, bit-high, bits-zero, bits-ext, Within, apart-and, common, meet}
-use Rattle.probes_spec.specs.Probes.{isProbe, gather, select, probes, Hits, Probe}
+use Rattle.probes_spec.specs.Probes.{isProbe, probes, Hits, Probe}
 use Rattle.probes_spec.specs.HitLaws.{isProbe→, isProbe←, Alone, alone→probe, probe→alone}
 use Rattle.probes_spec.specs.Shapes.{lone, onePass, turns, value, turn}
 

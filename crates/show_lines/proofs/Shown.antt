@@ -9,7 +9,7 @@ use Rattle.sheet_spec.specs.Reading.{readSheet}
 use Rattle.text_spec.specs.Input.{cutInput}
 use Rattle.text_spec.specs.Adds.{Holds, Adds}
 use Rattle.text_spec.specs.AddsLaws.{adds-then, adds-all}
-use Rattle.node_lines_spec.specs.Joined.{joined}
+use Rattle.text_spec.specs.Joined.{joined}
 use Rattle.node_lines_spec.specs.Head.{headLine}
 use Rattle.node_lines_spec.specs.Show.{nodeLines, showLines, showText}
 use Rattle.node_lines_spec.specs.ShowLaws.{show-accepted, show-refused, read-nodes}

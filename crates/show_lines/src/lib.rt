@@ -2,7 +2,7 @@
 // the place where the piece begins and answers the place after it.
 ghost use Prim.Native.Nat.{_≤_};
 ghost use Rattle.text_spec.specs.Adds.{Adds, Holds};
-ghost use Rattle.node_lines_spec.specs.Joined.{joined};
+ghost use Rattle.text_spec.specs.Joined.{joined};
 ghost use Rattle.node_lines_spec.specs.Show.{eventLine, successorLine, acceptanceLine, restLines, rowLines, nodeLines, showText};
 use sheet_spec::Row;
 use sheet_spec::Sheet;

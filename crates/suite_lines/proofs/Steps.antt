@@ -1,4 +1,4 @@
--- The steps of the loops over tests, and the room in the list of verdicts.
+-- The step of the count of tests that pass, and the room in the list of verdicts.
 use mathlib.Core.Path.{_≡_, refl, ap}
 use mathlib.Core.Bool.{Bool, true, false, cond}
 use mathlib.Core.List.{List}
@@ -10,22 +10,15 @@ use lib.ListN.{length, getD, replicate}
 use borrow.Author.Tests.{eqb-true}
 use Rattle.base.specs.Count.{count}
 use Rattle.sheet_spec.specs.declared.Sheet.{Sheet}
-use Rattle.text_spec.specs.Adds.{Adds}
-use Rattle.text_spec.specs.AddsLaws.{adds-then}
 use Rattle.verdicts_spec.specs.declared.Suite.{Suite}
 use Rattle.verdicts_spec.specs.declared.Suite.the-variants.{Judged, Denied}
 use Rattle.verdicts_spec.specs.Suites.{tests, suiteFault, suiteOf, verdictsAfter}
 use Rattle.verdicts_spec.specs.SuiteLaws.{given-room, verdicts-length}
-use Rattle.suite_lines_spec.specs.Lines.{testLine, testLines, passedOf, suiteLines}
+use Rattle.suite_lines_spec.specs.Lines.{passedOf, suiteLines}
 use Rattle.suite_lines_spec.specs.Program.{verdictList, judgedLines}
 use Rattle.suite_lines.specs.Shapes.{Room}
 
 -- one test more
-pub lines-more : {a b c : List ℕ} {i j l v : ℕ} (vs : List ℕ) (k : ℕ) → v ≡ getD vs k 0
-    → Adds (testLines vs k) a i b j → Adds (testLine k v) b j c l → Adds (testLines vs (k + 1)) a i c l
-unfolding testLines
-lines-more vs k e p q = rw (add-one k) (adds-then p (rw e at q))
-
 pub passed-more : {f g v : ℕ} (vs : List ℕ) (k : ℕ) → v ≡ getD vs k 0 → f ≡ passedOf vs k → g ≡ f + cond (eqb v 1) 1 0 → g ≡ passedOf vs (k + 1)
 unfolding passedOf count
 passed-more vs k e p q = rw (add-one k, ← e, ← p) q

@@ -18,6 +18,7 @@ use Rattle.base.specs.Count.{count}
 use Rattle.verdicts_spec.specs.Suites.{tests, verdictNumber, suiteFault, suiteOf, verdictsAfter}
 use Rattle.text_spec.specs.Lines.{ascii, decimalIn, decimal, numberLine, sheetLine}
 use Rattle.text_spec.specs.Input.{cutInput, firstEnd, firstSheet, secondSheet}
+use Rattle.text_spec.specs.Joined.{joined}
 use Rattle.pair_lines_spec.specs.Program.{deviceLines, sheetsLines, inputLines, pairText}
 use Rattle.suite_lines_spec.specs.Lines.{testLine, testLines, passedOf, lastWords, lastLine, suiteLines}
 use Rattle.suite_lines_spec.specs.Program.{verdictList, judgedLines, suiteText}
@@ -46,5 +47,5 @@ texts =
 
 -- one equation has them all
 pub texts-hold : map suiteText inputs ≡ texts
-unfolding inputs texts suiteText pairText cutInput inputLines firstSheet secondSheet firstEnd sheetsLines deviceLines judgedLines verdictList suiteLines testLines testLine passedOf lastWords lastLine numberLine sheetLine decimal decimalIn count tests verdictNumber suiteFault suiteOf verdictsAfter exampleReference exampleDevice stopped readSheet answer bytesFault headFault lengthField layoutFault nextAt startOf succOf setsOf rowAt rowOf sheetOf graphFault rangesOk countOk countsOk successorsOk rowSuccessorsOk successorOk setsOk rowSetsOk setOk ascends noneInside blank unusedOk blanksOk reachedOk sheetFault successor acceptance acceptances initials mayStop step bit has inside meets setOf nearer leads all any upTo strays hasStray covers hasRefusal violates violating failsFrom verdictFault verdictOf judged
+unfolding inputs texts suiteText pairText cutInput inputLines firstSheet secondSheet firstEnd sheetsLines deviceLines judgedLines verdictList suiteLines testLines testLine joined passedOf lastWords lastLine numberLine sheetLine decimal decimalIn count tests verdictNumber suiteFault suiteOf verdictsAfter exampleReference exampleDevice stopped readSheet answer bytesFault headFault lengthField layoutFault nextAt startOf succOf setsOf rowAt rowOf sheetOf graphFault rangesOk countOk countsOk successorsOk rowSuccessorsOk successorOk setsOk rowSetsOk setOk ascends noneInside blank unusedOk blanksOk reachedOk sheetFault successor acceptance acceptances initials mayStop step bit has inside meets setOf nearer leads all any upTo strays hasStray covers hasRefusal violates violating failsFrom verdictFault verdictOf judged
 texts-hold = refl

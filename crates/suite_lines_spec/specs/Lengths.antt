@@ -2,7 +2,7 @@
 use mathlib.Core.Path.{_≡_}
 use mathlib.Core.Bool.{Bool, true, false, cond}
 use mathlib.Core.List.{List, _++_}
-use Prim.Native.Nat.{ℕ, zero, suc, _+_, _-_, _*_, _≤_, _<_}
+use Prim.Native.Nat.{ℕ, _+_, _-_, _*_, _≤_, _<_}
 use native.Mathlib.Omega.{arith}
 use native.Mathlib.Decide.{ℕ-discrete}
 use lib.Dec.{eqb}
@@ -12,6 +12,7 @@ use Rattle.sheet_spec.specs.Rules.{sheetFault}
 use Rattle.text_spec.specs.Lines.{ascii, decimal, numberLine}
 use Rattle.text_spec.specs.DecimalLaws.{decimal-few}
 use Rattle.text_spec.specs.LengthLaws.{number-length}
+use Rattle.text_spec.specs.JoinedLaws.{joined-length}
 use Rattle.verdicts_spec.specs.Suites.{tests, verdictsAfter}
 use Rattle.verdicts_spec.specs.Complete.{tests-few}
 use Rattle.pair_lines_spec.specs.ProgramLaws.{pair-length}
@@ -34,9 +35,7 @@ test-length k v h = go (eqb v 1)
 -- the lines of n tests
 pub tests-length : (vs : List ℕ) (n : ℕ) → n ≤ 1024 → length (testLines vs n) ≤ 17 * n
 unfolding testLines
-tests-length vs zero h = omega arith
-tests-length vs (suc n) h =
-    omega (arith, length-append (testLines vs n) (testLine n (getD vs n 0)), tests-length vs n (omega arith), test-length n (getD vs n 0) (omega arith))
+tests-length vs n h = omega (arith, joined-length (λ k. testLine k (getD vs k 0)) 17 n (λ k l. test-length k (getD vs k 0) (omega arith)))
 
 -- the last line
 pub last-length : (n m f : ℕ) → n ≤ 1024 → m ≤ 1024 → f ≤ 1024 → length (lastLine n m f) ≤ 32

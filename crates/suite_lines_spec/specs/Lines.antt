@@ -1,12 +1,13 @@
 -- The lines that `suite` prints after the two sheets, as the codes of their characters. A list of verdicts has at place k the number of
 -- test k's: 1 for "passes", 2 for "fails".
 use mathlib.Core.Bool.{cond}
-use mathlib.Core.List.{List, [], _++_}
-use Prim.Native.Nat.{ℕ, zero, suc, _-_}
+use mathlib.Core.List.{List, _++_}
+use Prim.Native.Nat.{ℕ, _-_}
 use lib.Dec.{eqb}
 use lib.ListN.{getD}
 use Rattle.base.specs.Count.{count}
 use Rattle.text_spec.specs.Lines.{ascii, decimal, numberLine}
+use Rattle.text_spec.specs.Joined.{joined}
 use Rattle.verdicts_spec.specs.declared.Suite.{Suite}
 use Rattle.verdicts_spec.specs.declared.Suite.the-variants.{Judged, Denied}
 
@@ -16,8 +17,7 @@ testLine k verdict = ascii "test " ++ (decimal k ++ cond (eqb verdict 1) (ascii 
 
 -- the lines of the first n tests, in order
 unfoldable pub testLines : List ℕ → ℕ → List ℕ
-testLines verdicts zero = []
-testLines verdicts (suc n) = testLines verdicts n ++ testLine n (getD verdicts n 0)
+testLines verdicts n = joined (λ k. testLine k (getD verdicts k 0)) n
 
 -- how many of the first n tests pass
 unfoldable pub passedOf : List ℕ → ℕ → ℕ

@@ -1,6 +1,7 @@
 -- Texts of numbers, lines and sets.
 use mathlib.Core.Path.{_≡_, refl}
 use mathlib.Core.List.{[], _∷_, map}
+use Rattle.base.specs.Gather.{gather, select}
 use Rattle.events.specs.Bit.{bit}
 use Rattle.events.specs.Sets.{has}
 use Rattle.text_spec.specs.Lines.{ascii, decimalIn, decimal, numberLine, sheetLine, eventList}
@@ -15,7 +16,7 @@ numbers-hold = refl
 -- sets: the empty one, one event, several, and all of 16 bits
 pub sets-hold : map setWords (0 ∷ 1 ∷ 5 ∷ 2048 ∷ 65535 ∷ [])
     ≡ (ascii "0 ( )" ∷ ascii "1 ( 0 )" ∷ ascii "5 ( 0 2 )" ∷ ascii "2048 ( 11 )" ∷ ascii "65535 ( 0 1 2 3 4 5 6 7 8 9 10 11 12 13 14 15 )" ∷ [])
-unfolding setWords members eventsIn eventList decimal decimalIn has bit
+unfolding setWords members eventsIn select gather eventList decimal decimalIn has bit
 sets-hold = refl
 
 -- lines

@@ -5,6 +5,7 @@ use mathlib.Core.List.{List, _++_}
 use Prim.Native.Nat.{ℕ, zero, suc, _+_, _*_, _^_, _≤_, _<_}
 use native.Mathlib.Omega.{arith}
 use lib.ListN.{length, length-append}
+use Rattle.base.specs.Gather.{gather, select}
 use Rattle.events.specs.Sets.{has}
 use Rattle.text_spec.specs.Lines.{ascii, decimal, numberLine, sheetLine, eventList}
 use Rattle.text_spec.specs.Sets.{eventsIn, members, setWords}
@@ -32,7 +33,7 @@ sheet-length who n e h k =
 
 -- the events of a set, each of at most two digits
 pub events-length : (x n : ℕ) → n ≤ 100 → length (eventList (eventsIn x n)) ≤ 3 * n
-unfolding eventList eventsIn
+unfolding eventList eventsIn select gather
 events-length x zero h = omega arith
 events-length x (suc n) h = go (has x n) refl (events-length x n (omega arith))
   where

@@ -1,11 +1,13 @@
 pub mod Lines
 pub mod Sets
 pub mod Input
+pub mod Joined
 pub mod Adds
 pub mod DecimalLaws
 pub mod SetLaws
 pub mod InputLaws
 pub mod AddsLaws
+pub mod JoinedLaws
 pub mod HoldsLaws
 pub mod LengthLaws
 pub mod Cases

@@ -4,8 +4,8 @@ use Prim.Native.Nat.{_-_, _≤_}
 use native.Mathlib.Omega.{arith}
 use lib.ListN.{length}
 use Rattle.text_spec.specs.Adds.{Adds}
-use Rattle.node_lines_spec.specs.Joined.{joined}
-use Rattle.node_lines_spec.specs.JoinedLaws.{joined-none, joined-next, joined-end}
+use Rattle.text_spec.specs.Joined.{joined}
+use Rattle.text_spec.specs.JoinedLaws.{joined-none, joined-next, joined-end}
 use Rattle.node_lines_spec.specs.Show.{acceptanceLine}
 use Rattle.show_lines.proofs.put_acceptances.Statement.{statement}
 use Rattle.show_lines.proofs.put_acceptances.Tie as tie

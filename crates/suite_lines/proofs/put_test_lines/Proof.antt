@@ -4,9 +4,8 @@ use Prim.Native.Nat.{_-_, _≤_}
 use native.Mathlib.Omega.{arith}
 use lib.ListN.{length}
 use Rattle.text_spec.specs.Adds.{Adds}
-use Rattle.text_spec.specs.AddsLaws.{adds-none}
+use Rattle.text_spec.specs.JoinedLaws.{joined-none, joined-next, joined-end}
 use Rattle.suite_lines_spec.specs.Lines.{testLines}
-use Rattle.suite_lines.proofs.Steps.{lines-more}
 use Rattle.suite_lines.proofs.put_test_lines.Statement.{statement}
 use Rattle.suite_lines.proofs.put_test_lines.Tie as tie
 
@@ -18,7 +17,7 @@ abbrev μ-loop : tie.MeasureT-loop
 
 loop-holds : tie.Need-loop-holds Inv-loop μ-loop
 unfolding testLines
-loop-holds c = (omega arith, refl, adds-none (c .before .before .args .out .now) (c .before .before .args .at))
+loop-holds c = (omega arith, refl, joined-none _ (c .before .before .args .out .now) (c .before .before .args .at))
 
 cast-put-test-line : tie.Need-cast-put-test-line Inv-loop μ-loop
 cast-put-test-line c = omega arith
@@ -36,15 +35,17 @@ loop-less : tie.Need-loop-less Inv-loop μ-loop
 loop-less c = omega arith
 
 loop-again : tie.Need-loop-again Inv-loop μ-loop
+unfolding testLines
 loop-again c =
     let l = c .before .before .before .before .before .before .loop in
-    (omega arith, omega (arith, c .before .before .put-test-line .kept .0), lines-more (c .before .before .before .before .before .before .before .before .before .args .verdicts .now) (l .k) refl (l .inv .2) (c .before .before .put-test-line .ensures))
+    (omega arith, omega (arith, c .before .before .put-test-line .kept .0), joined-next _ (l .k) (l .inv .2) (c .before .before .put-test-line .ensures))
 
 same-length : tie.Need-same-length Inv-loop μ-loop
 same-length c = c .before .loop .inv .1
 
 returns : tie.Need-returns Inv-loop μ-loop
-returns c = let e : c .before .loop .k ≡ c .before .before .before .before .args .n = omega arith in rw e at (c .before .loop .inv .2)
+unfolding testLines
+returns c = joined-end _ _ (c .before .loop .k) (omega arith) (omega arith) (c .before .loop .inv .2)
 
 pub put-test-lines-spec : {M : Type 1} → statement M
 put-test-lines-spec =

@@ -3,6 +3,7 @@ use mathlib.Core.Path.{refl, _≡_}
 use Prim.Native.Nat.{_-_, _≤_}
 use native.Mathlib.Omega.{arith}
 use lib.ListN.{length}
+use Rattle.base.specs.Gather.{gather, select}
 use Rattle.text_spec.specs.Lines.{eventList}
 use Rattle.text_spec.specs.Sets.{eventsIn, members}
 use Rattle.text_spec.specs.Adds.{Adds}
@@ -18,7 +19,7 @@ abbrev μ-loop : tie.MeasureT-loop
 μ-loop out₀ at set next₀ i₀ out next i = 16 - i
 
 loop-holds : tie.Need-loop-holds Inv-loop μ-loop
-unfolding eventList eventsIn
+unfolding eventList eventsIn select gather
 loop-holds c = (omega arith, refl, adds-none (c .before .args .out .now) (c .before .args .at))
 
 put-member-requires : tie.Need-put-member-requires Inv-loop μ-loop

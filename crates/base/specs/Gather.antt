@@ -1,16 +1,25 @@
--- The list that `gather` makes: what stands in it, and where. A loop that counts the numbers up makes it from the front.
+-- The numbers below n that pass a test, in a list: what stands in it, and where. A loop that counts the numbers up makes it from the
+-- front.
 use mathlib.Core.Path.{_≡_, _∙_}
 use mathlib.Core.Logic.{_⊎_, inl, inr}
 use mathlib.Core.Bool.{Bool, true, false, cond}
-use mathlib.Core.List.{[], _∷_, _++_, append-nil}
+use mathlib.Core.List.{List, [], _∷_, _++_, append-nil}
 use Prim.Native.Nat.{ℕ, zero, suc, _+_, _≤_, _<_}
 use native.Mathlib.Nat.{le-refl, le-trans, eq-or-lt-of-le}
 use native.Mathlib.Decide.{le-ind}
 use native.Mathlib.Omega.{arith}
 use lib.ListN.{length, getD, length-append, List·getD-append}
 use lib.Seq.{getD-append-seam}
 use Rattle.base.specs.Truth.{dec, lt-or-ge}
-use Rattle.probes_spec.specs.Probes.{gather}
+
+-- what f gives for each number below n that passes the test, in the order of the numbers
+unfoldable pub gather : (ℕ → Bool) → (ℕ → ℕ) → ℕ → List ℕ
+gather p f zero = []
+gather p f (suc n) = gather p f n ++ cond (p n) (f n ∷ []) []
+
+-- the numbers below n that pass the test, ascending
+unfoldable pub select : (ℕ → Bool) → ℕ → List ℕ
+select p n = gather p (λ x. x) n
 
 module _ (p : ℕ → Bool) (f : ℕ → ℕ) where
   -- one number more
@@ -80,3 +89,15 @@ module _ (p : ℕ → Bool) (f : ℕ → ℕ) where
       go (inl e) ih (inr h) =
           let s : length (gather p f n) ≡ x = omega (arith, length-yes n e) in
           (n, omega arith, e, s, rw (← s, gather-has n (suc n) (omega arith) e))
+
+-- what is selected ascends
+pub select-ascends : (p : ℕ → Bool) (n x y : ℕ) → x < y → y < length (select p n) → getD (select p n) x 0 < getD (select p n) y 0
+unfolding select
+select-ascends p n x y l h =
+    let v = gather-from p (λ z. z) n x (omega arith) in
+    let w = gather-from p (λ z. z) n y h in
+    rw (v .4, w .4) (go (v .0) (w .0) (v .3) (w .3) (lt-or-ge (v .0) (w .0)))
+  where
+    go : (a b : ℕ) → length (gather p (λ z. z) a) ≡ x → length (gather p (λ z. z) b) ≡ y → (a < b) ⊎ (b ≤ a) → a < b
+    go a b i j (inl k) = k
+    go a b i j (inr k) = absurd (omega (arith, gather-mono p (λ z. z) b a k))

@@ -6,9 +6,9 @@ use native.Mathlib.Numerals.{add-one}
 use native.Mathlib.Nat.{suc-mul}
 use native.Mathlib.Omega.{arith}
 use lib.ListN.{length, length-append}
 use Rattle.text_spec.specs.Adds.{Adds}
 use Rattle.text_spec.specs.AddsLaws.{adds-none, adds-then}
-use Rattle.node_lines_spec.specs.Joined.{joined}
+use Rattle.text_spec.specs.Joined.{joined}
 
 -- none
 pub joined-none : (f : ℕ → List ℕ) (out : List ℕ) (at : ℕ) → Adds (joined f 0) out at out at
