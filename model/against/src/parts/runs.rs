@@ -204,13 +204,7 @@ fn code_of(rng: &mut Rng, report: Report) -> u16 {
 }
 
 /// Counts how a run ended, and after how many reports.
-fn count_ending(
-    findings: &mut Findings,
-    trace_only: bool,
-    kind: u64,
-    report: Report,
-    count: u64,
-) {
+fn count_ending(findings: &mut Findings, trace_only: bool, kind: u64, report: Report, count: u64) {
     let by_block = kind == 4 && report == Report::Blocked;
     let group = if trace_only { TRACES } else { RUNS };
     findings.count(group, kind + u64::from(by_block));
