@@ -1,6 +1,6 @@
 #!/bin/sh
-# The probe lists are used by their promise alone: no crate but probes_spec, turns, probes and cases unfolds a definition of
-# probes_spec, and none of its definitions is an `abbrev`, which would unfold everywhere without a line that shows it. Statements in
+# The probe lists are used by their promise alone: no crate but probes_spec, turns, probes, cases and worked_cases unfolds a
+# definition of probes_spec, and none of its definitions is an `abbrev`, which would unfold everywhere without a line that shows it. Statements in
 # words are excepted; they are named here.
 set -eu
 cd "$(dirname "$0")/.."
@@ -23,7 +23,7 @@ names=$(sed -n 's/^ *unfoldable pub \([^ ]*\) :.*/\1/p' crates/probes_spec/specs
     exit 1
 }
 for crate in crates/*/; do
-    case "$crate" in crates/probes_spec/ | crates/turns/ | crates/probes/ | crates/cases/) continue ;; esac
+    case "$crate" in crates/probes_spec/ | crates/turns/ | crates/probes/ | crates/cases/ | crates/worked_cases/) continue ;; esac
     # a definition of another crate may have the same name; only what is brought in from probes_spec counts
     for file in $(find "$crate" -name '*.antt' -exec grep -l 'use Rattle\.probes_spec\.specs\.' {} +); do
         brought=$(sed -n 's/^use Rattle\.probes_spec\.specs\.[^{]*{\(.*\)}$/\1/p' "$file" | tr ',' '\n' | tr -d ' ')

@@ -1,4 +1,1 @@
 pub mod Table
-pub mod Runs
-pub mod Text
-pub mod Nodes

@@ -1,5 +1,5 @@
 -- What a device cannot report, on the device of 01's example; the record of a refused opening; the bytes of a flag. (The worked
--- cases of runs compute through the probe lists, so they stand in the crate `cases`; those of verdicts are in `verdicts_spec`.)
+-- cases of runs compute through the probe lists, so they stand in `worked_cases`; those of verdicts are in `verdicts_spec`.)
 use mathlib.Core.Path.{_≡_, refl}
 use mathlib.Core.Bool.{true, false}
 use Prim.Native.Nat.{ℕ, zero, suc, _+_, _≤_, _<_}
