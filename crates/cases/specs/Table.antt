@@ -1,6 +1,6 @@
 -- The P cases of 01 as one table: each row is a call or a whole run, its answer is a list of numbers, and one equation has them
--- all. Sheets come as bytes, through the definition of reading. The rows compute through the definitions that the contracts cite,
--- the probe lists among them.
+-- all. Rows for a request of 02 name it. Sheets come as bytes, through the definition of reading. The rows compute through the
+-- definitions that the contracts cite, the probe lists among them.
 use mathlib.Core.Path.{_≡_, refl}
 use mathlib.Core.Bool.{Bool, true, false}
 use mathlib.Core.List.{List, [], _∷_, _++_, map}
@@ -11,7 +11,7 @@ use Rattle.base.specs.Count.{count}
 use Rattle.base.specs.Table.{upTo}
 use Rattle.base.specs.Gather.{gather, select}
 use Rattle.events.specs.Bit.{bit, setOf}
-use Rattle.events.specs.Sets.{has, inside, meets}
+use Rattle.events.specs.Sets.{has, inside, meets, insert}
 use Rattle.walks.specs.Graph.{walk}
 use Rattle.walks.specs.Reach.{nearer, leads}
 use Rattle.walks.specs.Near.{meetsIn, distance, later, choice, leastFrom, leastTrace}
@@ -44,6 +44,8 @@ pub data Case : Type 0 where
   reading : List ℕ → Case
   -- the probes of acceptances among three events
   listing : List ℕ → Case
+  -- a set with each of the twelve events added, one answer an event (02, K5)
+  adding : ℕ → Case
   -- the verdict of a reference on a device for test k, trace-only or not
   verdict : List ℕ → List ℕ → ℕ → Bool → Case
   -- a run of test k with choice number h, trace-only or not, through these reports
@@ -84,6 +86,7 @@ trace = replicate 8 9
 unfoldable pub numbersOf : Case → List ℕ
 numbersOf (reading b) = readNumbers (readSheet b)
 numbersOf (listing l) = probes l 3
+numbersOf (adding x) = upTo (insert x) 12
 numbersOf (verdict P Q k to) = numbers (judged (verdictOf (sheet P) (sheet Q) k to))
 numbersOf (running P k h to reports) = answersOf (sheet P) (openOf (sheet P) k h to) reports
 numbersOf (comparing P Q to) = comparedNumbers (compared (outcomeOf to (sheet P) (sheet Q) work trace)) ++ (traceAfter to (sheet P) (sheet Q) work trace ++ workAfter (sheet P) (sheet Q) work trace)
@@ -101,6 +104,9 @@ table =
     ∷ listing (1 ∷ [])
     ∷ listing (1 ∷ 6 ∷ [])
     ∷ listing (6 ∷ [])
+    ∷ adding 0
+    ∷ adding 65535
+    ∷ adding 1365
     ∷ verdict exampleReference exampleDevice 0 false
     ∷ verdict exampleReference exampleDevice 1 false
     ∷ verdict exampleReference exampleDevice 2 false
@@ -160,6 +166,9 @@ answers =
     ∷ (1 ∷ [])
     ∷ (3 ∷ 5 ∷ [])
     ∷ (2 ∷ 4 ∷ [])
+    ∷ (1 ∷ 2 ∷ 4 ∷ 8 ∷ 16 ∷ 32 ∷ 64 ∷ 128 ∷ 256 ∷ 512 ∷ 1024 ∷ 2048 ∷ [])
+    ∷ (65535 ∷ 65535 ∷ 65535 ∷ 65535 ∷ 65535 ∷ 65535 ∷ 65535 ∷ 65535 ∷ 65535 ∷ 65535 ∷ 65535 ∷ 65535 ∷ [])
+    ∷ (1365 ∷ 1367 ∷ 1365 ∷ 1373 ∷ 1365 ∷ 1397 ∷ 1365 ∷ 1493 ∷ 1365 ∷ 1877 ∷ 1365 ∷ 3413 ∷ [])
     ∷ (0 ∷ 1 ∷ 0 ∷ [])
     ∷ (0 ∷ 1 ∷ 0 ∷ [])
     ∷ (0 ∷ 1 ∷ 0 ∷ [])
@@ -202,7 +211,7 @@ answers =
     ∷ lists (0 ∷ 1 ∷ 0 ∷ 1 ∷ 0 ∷ 0 ∷ 0 ∷ []) (9 ∷ 9 ∷ 9 ∷ 9 ∷ 9 ∷ 9 ∷ 9 ∷ 9 ∷ []) 3
     ∷ []
 
--- every row answers what 01 says
+-- every row answers what 01 and 02 say
 pub cases-hold : map numbersOf table ≡ answers
-unfolding numbersOf table answers lists caseSheets workAfter readNumbers numbers recordNumbers answersOf comparedNumbers work trace sheet exampleReference exampleDevice onlyZero onlyOne mayLoop mustLoop stopped readSheet answer bytesFault headFault lengthField layoutFault nextAt startOf succOf setsOf rowAt rowOf sheetOf graphFault rangesOk countOk countsOk successorsOk rowSuccessorsOk successorOk setsOk rowSetsOk setOk ascends noneInside blank unusedOk blanksOk reachedOk sheetFault successor acceptance acceptances initials mayStop step bit has inside meets setOf walk nearer leads meetsIn distance later choice leastFrom leastTrace cleared code pairNext product onCodes pairDistance pairTrace pairCleared all any first count upTo hits isProbe gather select probes missing orNext firstMissing firstMissed strays hasStray firstStray covers hasRefusal violates violating allEvents outside probesAt chosen flag flagOf offerOf newRun openFault openOf recordOk eventFault reportFault movedBy endedRun answerOf stepOf failsFrom verdictFault verdictOf said judged pairs nearest nearestTrace clearedOf lastRow refusalNamed named comparisonOf compareFault outcomeOf traceAfter compared
+unfolding numbersOf table answers lists caseSheets workAfter readNumbers numbers recordNumbers answersOf comparedNumbers work trace sheet exampleReference exampleDevice onlyZero onlyOne mayLoop mustLoop stopped readSheet answer bytesFault headFault lengthField layoutFault nextAt startOf succOf setsOf rowAt rowOf sheetOf graphFault rangesOk countOk countsOk successorsOk rowSuccessorsOk successorOk setsOk rowSetsOk setOk ascends noneInside blank unusedOk blanksOk reachedOk sheetFault successor acceptance acceptances initials mayStop step bit has inside meets insert setOf walk nearer leads meetsIn distance later choice leastFrom leastTrace cleared code pairNext product onCodes pairDistance pairTrace pairCleared all any first count upTo hits isProbe gather select probes missing orNext firstMissing firstMissed strays hasStray firstStray covers hasRefusal violates violating allEvents outside probesAt chosen flag flagOf offerOf newRun openFault openOf recordOk eventFault reportFault movedBy endedRun answerOf stepOf failsFrom verdictFault verdictOf said judged pairs nearest nearestTrace clearedOf lastRow refusalNamed named comparisonOf compareFault outcomeOf traceAfter compared
 cases-hold = refl

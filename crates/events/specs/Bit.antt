@@ -166,22 +166,37 @@ bit-or (suc i) X Y = bit·suc (bitOr X Y) i ∙ ap (λ (x : ℕ). bit x i) half 
     half : bitOr X Y / 2 ≡ bitOr (X / 2) (Y / 2)
     half = omega (arith, or-step X Y)
 
--- one more event, above the others
-pub bit-top : (n X : ℕ) → X < 2 ^ n → bit (X + 2 ^ n) n ≡ 1
-bit-top zero X h = bit·zero (X + 1) ∙ omega arith
-bit-top (suc n) X h = bit·suc (X + 2 ^ suc n) n ∙ ap (λ (x : ℕ). bit x n) half ∙ bit-top n (X / 2) (omega arith)
+-- X and event i, which is not in X: the event is there ..
+pub bit-put : (i X : ℕ) → bit X i ≡ 0 → bit (X + 2 ^ i) i ≡ 1
+bit-put zero X h = bit·zero (X + 1) ∙ omega (arith, bit·zero X)
+bit-put (suc i) X h = bit·suc (X + 2 ^ suc i) i ∙ ap (λ (x : ℕ). bit x i) half ∙ bit-put i (X / 2) (sym (bit·suc X i) ∙ h)
   where
-    half : (X + 2 ^ suc n) / 2 ≡ X / 2 + 2 ^ n
+    half : (X + 2 ^ suc i) / 2 ≡ X / 2 + 2 ^ i
     half = omega arith
 
-pub bit-below : (n i X : ℕ) → X < 2 ^ n → i ≢ n → bit (X + 2 ^ n) i ≡ bit X i
-bit-below zero zero X h e = absurd (e refl)
-bit-below zero (suc i) X h e = let z : X ≡ 0 = omega arith in rw z (bit·suc 1 i ∙ sym (bit·suc 0 i))
-bit-below (suc n) zero X h e = bit·zero (X + 2 ^ suc n) ∙ omega (arith, bit·zero X)
-bit-below (suc n) (suc i) X h e = bit·suc (X + 2 ^ suc n) i ∙ ap (λ (x : ℕ). bit x i) half ∙ bit-below n i (X / 2) (omega arith) (λ q. e (ap suc q)) ∙ sym (bit·suc X i)
+-- .. and every other is as it was
+pub bit-put-other : (i j X : ℕ) → bit X i ≡ 0 → i ≢ j → bit (X + 2 ^ i) j ≡ bit X j
+bit-put-other zero zero X h n = absurd (n refl)
+bit-put-other zero (suc j) X h n = bit·suc (X + 1) j ∙ ap (λ (x : ℕ). bit x j) half ∙ sym (bit·suc X j)
   where
-    half : (X + 2 ^ suc n) / 2 ≡ X / 2 + 2 ^ n
+    half : (X + 1) / 2 ≡ X / 2
+    half = omega (arith, bit·zero X)
+bit-put-other (suc i) zero X h n = bit·zero (X + 2 ^ suc i) ∙ low ∙ sym (bit·zero X)
+  where
+    low : (X + 2 ^ suc i) % 2 ≡ X % 2
+    low = omega arith
+bit-put-other (suc i) (suc j) X h n =
+    bit·suc (X + 2 ^ suc i) j ∙ ap (λ (x : ℕ). bit x j) half ∙ bit-put-other i j (X / 2) (sym (bit·suc X i) ∙ h) (λ e. n (ap suc e)) ∙ sym (bit·suc X j)
+  where
+    half : (X + 2 ^ suc i) / 2 ≡ X / 2 + 2 ^ i
     half = omega arith
+
+-- one more event, above the others
+pub bit-top : (n X : ℕ) → X < 2 ^ n → bit (X + 2 ^ n) n ≡ 1
+bit-top n X h = bit-put n X (bit-high n n X h (omega arith))
+
+pub bit-below : (n i X : ℕ) → X < 2 ^ n → i ≢ n → bit (X + 2 ^ n) i ≡ bit X i
+bit-below n i X h e = bit-put-other n i X (bit-high n n X h (omega arith)) (λ q. e (sym q))
 
 -- the set of the events below n that pass a test
 unfoldable pub setOf : (ℕ → Bool) → ℕ → ℕ

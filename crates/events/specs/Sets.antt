@@ -2,7 +2,7 @@
 use mathlib.Core.Path.{_≡_, refl, sym, _∙_}
 use mathlib.Core.Logic.{_≢_, _⊎_, inl, inr}
 use mathlib.Core.Bool.{Bool, true, false, not, _&&_, cond}
-use Prim.Native.Nat.{ℕ, zero, suc, _+_, _^_, _≤_, _<_}
+use Prim.Native.Nat.{ℕ, zero, suc, _+_, _-_, _*_, _^_, _≤_, _<_}
 use native.Mathlib.Omega.{arith}
 use native.Mathlib.Decide.{ℕ-discrete}
 use lib.Dec.{eqb, ltb}
@@ -10,7 +10,7 @@ use lib.Bits.{bitAnd, bitOr}
 use borrow.Author.Tests.{eqb-true, eqb-false, eq-eqb, ne-eqb, lt-ltb, le-ltb, not-true}
 use Rattle.base.specs.Truth.{dec, clash, lt-or-ge, and-l, and-r, and-i, not-t, t-not}
 use Rattle.base.specs.Range.{any, any→, not-any}
-use Rattle.events.specs.Bit.{bit, bit≤1, bit-or, bit-one, bit-other, bits-ext, bit-high, bit-top, bit-below, Within, Apart, within-and, and-within, apart-and, and-apart, common, meet}
+use Rattle.events.specs.Bit.{bit, bit≤1, bit-or, bit-one, bit-other, bits-ext, bit-high, bit-put, bit-put-other, narrow, Within, Apart, within-and, and-within, apart-and, and-apart, common, meet}
 
 -- event i is in X
 unfoldable pub has : ℕ → ℕ → Bool
@@ -134,9 +134,34 @@ insert-only X i Y l p h = bits-ext Y (insert X i) (λ j. go j (ℕ-discrete i j)
     go j (yes e) = rw (← e) (p ∙ sym (insert-same X i l))
     go j (no n) = h j n ∙ sym (insert-other X i j n)
 
+-- an event that is there already changes nothing ..
+pub insert-there : (X i : ℕ) → i < 16 → bit X i ≡ 1 → insert X i ≡ X
+insert-there X i l p = sym (insert-only X i X l p (λ j n. refl))
+
+-- .. and one that is not there is added by a sum
+pub insert-new : (X i : ℕ) → i < 16 → bit X i ≡ 0 → insert X i ≡ X + 2 ^ i
+insert-new X i l p = sym (insert-only X i (X + 2 ^ i) l (bit-put i X p) (λ j n. bit-put-other i j X p n))
+
+-- so that one sum adds an event, there already or not: its number is added where its digit is 0, and nothing where it is 1
+pub insert-sum : (X i : ℕ) → i < 16 → X + (1 - bit X i) * 2 ^ i ≡ insert X i
+insert-sum X i l = go (ℕ-discrete (bit X i) 1)
+  where
+    go : Dec (bit X i ≡ 1) → X + (1 - bit X i) * 2 ^ i ≡ insert X i
+    go (yes e) = rw e (omega (arith, insert-there X i l e))
+    go (no n) = let z : bit X i ≡ 0 = omega (arith, n, bit≤1 X i) in rw z (omega (arith, insert-new X i l z))
+
+-- a set of 16 bits stays one
+pub insert-small : (X i : ℕ) → X < 65536 → i < 16 → insert X i < 65536
+insert-small X i h l = narrow 16 (insert X i) (λ j b. go j b (ℕ-discrete i j) (lt-or-ge j 16))
+  where
+    go : (j : ℕ) → bit (insert X i) j ≡ 1 → Dec (i ≡ j) → (j < 16) ⊎ (16 ≤ j) → j < 16
+    go j b d (inl k) = k
+    go j b (yes e) (inr k) = omega arith
+    go j b (no n) (inr k) = absurd (omega (arith, b, insert-other X i j n, bit-high 16 j X h k))
+
 -- an event above all others is added by a sum
 pub insert-top : (X i : ℕ) → i < 16 → X < 2 ^ i → insert X i ≡ X + 2 ^ i
-insert-top X i l h = sym (insert-only X i (X + 2 ^ i) l (bit-top i X h) (λ j n. bit-below i j X h (λ e. n (sym e))))
+insert-top X i l h = insert-new X i l (bit-high i i X h (omega arith))
 
 pub insert-far : (X i : ℕ) → 16 ≤ i → insert X i ≡ X
 unfolding insert

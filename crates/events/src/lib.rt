@@ -1,6 +1,7 @@
 // Sets of events as 16-bit numbers, in which event i adds 2 to the power i: membership, inclusion, meeting, adding one event.
-// Every function takes every argument; an event from 16 on is in no set.
+// Every function takes every argument, but that the event added is below 16; an event from 16 on is in no set.
 ghost use mathlib.Core.Path.{_≡_};
+ghost use Prim.Native.Nat.{_<_};
 ghost use Rattle.events.specs.Sets.{has, inside, meets, insert};
 
 // Whether the event is in the set.
@@ -28,13 +29,11 @@ pub fn is_meeting(x: u16, y: u16) -> bool
     x & y != 0
 }
 
-// The set with the event added.
+// The set with the event added, there already or not: its bit is added where it is 0, on one path.
 pub fn with_event(set: u16, event: usize) -> u16
+    requires { ⌜ event < 16 ⌝ }
     ensures { λ r. ⌜ r ≡ insert set event ⌝ }
 {
-    if event < 16 {
-        set | (1u16 << event)
-    } else {
-        set
-    }
+    let absent = 1 - (set >> event) % 2;
+    set + (absent << event)
 }

@@ -35,6 +35,7 @@ pub fn initials_of(row: Row, e: usize) -> u16
 
 // The set with event i, if i is below `e` and its successor `x` is one.
 fn with_initial(set: u16, x: u8, e: usize, i: usize) -> u16
+    requires { ⌜ i < 12 ⌝ }
     ensures { λ r. ⌜ ((row : Row) → x ≡ successor row i → r ≡ initialAdded e row set i) ⌝ }
 {
     if i < e {

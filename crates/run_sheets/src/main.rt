@@ -1,5 +1,5 @@
-// The Run cases of a sheet (01, "A sheet", refusals 1 to 8, "Cases"). Each line of standard input is a case: its name, a colon,
-// and numbers, of which the first says what is done:
+// The Run cases of a sheet (01, "A sheet", refusals 1 to 8, "Cases") and of its sets (02, K5). Each line of standard input is a case:
+// its name, a colon, and numbers, of which the first says what is done:
 //   1, bytes                       the bytes are read
 //   2, i x j y                     the sample below is read with x at place i and y at place j
 //   3, E N C cut len               the sheet of a plan, which is described below, is read
@@ -8,10 +8,12 @@
 //   6, i x j y                     the places that hold 0 in the answer of 2 are counted
 //   7, bytes; 8, E N C cut len     the places that hold 255 and 0 in the answer of 1 or of 3 are counted
 //   9                              the sheet of a refused answer is checked
+//   10, set event                  the event, below 16, is added to the set
 // Numbers that are not there count as 0, which is what the sample has at place 0: so `2 i x` changes one place only.
 // A change is four numbers: 1 for a successor, 2 for a set, 3 for a C, 4 for E, 5 for N; a node, a place and the new value.
 // Each case writes its name and its answer. Reading writes `refused` and the number, or `accepted` and E and N. A check writes
-// its number. A count writes how many successors hold the value, how many sets and how many Cs hold 0, and E and N.
+// its number. A count writes how many successors hold the value, how many sets and how many Cs hold 0, and E and N. Adding writes
+// the set.
 ghost use Prim.Native.Nat.{_≤_};
 use libc::STDIN_FILENO;
 use libc::STDOUT_FILENO;
@@ -392,6 +394,16 @@ fn tell_places(a: ReadSheet, x: u8) {
     say_number(base::wide(s.n));
 }
 
+// Writes the set of a line with its event added; without a place for the event in 16 bits it writes nothing.
+fn tell_added(line: Line) {
+    let set = run_lines::number(line, 1);
+    let event = place(line, 2);
+    if event < 16 {
+        let added = events::with_event(set, event);
+        say_number(added as usize);
+    }
+}
+
 // Answers a line.
 fn run(line: Line) {
     match run_lines::number(line, 0) {
@@ -403,6 +415,7 @@ fn run(line: Line) {
         6 => tell_places(sample_of(line), 0),
         7 => tell_places(spelt(line), 255),
         8 => tell_places(planned(plan_of(line)), 255),
+        10 => tell_added(line),
         _ => tell_kept(sheet::read(b""), run_lines::new_line()),
     }
     say(b"\n");

@@ -23,7 +23,7 @@ element-copy-out-with-initial : tie.Need-element-copy-out-with-initial Inv-loop 
 element-copy-out-with-initial c = omega arith
 
 with-initial-requires : tie.Need-with-initial-requires Inv-loop μ-loop
-with-initial-requires c κs = tt
+with-initial-requires c κs = omega arith
 
 add-i : tie.Need-add-i Inv-loop μ-loop
 add-i c = omega arith

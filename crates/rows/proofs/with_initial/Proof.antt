@@ -6,7 +6,7 @@ use Rattle.rows.proofs.with_initial.Statement.{statement}
 use Rattle.rows.proofs.with_initial.Tie as tie
 
 with-event-requires : tie.Need-with-event-requires
-with-event-requires c κs = tt
+with-event-requires c κs = omega arith
 
 returns : tie.Need-returns
 unfolding initialAdded
