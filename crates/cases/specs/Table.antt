@@ -1,5 +1,5 @@
 -- The P cases of 01 as one table: each row is a call or a whole run, its answer is a list of numbers, and one equation has them
--- all. Rows for a request of 02 name it. Sheets come as bytes, through the definition of reading. The rows compute through the
+-- all. The rows `adding` are for 02, K5. Sheets come as bytes, through the definition of reading. The rows compute through the
 -- definitions that the contracts cite, the probe lists among them.
 use mathlib.Core.Path.{_≡_, refl}
 use mathlib.Core.Bool.{Bool, true, false}
@@ -44,7 +44,7 @@ pub data Case : Type 0 where
   reading : List ℕ → Case
   -- the probes of acceptances among three events
   listing : List ℕ → Case
-  -- a set with each of the twelve events added, one answer an event (02, K5)
+  -- a set with each of the twelve events added, a number for each event (02, K5)
   adding : ℕ → Case
   -- the verdict of a reference on a device for test k, trace-only or not
   verdict : List ℕ → List ℕ → ℕ → Bool → Case

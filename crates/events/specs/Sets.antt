@@ -142,7 +142,7 @@ insert-there X i l p = sym (insert-only X i X l p (λ j n. refl))
 pub insert-new : (X i : ℕ) → i < 16 → bit X i ≡ 0 → insert X i ≡ X + 2 ^ i
 insert-new X i l p = sym (insert-only X i (X + 2 ^ i) l (bit-put i X p) (λ j n. bit-put-other i j X p n))
 
--- so that one sum adds an event, there already or not: its number is added where its digit is 0, and nothing where it is 1
+-- so that one sum adds an event, there already or not: its bit, 2 ^ i, is added where its digit is 0, and nothing where it is 1
 pub insert-sum : (X i : ℕ) → i < 16 → X + (1 - bit X i) * 2 ^ i ≡ insert X i
 insert-sum X i l = go (ℕ-discrete (bit X i) 1)
   where

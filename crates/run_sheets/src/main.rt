@@ -1,5 +1,5 @@
-// The Run cases of a sheet (01, "A sheet", refusals 1 to 8, "Cases") and of its sets (02, K5). Each line of standard input is a case:
-// its name, a colon, and numbers, of which the first says what is done:
+// The Run cases of a sheet (01, "A sheet", refusals 1 to 8, "Cases"), and of adding an event to a set (02, K5). Each line of
+// standard input is a case: its name, a colon, and numbers, of which the first says what is done:
 //   1, bytes                       the bytes are read
 //   2, i x j y                     the sample below is read with x at place i and y at place j
 //   3, E N C cut len               the sheet of a plan, which is described below, is read
@@ -394,7 +394,7 @@ fn tell_places(a: ReadSheet, x: u8) {
     say_number(base::wide(s.n));
 }
 
-// Writes the set of a line with its event added; without a place for the event in 16 bits it writes nothing.
+// Writes the set of a line with its event added; an event from 16 on has no place in a set, and nothing is written.
 fn tell_added(line: Line) {
     let set = run_lines::number(line, 1);
     let event = place(line, 2);
