@@ -1,5 +1,5 @@
 // Sets of events as 16-bit numbers, in which event i adds 2 to the power i: membership, inclusion, meeting, adding one event.
-// Every function takes every argument, except that `with_event` takes events below 16 only; an event from 16 on is in no set.
+// Each takes every argument, except that `with_event` takes events below 16 only; no event from 16 on is in a set.
 ghost use mathlib.Core.Path.{_≡_};
 ghost use Prim.Native.Nat.{_<_};
 ghost use Rattle.events.specs.Sets.{has, inside, meets, insert};

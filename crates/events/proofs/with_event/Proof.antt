@@ -9,7 +9,7 @@ use borrow.Author.Needs.{needs}
 use Rattle.events.proofs.with_event.Statement.{statement}
 use Rattle.events.proofs.with_event.Tie as tie
 
--- the code's sum: the event's digit, turned and shifted back to its place, loses nothing in 16 bits
+-- the code's sum: 1 minus the event's digit, shifted back to its place, loses nothing in 16 bits
 made : (X i : ℕ) → X < 65536 → i < 16 → X + (1 - X / 2 ^ i % 2) * 2 ^ i % 65536 ≡ insert X i
 unfolding bit
 made X i h l =
