@@ -3,8 +3,15 @@
 use std::collections::{BTreeMap, BTreeSet};
 
 use crate::probes::probes;
-use crate::sheet::{after, Sheet};
+use crate::sheet::{after, Sheet, MAX_NODES};
 use crate::verdict::admit_pair;
+
+/// The words of the work list for each pair of nodes: the work list holds 2·p·q words, and
+/// 12 applies below that.
+pub const WORDS_A_PAIR: usize = 2;
+
+/// The length of a work list that is long enough for any two sheets: 2,048 words.
+pub const MAX_WORDS: usize = WORDS_A_PAIR * MAX_NODES * MAX_NODES;
 
 /// What is named at the end of the trace.
 #[derive(Clone, Copy, PartialEq, Eq, Debug)]
@@ -38,7 +45,7 @@ pub fn compare(
 ) -> Result<Outcome, u8> {
     admit_pair(reference, device)?;
     let pairs = reference.n as usize * device.n as usize;
-    if work_length < 3 * pairs {
+    if work_length < WORDS_A_PAIR * pairs {
         return Err(12);
     }
     if trace_length < pairs - 1 {
@@ -47,8 +54,8 @@ pub fn compare(
     Ok(search(reference, device, trace_only))
 }
 
-/// The comparison on two lent lists. The first 3·p·q words of the work list are 0
-/// afterwards, the trace is at the front of its list, and all other places are left.
+/// The comparison on two lent lists. All 2·p·q words of the work list are 0 at the end,
+/// later ones being left; the trace is at the front of its list, and the rest is left too.
 pub fn compare_into(
     reference: &Sheet,
     device: &Sheet,
@@ -57,7 +64,8 @@ pub fn compare_into(
     list: &mut [u8],
 ) -> Result<Outcome, u8> {
     let outcome = compare(reference, device, trace_only, work.len(), list.len())?;
-    work[..3 * reference.n as usize * device.n as usize].fill(0);
+    let pairs = reference.n as usize * device.n as usize;
+    work[..WORDS_A_PAIR * pairs].fill(0);
     if let Outcome::Violates { trace, .. } = &outcome {
         list[..trace.len()].copy_from_slice(trace);
     }

@@ -1,6 +1,6 @@
 //! The whole output of the program `compare`.
 
-use crate::comparison::{compare, Named, Outcome};
+use crate::comparison::{compare, Named, Outcome, MAX_WORDS};
 use crate::sheet::{read, Sheet};
 
 /// The most bytes that the program reads.
@@ -9,7 +9,7 @@ pub const MAX_INPUT: usize = 4_096;
 /// The output for an input of bytes, each line with its newline.
 pub fn output(input: &[u8]) -> String {
     output_by(input, |reference, device| {
-        compare(reference, device, false, 3 * 1_024, 1_023)
+        compare(reference, device, false, MAX_WORDS, 1_023)
     })
 }
 

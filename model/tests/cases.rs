@@ -172,32 +172,59 @@ fn list_length_cases() {
     assert_eq!(two, [9; 2]);
     assert_eq!(probes(&sheet, 0), [3, 5, 6]);
     let (reference, device) = program_pair();
-    assert!(compare(&reference, &device, false, 18, 5).is_ok());
-    assert_eq!(compare(&reference, &device, false, 17, 5), Err(12));
-    assert_eq!(compare(&reference, &device, false, 17, 4), Err(12));
-    assert_eq!(compare(&reference, &device, true, 18, 4), Err(13));
+    assert_eq!(compare(&reference, &device, false, 11, 5), Err(12));
+    assert_eq!(compare(&reference, &device, false, 11, 4), Err(12));
+    assert_eq!(compare(&reference, &device, true, 11, 5), Err(12));
+    assert_eq!(compare(&reference, &device, true, 12, 4), Err(13));
     let (stray, other) = stray_pair();
-    assert!(compare(&stray, &other, false, 3, 0).is_ok());
+    assert_eq!(compare(&stray, &other, false, 1, 0), Err(12));
+    assert!(compare(&stray, &other, false, 2, 0).is_ok());
+    let (reference, device) = theorem_5_lenient(32, 32);
+    assert_eq!(compare(&reference, &device, false, 2_047, 1_023), Err(12));
+    let outcome = compare(&reference, &device, false, 2_048, 1_023);
+    assert!(matches!(outcome, Ok(Outcome::Violates { d: 1_023, .. })));
+}
+
+/// 02, K7: 2·p·q words are enough, and every answer is the one that a larger list gave.
+#[test]
+fn a_larger_work_list_changes_no_answer() {
+    let (reference, device) = program_pair();
+    for trace_only in [false, true] {
+        let larger = compare(&reference, &device, trace_only, 18, 5);
+        assert!(larger.is_ok());
+        for words in [12, 13, 17, 20, 2_048] {
+            let outcome = compare(&reference, &device, trace_only, words, 5);
+            assert_eq!(outcome, larger, "{words}");
+        }
+    }
 }
 
 #[test]
 fn final_content_of_lists() {
     let (reference, device) = program_pair();
-    let (mut work, mut trace) = ([7u16; 20], [7u8; 7]);
-    assert!(compare_into(&reference, &device, false, &mut work, &mut trace).is_ok());
-    assert_eq!(work[..18], [0; 18]);
-    assert_eq!(work[18..], [7; 2]);
-    assert_eq!(trace, [0, 0, 0, 0, 0, 7, 7]);
-    let (mut work, mut trace) = ([7u16; 18], [7u8; 4]);
+    for words in [12, 13, 17, 18, 20] {
+        let (mut work, mut trace) = (vec![7u16; words], [7u8; 7]);
+        assert!(compare_into(&reference, &device, false, &mut work, &mut trace).is_ok());
+        assert_eq!(work[..12], [0; 12]);
+        assert!(work[12..].iter().all(|&word| word == 7), "{words}");
+        assert_eq!(trace, [0, 0, 0, 0, 0, 7, 7]);
+    }
+    let (mut work, mut trace) = ([7u16; 11], [7u8; 5]);
+    assert_eq!(
+        compare_into(&reference, &device, false, &mut work, &mut trace),
+        Err(12)
+    );
+    assert_eq!((work, trace), ([7; 11], [7; 5]));
+    let (mut work, mut trace) = ([7u16; 12], [7u8; 4]);
     assert_eq!(
         compare_into(&reference, &device, false, &mut work, &mut trace),
         Err(13)
     );
-    assert_eq!((work, trace), ([7; 18], [7; 4]));
-    let (mut work, mut trace) = ([7u16; 18], [7u8; 5]);
+    assert_eq!((work, trace), ([7; 12], [7; 4]));
+    let (mut work, mut trace) = ([7u16; 12], [7u8; 5]);
     let outcome = compare_into(&reference, &device, true, &mut work, &mut trace);
     assert_eq!(outcome, Ok(Outcome::Refines { cleared: 6 }));
-    assert_eq!((work, trace), ([0; 18], [7; 5]));
+    assert_eq!((work, trace), ([0; 12], [7; 5]));
 }
 
 #[test]

@@ -1,6 +1,6 @@
-//! The random sheets, bytes and kept sheets do what they are for.
+//! The random sheets, bytes, kept sheets and lengths of lists do what they are for.
 
-use model::comparison::{compare, Outcome};
+use model::comparison::{compare, Outcome, MAX_WORDS};
 use model::faults::{check_with, read_with, Fault};
 use model::random::*;
 use model::sheet::{check, encode, read, Sheet, MAX_BYTES};
@@ -121,7 +121,7 @@ fn drawn_devices_refine_without_a_plant() {
         let raw = random_raw(&mut rng, e, n);
         let device = device_of(&mut rng, &raw, false).keep();
         assert_eq!(check(&device), 0);
-        let outcome = compare(&raw.keep(), &device, false, 3_072, 1_023);
+        let outcome = compare(&raw.keep(), &device, false, MAX_WORDS, 1_023);
         assert!(
             matches!(outcome, Ok(Outcome::Refines { .. })),
             "{outcome:?}"
@@ -129,6 +129,20 @@ fn drawn_devices_refine_without_a_plant() {
         let (reference, device) = pair(&mut rng);
         assert_eq!((check(&reference), check(&device)), (0, 0));
         assert_eq!(reference.e, device.e);
+    }
+}
+
+#[test]
+fn work_lists_have_every_length_around_their_limits() {
+    let mut rng = Rng::new(41);
+    for pairs in [1, 2, 6, 20, 1_024] {
+        let lengths: Vec<usize> = (0..400).map(|_| work_length(&mut rng, pairs)).collect();
+        for limit in [2 * pairs, 3 * pairs] {
+            for needed in [limit - 1, limit, limit + 1] {
+                assert!(lengths.contains(&needed), "{needed} for {pairs}");
+            }
+        }
+        assert!(lengths.contains(&0));
     }
 }
 

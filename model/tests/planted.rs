@@ -1,7 +1,9 @@
 //! The variants in which faults are planted answer as the plain model does where no fault
-//! is planted, and each fault shows on some input.
+//! is planted, and each fault of a comparison shows on some input. The random comparison
+//! with the library looks for the faults of every call.
 
-use model::comparison::{compare_into, Outcome};
+use model::comparison::{compare_into, Outcome, MAX_WORDS};
+use model::examples::program_pair;
 use model::numbers::{listed, Record};
 use model::planted::comparisons::{compare_with, CompareFault};
 use model::planted::probes::{fill_with, ProbeFault};
@@ -10,7 +12,7 @@ use model::planted::text::{output_with, TextFault};
 use model::planted::verdicts::{verdict_with, VerdictFault};
 use model::probes::fill;
 use model::random::*;
-use model::sheet::check;
+use model::sheet::{check, Sheet};
 use model::tests::{open, step};
 use model::text::output;
 use model::verdict::verdict;
@@ -54,33 +56,48 @@ fn no_fault_in_runs() {
     }
 }
 
+/// A pair; in some rounds a sheet of it is refused, or both are, or it has other events.
+fn two_sheets(rng: &mut Rng, round: usize) -> (Sheet, Sheet) {
+    let (reference, device) = match round % 4 {
+        0 => deep_pair(rng),
+        1 => small_pair(rng),
+        _ => pair(rng),
+    };
+    match round % 16 {
+        3 => (kept_twice(rng), kept_twice(rng)),
+        6 => (kept_twice(rng), device),
+        9 => (reference, kept_twice(rng)),
+        12 => (reference, random_sheet(rng)),
+        _ => (reference, device),
+    }
+}
+
+/// A work list and a trace list with any content, of lengths around their limits.
+fn lists_around(rng: &mut Rng, reference: &Sheet, device: &Sheet) -> (Vec<u16>, Vec<u8>) {
+    let pairs = (reference.n as usize * device.n as usize).max(1);
+    let words = work_length(rng, pairs);
+    let places = match rng.one_in(2) {
+        true => length_around(rng, pairs - 1),
+        false => pairs - 1,
+    };
+    let work = (0..words).map(|_| rng.word()).collect();
+    let list = (0..places).map(|_| rng.byte()).collect();
+    (work, list)
+}
+
 #[test]
 fn no_fault_in_verdicts_and_comparisons() {
     let mut rng = Rng::new(83);
     for round in 0..600 {
-        let (mut reference, mut device) = match round % 4 {
-            0 => deep_pair(&mut rng),
-            1 => pair(&mut rng),
-            _ => small_pair(&mut rng),
-        };
-        match round % 16 {
-            5 => reference = kept_twice(&mut rng),
-            9 => device = kept_twice(&mut rng),
-            13 => device = random_sheet(&mut rng),
-            _ => {}
-        }
+        let (reference, device) = two_sheets(&mut rng, round);
         let traces = rng.one_in(2);
         let k = rng.pick(&[0, 1, 2, 3, 10, 40, 1_024]);
         assert_eq!(
             verdict(&reference, &device, k, traces),
             verdict_with(VerdictFault::None, &reference, &device, k, traces)
         );
-        let words = rng.pick(&[0, 100, 3_072, 4_000]);
-        let places = rng.pick(&[0, 20, 1_023, 2_000]);
-        let work: Vec<u16> = (0..words).map(|_| rng.word()).collect();
-        let list: Vec<u8> = (0..places).map(|_| rng.byte()).collect();
+        let (mut work, mut list) = lists_around(&mut rng, &reference, &device);
         let (mut work_other, mut list_other) = (work.clone(), list.clone());
-        let (mut work, mut list) = (work, list);
         let plain = compare_into(&reference, &device, traces, &mut work, &mut list);
         let other = compare_with(
             CompareFault::None,
@@ -92,6 +109,46 @@ fn no_fault_in_verdicts_and_comparisons() {
         );
         assert_eq!(plain, other);
         assert_eq!((work, list), (work_other, list_other));
+    }
+}
+
+#[test]
+fn every_fault_of_a_comparison_shows() {
+    let mut rng = Rng::new(86);
+    let mut hidden = CompareFault::ALL.to_vec();
+    for round in 0..6_000 {
+        let (reference, device) = two_sheets(&mut rng, round);
+        let traces = rng.one_in(3);
+        let lent = lists_around(&mut rng, &reference, &device);
+        let played = |fault| {
+            let (mut work, mut list) = lent.clone();
+            let answer = compare_with(fault, &reference, &device, traces, &mut work, &mut list);
+            (answer, work, list)
+        };
+        let plain = played(CompareFault::None);
+        hidden.retain(|&fault| played(fault) == plain);
+    }
+    assert_eq!(hidden, []);
+}
+
+/// Three words a pair show between 2·p·q and 3·p·q: 12 and 18 words for this pair.
+#[test]
+fn three_words_a_pair_show() {
+    let (reference, device) = program_pair();
+    let played = |fault, words: usize| {
+        let (mut work, mut list) = (vec![7; words], vec![7; 5]);
+        let answer = compare_with(fault, &reference, &device, false, &mut work, &mut list);
+        let left = work.iter().filter(|&&word| word != 0).count();
+        (answer.err(), left)
+    };
+    for words in [12, 13, 17, 18, 20] {
+        let left = words - 12;
+        assert_eq!(played(CompareFault::None, words), (None, left));
+        let cleared = played(CompareFault::WorkThreeCleared, words);
+        assert_eq!(cleared, (None, words.saturating_sub(18)));
+        let asked = played(CompareFault::WorkThreeAsked, words);
+        let refused = (Some(12), words);
+        assert_eq!(asked, if words < 18 { refused } else { (None, left) });
     }
 }
 
@@ -112,7 +169,7 @@ fn deep_pairs_are_accepted_and_go_far() {
         let (reference, device) = deep_pair(&mut rng);
         assert_eq!((check(&reference), check(&device)), (0, 0));
         assert_eq!(reference.e, device.e);
-        let (mut work, mut list) = (vec![0; 3_072], vec![0; 1_023]);
+        let (mut work, mut list) = (vec![0; MAX_WORDS], vec![0; 1_023]);
         match compare_into(&reference, &device, false, &mut work, &mut list) {
             Ok(Outcome::Violates { d, .. }) => far += usize::from(d >= 100),
             Ok(Outcome::Refines { .. }) => refines += 1,

@@ -30,7 +30,7 @@ Accepted s = (sheetFault s ≡ 0) ⊎ ((b : List ℕ) × (readSheet b ≡ accept
 
 -- the lists lent to a comparison are long enough: neither 12 nor 13 applies
 abbrev pub LongEnough : Sheet → Sheet → List ℕ → List ℕ → Type 0
-LongEnough P Q work trace = (3 * (P .n * Q .n) ≤ length work) × (P .n * Q .n - 1 ≤ length trace)
+LongEnough P Q work trace = (2 * (P .n * Q .n) ≤ length work) × (P .n * Q .n - 1 ≤ length trace)
 
 -- what is named after the trace t witnesses the violation: a stray, or a set X that an acceptance A of the device's node has no
 -- event of and the reference's node may not refuse

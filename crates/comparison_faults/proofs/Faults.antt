@@ -9,6 +9,7 @@ use Rattle.base.specs.Refusal.{orElse-some}
 use Rattle.sheet_spec.specs.declared.Sheet.{Sheet}
 use Rattle.sheet_spec.specs.Rules.{sheetFault}
 use Rattle.sheet_spec.specs.Sound.{check-sound, nodes-most}
+use Rattle.comparison_spec.specs.Comparison.{pairs}
 use Rattle.comparison_faults.specs.FaultOn.{faultOn}
 
 -- two sheets that are not refused: how many pairs of nodes there are
@@ -36,14 +37,14 @@ module _ (P Q : Sheet) (words places : ℕ) {j : ℕ} (ej : j ≡ sheetFault P) 
       eleven n = rw (← ej, z, ← ek, y, ne-eqb (P .e) (Q .e) n)
 
       module _ (s : P .e ≡ Q .e) {a b : ℕ} (ea : a ≡ P .n) (eb : b ≡ Q .n) where
-        pub twelve : words < 3 * (a * b) → 12 ≡ faultOn P Q words places
-        unfolding faultOn
-        twelve l = rw (← ej, z, ← ek, y, eq-eqb (P .e) (Q .e) s, ← ea, ← eb, lt-leb (3 * (a * b)) words l)
+        pub twelve : words < 2 * (a * b) → 12 ≡ faultOn P Q words places
+        unfolding faultOn pairs
+        twelve l = rw (← ej, z, ← ek, y, eq-eqb (P .e) (Q .e) s, ← ea, ← eb, lt-leb (2 * (a * b)) words l)
 
-        pub thirteen : 3 * (a * b) ≤ words → places < a * b - 1 → 13 ≡ faultOn P Q words places
-        unfolding faultOn
-        thirteen w l = rw (← ej, z, ← ek, y, eq-eqb (P .e) (Q .e) s, ← ea, ← eb, le-leb (3 * (a * b)) words w, lt-leb (a * b - 1) places l)
+        pub thirteen : 2 * (a * b) ≤ words → places < a * b - 1 → 13 ≡ faultOn P Q words places
+        unfolding faultOn pairs
+        thirteen w l = rw (← ej, z, ← ek, y, eq-eqb (P .e) (Q .e) s, ← ea, ← eb, le-leb (2 * (a * b)) words w, lt-leb (a * b - 1) places l)
 
-        pub none : 3 * (a * b) ≤ words → a * b - 1 ≤ places → 0 ≡ faultOn P Q words places
-        unfolding faultOn
-        none w l = rw (← ej, z, ← ek, y, eq-eqb (P .e) (Q .e) s, ← ea, ← eb, le-leb (3 * (a * b)) words w, le-leb (a * b - 1) places l)
+        pub none : 2 * (a * b) ≤ words → a * b - 1 ≤ places → 0 ≡ faultOn P Q words places
+        unfolding faultOn pairs
+        none w l = rw (← ej, z, ← ek, y, eq-eqb (P .e) (Q .e) s, ← ea, ← eb, le-leb (2 * (a * b)) words w, le-leb (a * b - 1) places l)

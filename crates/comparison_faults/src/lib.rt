@@ -20,7 +20,7 @@ pub fn fault_on(reference: Sheet, device: Sheet, words: usize, places: usize) ->
         return 11;
     }
     let n = base::wide(reference.n) * base::wide(device.n);
-    if words < 3 * n {
+    if words < 2 * n {
         return 12;
     }
     if places < n - 1 {

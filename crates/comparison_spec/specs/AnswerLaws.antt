@@ -18,7 +18,7 @@ use Rattle.comparison_spec.specs.OutcomeLaws.{traceOf, comparison-descri
 use Rattle.comparison_spec.specs.CallLaws.{compare-fits, given-outcome, given-trace}
 
 -- a sheet that is not refused, compared with itself with lists that are long enough, refines
-pub outcome-self : (to : Bool) (s : Sheet) → sheetFault s ≡ 0 → (work trace : List ℕ) → 3 * pairs s s ≤ length work → pairs s s - 1 ≤ length trace
+pub outcome-self : (to : Bool) (s : Sheet) → sheetFault s ≡ 0 → (work trace : List ℕ) → 2 * pairs s s ≤ length work → pairs s s - 1 ≤ length trace
     → outcomeOf to s s work trace ≡ Refines (clearedOf to s s)
 outcome-self to s h work trace l k = given-outcome s s work trace to (compare-fits s s work trace h h refl l k) ∙ comparison-self (check-sound s h) to
 
@@ -28,6 +28,10 @@ module _ (to : Bool) (P Q : Sheet) (accP : sheetFault P ≡ 0) (accQ : sheetFaul
 
   oq : Sound Q
   oq = check-sound Q accQ
+
+  -- the front of the trace list at exit is the trace
+  front : nearest to P Q < pairs P Q → take (nearest to P Q) (traceAfter to P Q work trace) ≡ nearestTrace to P Q
+  front l = rw (given-trace P Q work trace to z l) (atFront-taken trace (nearestTrace to P Q) (trace-length op oq same to))
 
   -- the answer, with the trace, is what 01 describes
   pub outcome-describes : Describes to P Q (outcomeOf to P Q work trace) (traceOf to P Q)
@@ -41,5 +45,15 @@ module _ (to : Bool) (P Q : Sheet) (accP : sheetFault P ≡ 0) (accQ : sheetFaul
   unfolding traceOf
   trace-unique o t d l =
       describes-only op oq same to o t d .1
-      ∙ rw (lt-ltb (nearest to P Q) (pairs P Q) l, given-trace P Q work trace to z l)
-      (sym (atFront-taken trace (nearestTrace to P Q) (trace-length op oq same to)))
+      ∙ rw (lt-ltb (nearest to P Q) (pairs P Q) l) (sym (front l))
+
+-- "every answer, trace and cleared count is the one that the larger list gave" (02, K7): two calls that are not refused answer alike,
+-- however long their lists are and whatever they hold
+module _ (to : Bool) (P Q : Sheet) (accP : sheetFault P ≡ 0) (accQ : sheetFault Q ≡ 0) (same : P .e ≡ Q .e) (work trace larger other : List ℕ)
+    (z : compareFault P Q work trace ≡ 0) (z′ : compareFault P Q larger other ≡ 0) where
+  pub same-answer : outcomeOf to P Q work trace ≡ outcomeOf to P Q larger other
+  same-answer = given-outcome P Q work trace to z ∙ sym (given-outcome P Q larger other to z′)
+
+  -- and the fronts of their trace lists are one trace
+  pub same-trace : nearest to P Q < pairs P Q → take (nearest to P Q) (traceAfter to P Q work trace) ≡ take (nearest to P Q) (traceAfter to P Q larger other)
+  same-trace l = front to P Q accP accQ same work trace z l ∙ sym (front to P Q accP accQ same larger other z′ l)

@@ -17,7 +17,7 @@ use Rattle.sheet_spec.specs.CheckLaws.{further, finally}
 use Rattle.sheet_spec.specs.PairFaults.{BothAccepted, pair-reference, pair-device, pair-sheet, pair-11, pair-rest}
 use Rattle.comparison_spec.specs.declared.Outcome.the-variants.{Denied}
 use Rattle.comparison_spec.specs.Numbers.{compared}
-use Rattle.comparison_spec.specs.Comparison.{pairs, nearest, nearestTrace, comparisonOf, compareFault, outcomeOf, traceAfter, workAfter}
+use Rattle.comparison_spec.specs.Comparison.{pairs, workWords, nearest, nearestTrace, comparisonOf, compareFault, outcomeOf, traceAfter, workAfter}
 
 module _ (P Q : Sheet) (work trace : List ℕ) where
   -- what is tested after 12
@@ -26,7 +26,7 @@ module _ (P Q : Sheet) (work trace : List ℕ) where
 
   -- what is tested after 11
   abbrev after11 : ℕ
-  after11 = unless (leb (3 * pairs P Q) (length work)) 12 after12
+  after11 = unless (leb (workWords P Q) (length work)) 12 after12
 
   -- the reference's own refusal comes first, then the device's
   pub compare-reference : sheetFault P ≢ 0 → compareFault P Q work trace ≡ sheetFault P
@@ -42,28 +42,28 @@ module _ (P Q : Sheet) (work trace : List ℕ) where
   unfolding compareFault
   compare-sheet m z l =
       pair-sheet P Q after11 m z l
-      (unless-other (leb (3 * pairs P Q) (length work)) (λ p. omega arith) (unless-other (leb (pairs P Q - 1) (length trace)) (λ p. omega arith) (λ p. omega arith)))
+      (unless-other (leb (workWords P Q) (length work)) (λ p. omega arith) (unless-other (leb (pairs P Q - 1) (length trace)) (λ p. omega arith) (λ p. omega arith)))
 
   -- 11: of sheets that are not refused, E differs
   pub compare-11 : (compareFault P Q work trace ≡ 11) ↔ (BothAccepted P Q × (P .e ≢ Q .e))
   unfolding compareFault
   compare-11 =
       pair-11 P Q after11
-      (unless-other (leb (3 * pairs P Q) (length work)) (λ p. omega arith) (unless-other (leb (pairs P Q - 1) (length trace)) (λ p. omega arith) (λ p. omega arith)))
+      (unless-other (leb (workWords P Q) (length work)) (λ p. omega arith) (unless-other (leb (pairs P Q - 1) (length trace)) (λ p. omega arith) (λ p. omega arith)))
 
   -- 12: .. E does not differ, and the work list is too short
-  pub compare-12 : (compareFault P Q work trace ≡ 12) ↔ ((BothAccepted P Q × (¬ (P .e ≢ Q .e))) × (length work < 3 * pairs P Q))
+  pub compare-12 : (compareFault P Q work trace ≡ 12) ↔ ((BothAccepted P Q × (¬ (P .e ≢ Q .e))) × (length work < 2 * pairs P Q))
   unfolding compareFault
   compare-12 =
       finally (pair-rest P Q after11 12 (inl (omega arith)) (λ p. omega arith))
-      (λ f. unless-hit 12 after12 (finds-le (3 * pairs P Q) (length work)) (unless-other (leb (pairs P Q - 1) (length trace)) (λ p. omega arith) (λ p. omega arith)))
+      (λ f. unless-hit 12 after12 (finds-le (workWords P Q) (length work)) (unless-other (leb (pairs P Q - 1) (length trace)) (λ p. omega arith) (λ p. omega arith)))
 
   -- a work list that is long enough, once the sheets may be paired
-  past-12 : (m : ℕ) → (12 < m) ⊎ (m ≡ 0) → (compareFault P Q work trace ≡ m) ↔ (((BothAccepted P Q × (¬ (P .e ≢ Q .e))) × (¬ (length work < 3 * pairs P Q))) × (after12 ≡ m))
+  past-12 : (m : ℕ) → (12 < m) ⊎ (m ≡ 0) → (compareFault P Q work trace ≡ m) ↔ (((BothAccepted P Q × (¬ (P .e ≢ Q .e))) × (¬ (length work < workWords P Q))) × (after12 ≡ m))
   unfolding compareFault
   past-12 m h =
       further (pair-rest P Q after11 m (wide h) (not-it 11 (omega arith) (omega arith) h))
-      (λ f. unless-pass 12 after12 m (finds-le (3 * pairs P Q) (length work)) (not-it 12 (omega arith) (omega arith) h))
+      (λ f. unless-pass 12 after12 m (finds-le (workWords P Q) (length work)) (not-it 12 (omega arith) (omega arith) h))
     where
       wide : (12 < m) ⊎ (m ≡ 0) → (8 < m) ⊎ (m ≡ 0)
       wide (inl p) = inl (omega arith)
@@ -74,15 +74,15 @@ module _ (P Q : Sheet) (work trace : List ℕ) where
       not-it k z l (inr p) e = omega arith
 
   -- 13: .. and the trace list is too short
-  pub compare-13 : (compareFault P Q work trace ≡ 13) ↔ (((BothAccepted P Q × (¬ (P .e ≢ Q .e))) × (¬ (length work < 3 * pairs P Q))) × (length trace < pairs P Q - 1))
+  pub compare-13 : (compareFault P Q work trace ≡ 13) ↔ (((BothAccepted P Q × (¬ (P .e ≢ Q .e))) × (¬ (length work < 2 * pairs P Q))) × (length trace < pairs P Q - 1))
   compare-13 = finally (past-12 13 (inl (omega arith))) (λ f. unless-hit 13 0 (finds-le (pairs P Q - 1) (length trace)) (λ p. omega arith))
 
   -- none: .. and it is long enough
-  pub compare-0 : (compareFault P Q work trace ≡ 0) ↔ (((BothAccepted P Q × (¬ (P .e ≢ Q .e))) × (¬ (length work < 3 * pairs P Q))) × (¬ (length trace < pairs P Q - 1)))
+  pub compare-0 : (compareFault P Q work trace ≡ 0) ↔ (((BothAccepted P Q × (¬ (P .e ≢ Q .e))) × (¬ (length work < 2 * pairs P Q))) × (¬ (length trace < pairs P Q - 1)))
   compare-0 = finally (past-12 0 (inr refl)) (λ f. unless-none 13 (finds-le (pairs P Q - 1) (length trace)) (λ p. omega arith))
 
   -- two sheets that are not refused, with equal event counts and lists that are long enough
-  pub compare-fits : sheetFault P ≡ 0 → sheetFault Q ≡ 0 → P .e ≡ Q .e → 3 * pairs P Q ≤ length work → pairs P Q - 1 ≤ length trace → compareFault P Q work trace ≡ 0
+  pub compare-fits : sheetFault P ≡ 0 → sheetFault Q ≡ 0 → P .e ≡ Q .e → 2 * pairs P Q ≤ length work → pairs P Q - 1 ≤ length trace → compareFault P Q work trace ≡ 0
   compare-fits p q e w t = compare-0 .1 ((((p, q), λ n. n e), λ l. omega arith), λ l. omega arith)
 
   module _ (to : Bool) where
@@ -116,7 +116,7 @@ module _ (P Q : Sheet) (work trace : List ℕ) where
         off true = refl
         off false = refl
 
-    pub given-work : compareFault P Q work trace ≡ 0 → workAfter P Q work trace ≡ atFront work (replicate (3 * pairs P Q) 0)
+    pub given-work : compareFault P Q work trace ≡ 0 → workAfter P Q work trace ≡ atFront work (replicate (2 * pairs P Q) 0)
     unfolding workAfter
     given-work z = rw (eq-eqb (compareFault P Q work trace) 0 z)
 
@@ -125,10 +125,10 @@ module _ (P Q : Sheet) (work trace : List ℕ) where
     unfolding compared
     denied-numbers m = refl
 
-    -- place by place: 3 p q words of the work list are 0, and later words are left
-    pub work-zero : compareFault P Q work trace ≡ 0 → (x : ℕ) → x < 3 * pairs P Q → getD (workAfter P Q work trace) x 1 ≡ 0
-    work-zero z x l = rw (given-work z) (atFront-before work (replicate (3 * pairs P Q) 0) x 1 (omega (arith, length-replicate {A = ℕ} (3 * pairs P Q) 0))
-        ∙ getD-replicate {A = ℕ} (3 * pairs P Q) x 0 1 l)
+    -- place by place: 2 p q words of the work list are 0, and later words are left
+    pub work-zero : compareFault P Q work trace ≡ 0 → (x : ℕ) → x < 2 * pairs P Q → getD (workAfter P Q work trace) x 1 ≡ 0
+    work-zero z x l = rw (given-work z) (atFront-before work (replicate (workWords P Q) 0) x 1 (omega (arith, length-replicate {A = ℕ} (workWords P Q) 0))
+        ∙ getD-replicate {A = ℕ} (workWords P Q) x 0 1 l)
 
-    pub work-left : compareFault P Q work trace ≡ 0 → (x : ℕ) → getD (workAfter P Q work trace) (3 * pairs P Q + x) 0 ≡ getD work (3 * pairs P Q + x) 0
-    work-left z x = rw (given-work z) (atFront-behind work (replicate (3 * pairs P Q) 0) (3 * pairs P Q + x) 0 (omega (arith, length-replicate {A = ℕ} (3 * pairs P Q) 0)))
+    pub work-left : compareFault P Q work trace ≡ 0 → (x : ℕ) → getD (workAfter P Q work trace) (2 * pairs P Q + x) 0 ≡ getD work (2 * pairs P Q + x) 0
+    work-left z x = rw (given-work z) (atFront-behind work (replicate (workWords P Q) 0) (workWords P Q + x) 0 (omega (arith, length-replicate {A = ℕ} (workWords P Q) 0)))

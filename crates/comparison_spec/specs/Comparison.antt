@@ -25,6 +25,10 @@ use Rattle.comparison_spec.specs.declared.Outcome.the-variants.{Refines,
 unfoldable pub pairs : Sheet → Sheet → ℕ
 pairs P Q = P .n * Q .n
 
+-- how many words the work list is to hold: two for each pair (02, K7)
+abbrev pub workWords : Sheet → Sheet → ℕ
+workWords P Q = 2 * pairs P Q
+
 -- d: the length of the shortest common trace to a violating pair; p times q where there is none
 unfoldable pub nearest : Bool → Sheet → Sheet → ℕ
 nearest traceOnly P Q = pairDistance (graph P) (graph Q) (violating traceOnly P Q)
@@ -59,12 +63,12 @@ comparisonOf traceOnly P Q =
     (named (nearest traceOnly P Q) (clearedOf traceOnly P Q) (P .e) (lastRow traceOnly P Q P) (lastRow traceOnly P Q Q))
     (Refines (clearedOf traceOnly P Q))
 
--- the refusal of a comparison: the reference's own, the device's own; 11: E differs; 12: a work list below 3 p q words; 13: a
+-- the refusal of a comparison: the reference's own, the device's own; 11: E differs; 12: a work list below 2 p q words; 13: a
 -- trace list below p q - 1 bytes
 unfoldable pub compareFault : Sheet → Sheet → List ℕ → List ℕ → ℕ
 compareFault P Q work trace =
     pairFault P Q
-    (unless (leb (3 * pairs P Q) (length work)) 12
+    (unless (leb (workWords P Q) (length work)) 12
     (unless (leb (pairs P Q - 1) (length trace)) 13 0))
 
 -- the answer
@@ -79,7 +83,7 @@ traceAfter traceOnly P Q work trace =
     (atFront trace (nearestTrace traceOnly P Q))
     trace
 
--- the work list at exit: 3 p q words are 0 and later words left; untouched where the call is refused
+-- the work list at exit: 2 p q words are 0 and later words left; untouched where the call is refused
 unfoldable pub workAfter : Sheet → Sheet → List ℕ → List ℕ → List ℕ
 workAfter P Q work trace =
-    cond (eqb (compareFault P Q work trace) 0) (atFront work (replicate (3 * pairs P Q) 0)) work
+    cond (eqb (compareFault P Q work trace) 0) (atFront work (replicate (workWords P Q) 0)) work

@@ -10,7 +10,7 @@ use Rattle.comparison_spec.specs.Comparison.{outcomeOf, traceAfter}
 use Rattle.lines_spec.specs.Lines.{outcomeLines}
 use Rattle.lines_spec.specs.Program.{workList, traceList, comparedLines}
 
-pub compared-is : (P Q : Sheet) {o : Outcome} {trace : List ℕ} → o ≡ outcomeOf false P Q (replicate 3072 0) (replicate 1023 0)
-    → trace ≡ traceAfter false P Q (replicate 3072 0) (replicate 1023 0) → outcomeLines o trace ≡ comparedLines P Q
+pub compared-is : (P Q : Sheet) {o : Outcome} {trace : List ℕ} → o ≡ outcomeOf false P Q (replicate 2048 0) (replicate 1023 0)
+    → trace ≡ traceAfter false P Q (replicate 2048 0) (replicate 1023 0) → outcomeLines o trace ≡ comparedLines P Q
 unfolding comparedLines workList traceList
 compared-is P Q e t = rw (e, t)

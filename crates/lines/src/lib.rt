@@ -54,7 +54,7 @@ fn put_outcome(out: &mut [u8], at: usize, o: Outcome, trace: &[u8]) -> usize
 fn put_compared(out: &mut [u8], at: usize, p: Sheet, q: Sheet) -> usize
     ensures { λ r. ⌜ Adds (comparedLines p q) (now (out .entry)) at (now (out .exit)) r ⌝ }
 {
-    let mut work = [0u16; 3072];
+    let mut work = [0u16; 2048];
     let mut trace = [0u8; 1023];
     let o = comparison::compare(p, q, false, &mut work, &mut trace);
     put_outcome(out, at, o, &trace)

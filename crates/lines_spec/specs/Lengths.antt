@@ -33,7 +33,7 @@ use Rattle.probes_spec.specs.FirstMissedLaws.{missed-found}
 use Rattle.events.specs.Sets.{has}
 use Rattle.refinement_spec.specs.PairTests.{strays, hasStray, firstStray, violating}
 use Rattle.comparison_spec.specs.declared.Outcome.the-variants.{Refines, Stray, Denied}
-use Rattle.comparison_spec.specs.Comparison.{pairs, nearest, nearestTrace, clearedOf, lastRow, refusalNamed, named, comparisonOf, compareFault, outcomeOf, traceAfter}
+use Rattle.comparison_spec.specs.Comparison.{pairs, workWords, nearest, nearestTrace, clearedOf, lastRow, refusalNamed, named, comparisonOf, compareFault, outcomeOf, traceAfter}
 use Rattle.text_spec.specs.Lines.{ascii, decimal, numberLine, eventList}
 use Rattle.text_spec.specs.DecimalLaws.{decimal-few}
 use Rattle.text_spec.specs.LengthLaws.{number-length}
@@ -110,7 +110,7 @@ module _ (P Q : Sheet) (hP : sheetFault P ≡ 0) (hQ : sheetFault Q ≡ 0) where
   compare-le work trace =
       rw (hP, hQ)
       (unless-le (eqb (P .e) (Q .e)) 11 _ 13 (omega arith)
-      (unless-le (leb (3 * pairs P Q) (length work)) 12 _ 13 (omega arith) (unless-le (leb (pairs P Q - 1) (length trace)) 13 0 13 (omega arith) (omega arith))))
+      (unless-le (leb (workWords P Q) (length work)) 12 _ 13 (omega arith) (unless-le (leb (pairs P Q - 1) (length trace)) 13 0 13 (omega arith) (omega arith))))
 
   -- the trace line, whatever stands behind the trace
   events-length : length (eventList (nearestTrace false P Q)) ≤ 3 * nearest false P Q

@@ -9,9 +9,9 @@ use Rattle.pair_lines_spec.specs.Program.{pairText}
 use Rattle.lines_spec.specs.declared.Text.{Text}
 use Rattle.lines_spec.specs.Lines.{outcomeLines}
 
--- the work list that the program lends to the comparison: 3,072 words; both lists are enough for every two sheets
+-- the work list that the program lends to the comparison: 2,048 words; both lists are enough for every two sheets
 unfoldable pub workList : List ℕ
-workList = replicate 3072 0
+workList = replicate 2048 0
 
 -- and its trace list: 1,023 bytes
 unfoldable pub traceList : List ℕ

@@ -65,7 +65,7 @@ unfolding trace traceFound pairDistance pairTrace onCodes product pairNext code 
     any first tableGraph tableNext badIn left right row last near none
 traces = refl
 
--- three words of one pair are 0, the rest untouched
-words : workFound 1 (7 ∷ 7 ∷ 7 ∷ 7 ∷ []) ≡ 0 ∷ 0 ∷ 0 ∷ 7 ∷ []
+-- two words of one pair are 0, the rest untouched
+words : workFound 1 (7 ∷ 7 ∷ 7 ∷ 7 ∷ []) ≡ 0 ∷ 0 ∷ 7 ∷ 7 ∷ []
 unfolding workFound
 words = refl

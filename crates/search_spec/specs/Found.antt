@@ -6,11 +6,10 @@ use mathlib.Core.List.{List}
 use Prim.Native.Nat.{ℕ, _*_, _/_, _%_, _≤_, _<_}
 use native.Mathlib.Omega.{arith}
 use native.Mathlib.Nat.{div-add-mod', div-lt-iff-lt-mul, mod-lt}
-use lib.Dec.{leb, ltb}
+use lib.Dec.{ltb}
 use lib.ListN.{replicate}
 use borrow.Author.Tests.{lt-ltb, le-ltb}
 use Rattle.base.specs.Truth.{lt-or-ge}
-use Rattle.base.specs.Range.{first}
 use Rattle.base.specs.Front.{atFront}
 use Rattle.walks.specs.Graph.{Graph, WellFormed, walk}
 use Rattle.walks.specs.Product.{code, product, product-at}
@@ -18,8 +17,8 @@ use Rattle.walks.specs.Pairs.{pairDistance, pairTrace, pairCleared, onCodes}
 use Rattle.search_spec.specs.declared.Found.{Found}
 use Rattle.search_spec.specs.declared.Found.the-variants.{Clear, Bad}
 use Rattle.search_spec.specs.Tables.{tableGraph, tablePairs, badIn, badCode, table-wellFormed, pairs-wellFormed}
-use Rattle.search_spec.specs.Queue.{readBack, path-walk, cleared-all, distance-none, distance-is, trace-is, cleared-before}
-use Rattle.search_spec.specs.Words.{St, nodeAt, linkAt, distAt, Running, tail-le}
+use Rattle.search_spec.specs.Queue.{readBack, levelStart, path-walk, cleared-all, distance-none, distance-is, trace-is, cleared-before}
+use Rattle.search_spec.specs.Words.{wordsFor, St, nodeAt, linkAt, Running, tail-le}
 
 module _ (r d : Graph) (bad : ℕ → ℕ → Bool) where
   -- The answer of a search: the nearest bad pair with its distance, the pair to which its least trace leads, and how many pairs are
@@ -33,9 +32,9 @@ module _ (r d : Graph) (bad : ℕ → ℕ → Bool) where
   unfoldable pub traceFound : List ℕ → List ℕ
   traceFound trace = cond (ltb (pairDistance r d bad) (r .size * d .size)) (atFront trace (pairTrace r d bad)) trace
 
--- The work list at exit: the first 3 n words are 0 and the rest untouched.
+-- The work list at exit: the words of the search are 0 and the rest untouched.
 unfoldable pub workFound : ℕ → List ℕ → List ℕ
-workFound n work = atFront work (replicate (3 * n) 0)
+workFound n work = atFront work (replicate (wordsFor n) 0)
 
 -- What a search over two tables answers and leaves in its lists.
 pub record Searched (a b : List ℕ) (p q e : ℕ) (bad : List Bool) (work trace work′ trace′ : List ℕ) (found : Found) : Type 0 where
@@ -43,31 +42,27 @@ pub record Searched (a b : List ℕ) (p q e : ℕ) (bad : List Bool) (work trace
   pub traced : trace′ ≡ traceFound (tableGraph a p e) (tableGraph b q e) (badIn bad q) trace
   pub zeroed : work′ ≡ workFound (p * q) work
 
--- The search has ended at entry h: it is the first bad one, or there is none.
-pub record Ended (g : Graph) (bad : ℕ → Bool) (h : ℕ) (s : St) : Type 0 where
-  pub running : Running g h 0 s
+-- The search has ended at entry h: it is the first bad one, at the distance d, and c entries are nearer; or there is none. The distances
+-- are `far`.
+pub record Ended (g : Graph) (bad : ℕ → Bool) (h d c : ℕ) (s : St) : Type 0 where
+  pub far : ℕ → ℕ
+  pub running : Running g far h 0 s
   pub within : h ≤ s .tail
   pub good : (x : ℕ) → x < h → bad (nodeAt (s .work) x) ≡ false
   pub hit : h < s .tail → bad (nodeAt (s .work) h) ≡ true
+  pub depth : h < s .tail → far (nodeAt (s .work) h) ≡ d
+  pub level : h < s .tail → levelStart (nodeAt (s .work)) far h ≡ c
 
--- The first entry before h at the distance d or more; h if there is none.
-unfoldable pub levelOf : ℕ → List ℕ → ℕ → ℕ → ℕ
-levelOf n w d h = first (λ x. leb d (distAt n w (nodeAt w x))) h
-
--- The answer as the work list has it, where the search ended at entry h of t.
-unfoldable pub settled : ℕ → ℕ → List ℕ → ℕ → ℕ → Found
-settled q n w h t = cond (ltb h t)
-    (Bad (distAt n w (nodeAt w h)) (nodeAt w h / q) (nodeAt w h % q) (levelOf n w (distAt n w (nodeAt w h)) h))
-    (Clear t)
+-- The answer where the search ended at entry h of t, at the distance d with c entries that are nearer.
+unfoldable pub settled : ℕ → List ℕ → ℕ → ℕ → ℕ → ℕ → Found
+settled q w h t d c = cond (ltb h t) (Bad d (nodeAt w h / q) (nodeAt w h % q) c) (Clear t)
 
 -- The trace list as the work list has it.
-unfoldable pub readOut : ℕ → List ℕ → ℕ → ℕ → List ℕ → List ℕ
-readOut n w h t trace = cond (ltb h t)
-    (atFront trace (readBack (nodeAt w) (linkAt n w) (distAt n w (nodeAt w h)) h))
-    trace
+unfoldable pub readOut : ℕ → List ℕ → ℕ → ℕ → ℕ → List ℕ → List ℕ
+readOut n w h t d trace = cond (ltb h t) (atFront trace (readBack (nodeAt w) (linkAt n w) d h)) trace
 
-module _ (a b : List ℕ) (p q e : ℕ) (bad : List Bool) (h : ℕ) (s : St) (hp : 0 < p) (hq : 0 < q)
-    (end : Ended (tablePairs a b p q e) (badCode bad q) h s) where
+module _ (a b : List ℕ) (p q e : ℕ) (bad : List Bool) (h d c : ℕ) (s : St) (hp : 0 < p) (hq : 0 < q)
+    (end : Ended (tablePairs a b p q e) (badCode bad q) h d c s) where
   -- the graph of the reference ..
   abbrev R : Graph
   R = tableGraph a p e
@@ -99,19 +94,20 @@ module _ (a b : List ℕ) (p q e : ℕ) (bad : List Bool) (h : ℕ) (s : St) (hp
   -- where the search ended before the queue's end
   module _ (l : h < s .tail) where
     -- its distance is the distance
-    deep : pairDistance R D T ≡ distAt n w (nodeAt w h)
+    deep : pairDistance R D T ≡ d
     unfolding pairDistance onCodes badCode tableGraph tablePairs product
-    deep = distance-is good-graph (nodeAt w) (linkAt n w) (distAt n w) h (s .tail) (end .running .queue) (badCode bad q) (end .good) l (end .hit l)
+    deep = distance-is good-graph (nodeAt w) (linkAt n w) (end .far) h (s .tail) (end .running .queue) (badCode bad q) (end .good) l (end .hit l) ∙ end .depth l
 
     -- its links spell the least trace
-    events : pairTrace R D T ≡ readBack (nodeAt w) (linkAt n w) (distAt n w (nodeAt w h)) h
+    events : pairTrace R D T ≡ readBack (nodeAt w) (linkAt n w) d h
     unfolding pairTrace onCodes badCode tableGraph tablePairs product
-    events = trace-is good-graph (nodeAt w) (linkAt n w) (distAt n w) h (s .tail) (end .running .queue) (badCode bad q) (end .good) l (end .hit l)
+    events = trace-is good-graph (nodeAt w) (linkAt n w) (end .far) h (s .tail) (end .running .queue) (badCode bad q) (end .good) l (end .hit l)
+        ∙ ap (λ (y : ℕ). readBack (nodeAt w) (linkAt n w) y h) (end .depth l)
 
     -- the entries before its level are the nearer pairs
-    before : pairCleared R D (pairDistance R D T) ≡ levelOf n w (distAt n w (nodeAt w h)) h
-    unfolding pairCleared pairDistance onCodes badCode tableGraph tablePairs product levelOf
-    before = cleared-before good-graph (nodeAt w) (linkAt n w) (distAt n w) h (s .tail) (end .running .queue) (badCode bad q) (end .good) l (end .hit l)
+    before : pairCleared R D (pairDistance R D T) ≡ c
+    unfolding pairCleared pairDistance onCodes badCode tableGraph tablePairs product
+    before = cleared-before good-graph (nodeAt w) (linkAt n w) (end .far) h (s .tail) (end .running .queue) (badCode bad q) (end .good) l (end .hit l) ∙ end .level l
 
     -- it is a pair
     inside : nodeAt w h < n
@@ -121,41 +117,42 @@ module _ (a b : List ℕ) (p q e : ℕ) (bad : List Bool) (h : ℕ) (s : St) (hp
     -- it is reached
     near : pairDistance R D T < n
     unfolding tableGraph tablePairs product
-    near = omega (arith, deep, end .running .queue .near h l, tail-le G h 0 s (end .running))
+    near = omega (arith, deep, end .depth l, end .running .queue .near h l, tail-le G (end .far) h 0 s (end .running))
 
     -- the least trace leads to its two nodes
     ends : (walk R 0 (pairTrace R D T) ≡ nodeAt w h / q) × (walk D 0 (pairTrace R D T) ≡ nodeAt w h % q)
     unfolding tableGraph tablePairs product code
     ends = product-at (table-wellFormed a p e hp) (table-wellFormed b q e hq) (pairTrace R D T) (nodeAt w h / q) (nodeAt w h % q)
         (div-lt-iff-lt-mul hq .1 inside) (mod-lt (nodeAt w h) hq) .0
-        (ap (walk G 0) events ∙ path-walk good-graph (nodeAt w) (linkAt n w) (distAt n w) h (s .tail) (end .running .queue) h l ∙ sym (div-add-mod' (nodeAt w h) q))
+        (ap (walk G 0) (events ∙ ap (λ (y : ℕ). readBack (nodeAt w) (linkAt n w) y h) (sym (end .depth l)))
+        ∙ path-walk good-graph (nodeAt w) (linkAt n w) (end .far) h (s .tail) (end .running .queue) h l ∙ sym (div-add-mod' (nodeAt w h) q))
 
   -- where it ended there
   module _ (l : s .tail ≤ h) where
     -- no bad pair is reached
     far : pairDistance R D T ≡ n
     unfolding pairDistance onCodes badCode tableGraph tablePairs product
-    far = distance-none good-graph (nodeAt w) (linkAt n w) (distAt n w) h (s .tail) (end .running .queue) (badCode bad q) (end .good) l
+    far = distance-none good-graph (nodeAt w) (linkAt n w) (end .far) h (s .tail) (end .running .queue) (badCode bad q) (end .good) l
 
     -- the entries are the pairs reached
     all : pairCleared R D n ≡ s .tail
     unfolding pairCleared tableGraph tablePairs product
-    all = cleared-all good-graph (nodeAt w) (linkAt n w) (distAt n w) h (s .tail) (end .running .queue) l
+    all = cleared-all good-graph (nodeAt w) (linkAt n w) (end .far) h (s .tail) (end .running .queue) l
 
   -- the answer read off the queue is the theory's
-  pub settled-is : settled q n w h (s .tail) ≡ foundOf R D T
+  pub settled-is : settled q w h (s .tail) d c ≡ foundOf R D T
   unfolding settled foundOf tableGraph
   settled-is = go (lt-or-ge h (s .tail))
     where
-      go : (h < s .tail) ⊎ (s .tail ≤ h) → settled q n w h (s .tail) ≡ foundOf R D T
+      go : (h < s .tail) ⊎ (s .tail ≤ h) → settled q w h (s .tail) d c ≡ foundOf R D T
       go (inl l) = rw (lt-ltb h (s .tail) l, lt-ltb (pairDistance R D T) n (near l), ends l .0, ends l .1, before l, deep l)
       go (inr l) = let k : n ≤ pairDistance R D T = omega (arith, far l) in rw (le-ltb h (s .tail) l, le-ltb (pairDistance R D T) n k, all l)
 
   -- and so is the trace
-  pub readOut-is : (trace : List ℕ) → readOut n w h (s .tail) trace ≡ traceFound R D T trace
+  pub readOut-is : (trace : List ℕ) → readOut n w h (s .tail) d trace ≡ traceFound R D T trace
   unfolding readOut traceFound tableGraph
   readOut-is trace = go (lt-or-ge h (s .tail))
     where
-      go : (h < s .tail) ⊎ (s .tail ≤ h) → readOut n w h (s .tail) trace ≡ traceFound R D T trace
+      go : (h < s .tail) ⊎ (s .tail ≤ h) → readOut n w h (s .tail) d trace ≡ traceFound R D T trace
       go (inl l) = rw (lt-ltb h (s .tail) l, lt-ltb (pairDistance R D T) n (near l), events l)
       go (inr l) = let k : n ≤ pairDistance R D T = omega (arith, far l) in rw (le-ltb h (s .tail) l, le-ltb (pairDistance R D T) n k)

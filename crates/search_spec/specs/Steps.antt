@@ -1,20 +1,24 @@
 -- What the functions of the search ask of one another, and that each gives the next what it asks.
 use mathlib.Core.Path.{_≡_, refl, sym, ap, _∙_}
 use mathlib.Core.Logic.{_⊎_, inl, inr, ⊎-elim}
-use mathlib.Core.Bool.{Bool, true, false}
+use mathlib.Core.Bool.{Bool, true, false, cond}
 use mathlib.Core.List.{List}
 use Prim.Native.Nat.{ℕ, _+_, _*_, _/_, _%_, _≤_, _<_}
 use native.Mathlib.Omega.{arith}
 use native.Mathlib.Nat.{mul-pos, mul-le-mul-right, div-add-mod', div-lt-iff-lt-mul, mod-lt, eq-or-lt-of-le}
 use native.Mathlib.Numerals.{add-one}
 use lib.Arith.{digits-lt}
+use lib.Dec.{leb, ltb}
 use lib.ListN.{length, getD, drop}
-use borrow.Author.Tests.{lt-ltb, le-ltb}
+use borrow.Author.Tests.{lt-ltb, le-ltb, le-leb, lt-leb}
+use Rattle.base.specs.Truth.{lt-or-ge}
+use Rattle.base.specs.Range.{first-is, first-none}
 use Rattle.walks.specs.Graph.{Graph}
 use Rattle.walks.specs.Product.{product}
 use Rattle.search_spec.specs.Tables.{tableGraph, tablePairs, next-both, next-none}
-use Rattle.search_spec.specs.Words.{St, st, nodeAt, linkAt, distAt, visited, tried, scanned, Running, tail-le}
-use Rattle.search_spec.specs.Words.{VisitOk, visit-ok, scan-kept, running-next, running-start}
+use Rattle.search_spec.specs.Words.{wordsFor, St, st, nodeAt, linkAt, visited, tried, scanned, Running, tail-le, Stepped, entry-kept}
+use Rattle.search_spec.specs.Words.{VisitOk, visit-ok, scan-kept, running-next, running-start, put, none, Level, level-grows, level-next}
+use Rattle.search_spec.specs.Queue.{levelStart}
 use Rattle.search_spec.specs.Found.{Ended}
 
 -- The sizes of two graphs, p and q nodes and e events, and the number n of their pairs.
@@ -35,51 +39,63 @@ few-pairs : (p q e n : ℕ) → Sizes p q e n → n ≤ 1024
 few-pairs p q e n z = omega (arith, z .size, small-product p q (z .rows) (z .columns))
 
 -- The numbers that a step computes with are small.
-pub record StepFacts (q n place row column dist k : ℕ) : Type 0 where
+pub record StepFacts (q n place row column k : ℕ) : Type 0 where
   pub low : row < 32
   pub lower : column < 32
   pub few : k < 12
   pub small : n ≤ 1024
   pub early : place < 1024
-  pub close : dist < 1024
   pub wide : q ≤ 32
 
 -- Where an entry stands, and what is read there.
 pub record Seat (n place : ℕ) (w : List ℕ) : Type 0 where
   pub small : n ≤ 1024
-  pub room : 3 * n ≤ length w
+  pub room : wordsFor n ≤ length w
   pub inside : place < n
   pub node : nodeAt w place < n
-  pub near : distAt n w (nodeAt w place) ≤ place
 
 -- A search may start: the links are 0.
 pub record RunOk (p q e n : ℕ) (w : List ℕ) : Type 0 where
   pub sizes : Sizes p q e n
-  pub room : 3 * n ≤ length w
+  pub room : wordsFor n ≤ length w
   pub clean : (v : ℕ) → v < n → linkAt n w v ≡ 0
 
--- The search before entry h: all earlier entries are good, and the words that are not its own are those of w.
-pub record Before (g : Graph) (bad : ℕ → Bool) (w : List ℕ) (h : ℕ) (s : St) : Type 0 where
-  pub running : Running g h 0 s
+-- The search before entry h, at the distance d: all earlier entries are good, those before `start` are nearer, the level ends at `end`,
+-- and the words that are not the search's own are those of w. The distances are `far`.
+pub record Before (g : Graph) (bad : ℕ → Bool) (w : List ℕ) (h d start end : ℕ) (s : St) : Type 0 where
+  pub far : ℕ → ℕ
+  pub running : Running g far h 0 s
   pub within : h ≤ s .tail
   pub good : (x : ℕ) → x < h → bad (nodeAt (s .work) x) ≡ false
   pub long : length (s .work) ≡ length w
-  pub rest : drop (3 * g .size) (s .work) ≡ drop (3 * g .size) w
+  pub rest : drop (wordsFor (g .size)) (s .work) ≡ drop (wordsFor (g .size)) w
+  pub level : Level (λ x. far (nodeAt (s .work) x)) d start end (s .tail)
+  pub since : start ≤ h
+  pub until : h < s .tail → h < end
 
 -- the same, where the words are compared with those of now
-pub before-here : (g : Graph) (bad : ℕ → Bool) (w : List ℕ) (h : ℕ) (s : St) → Before g bad w h s → Before g bad (s .work) h s
-before-here g bad w h s f = record { running = f .running; within = f .within; good = f .good; long = refl; rest = refl }
+pub before-here : (g : Graph) (bad : ℕ → Bool) (w : List ℕ) (h d start end : ℕ) (s : St) → Before g bad w h d start end s → Before g bad (s .work) h d start end s
+before-here g bad w h d start end s f = record {
+  far = f .far;
+  running = f .running;
+  within = f .within;
+  good = f .good;
+  long = refl;
+  rest = refl;
+  level = f .level;
+  since = f .since;
+  until = f .until;
+}
 
 -- no event has been tried yet
-pub scan-none : (g : Graph) (h v d : ℕ) (s : St) → s ≡ scanned g h v d 0 s
+pub scan-none : (g : Graph) (h v : ℕ) (s : St) → s ≡ scanned g h v 0 s
 unfolding scanned
-scan-none g h v d s = refl
+scan-none g h v s = refl
 
 -- one event more
-pub scan-next : (g : Graph) (h v d k : ℕ) (s s₁ s₂ : St) → s₁ ≡ scanned g h v d k s → s₂ ≡ tried g h v d k s₁
-    → s₂ ≡ scanned g h v d (k + 1) s
+pub scan-next : (g : Graph) (h v k : ℕ) (s s₁ s₂ : St) → s₁ ≡ scanned g h v k s → s₂ ≡ tried g h v k s₁ → s₂ ≡ scanned g h v (k + 1) s
 unfolding scanned
-scan-next g h v d k s s₁ s₂ x y = rw (add-one, ← x) y
+scan-next g h v k s s₁ s₂ x y = rw (add-one, ← x) y
 
 module _ (p q e n : ℕ) (w : List ℕ) (o : RunOk p q e n w) where
   -- the start is a pair
@@ -106,28 +122,27 @@ module _ (a b : List ℕ) (p q e n : ℕ) where
   pairs-events = refl
 
   -- an entry of the queue has its seat
-  pub seat : (h k : ℕ) (s : St) → Sizes p q e n → Running G h k s → (x : ℕ) → x < s .tail → Seat n x (s .work)
-  seat h k s z r x l = rw (← pairs-size z) (record {
+  pub seat : (D : ℕ → ℕ) (h k : ℕ) (s : St) → Sizes p q e n → Running G D h k s → (x : ℕ) → x < s .tail → Seat n x (s .work)
+  seat D h k s z r x l = rw (← pairs-size z) (record {
     small = r .small;
     room = r .room;
-    inside = omega (arith, tail-le G h k s r);
+    inside = omega (arith, tail-le G D h k s r);
     node = r .queue .entry x l .0;
-    near = r .queue .near x l;
   })
 
-  -- Event k of entry `place`, the pair (row, column) at the distance `dist`, may be tried.
-  pub record StepOk (place row column dist k : ℕ) (s : St) : Type 0 where
+  -- Event k of entry `place`, the pair (row, column), may be tried.
+  pub record StepOk (place row column k : ℕ) (s : St) : Type 0 where
     pub sizes : Sizes p q e n
-    pub running : Running G place k s
+    pub far : ℕ → ℕ
+    pub running : Running G far place k s
     pub inside : place < n
     pub in-p : row < p
     pub in-q : column < q
-    pub near : dist ≤ place
     pub event : k < e
 
-  module _ (place row column dist k : ℕ) (s : St) (o : StepOk place row column dist k s) where
+  module _ (place row column k : ℕ) (s : St) (o : StepOk place row column k s) where
     -- what a step computes stays small
-    pub step-facts : StepFacts q n place row column dist k
+    pub step-facts : StepFacts q n place row column k
     step-facts =
         let z = o .sizes in
         let m = few-pairs p q e n z in
@@ -137,7 +152,6 @@ module _ (a b : List ℕ) (p q e n : ℕ) where
           few = omega (arith, o .event, z .events);
           small = m;
           early = omega (arith, m, o .inside);
-          close = omega (arith, m, o .inside, o .near);
           wide = z .columns;
         }
 
@@ -149,11 +163,11 @@ module _ (a b : List ℕ) (p q e n : ℕ) where
     pub step-visit-ok : (x y : ℕ) → x < p → y < q → VisitOk n (x * q + y) s
     step-visit-ok x y h l =
         let m = pairs-size (o .sizes) in
-        rw m at (visit-ok G place k (x * q + y) s (o .running) (rw m (step-product x y h l .1)))
+        rw m at (visit-ok G (o .far) place k (x * q + y) s (o .running) (rw m (step-product x y h l .1)))
 
     -- both tables have a successor
     pub step-both : (x y : ℕ) (s′ : St) → x ≡ getD a (row * 12 + k) 0 → y ≡ getD b (column * 12 + k) 0 → x < p → y < q
-        → s′ ≡ visited n (x * q + y) (place * 12 + k + 2) (dist + 1) s → s′ ≡ tried G place (row * q + column) dist k s
+        → s′ ≡ visited n (x * q + y) (place * 12 + k + 2) s → s′ ≡ tried G place (row * q + column) k s
     unfolding tried
     step-both x y s′ u v h l c =
         let m = pairs-size (o .sizes) in
@@ -164,7 +178,7 @@ module _ (a b : List ℕ) (p q e n : ℕ) where
         rw (to, lt-ltb (x * q + y) (G .size) i, m) c
 
     -- one of them has none
-    step-none : (p ≤ getD a (row * 12 + k) 0) ⊎ (q ≤ getD b (column * 12 + k) 0) → s ≡ tried G place (row * q + column) dist k s
+    step-none : (p ≤ getD a (row * 12 + k) 0) ⊎ (q ≤ getD b (column * 12 + k) 0) → s ≡ tried G place (row * q + column) k s
     unfolding tried
     step-none h =
         let i : G .size ≤ G .next (row * q + column) k =
@@ -173,111 +187,184 @@ module _ (a b : List ℕ) (p q e n : ℕ) where
         rw (le-ltb (G .next (row * q + column) k) (G .size) i)
 
     -- the first has none
-    pub step-first : (x : ℕ) → x ≡ getD a (row * 12 + k) 0 → p ≤ x → s ≡ tried G place (row * q + column) dist k s
+    pub step-first : (x : ℕ) → x ≡ getD a (row * 12 + k) 0 → p ≤ x → s ≡ tried G place (row * q + column) k s
     step-first x u h = step-none (inl (rw (← u) h))
 
     -- the second has none
-    pub step-second : (y : ℕ) → y ≡ getD b (column * 12 + k) 0 → q ≤ y → s ≡ tried G place (row * q + column) dist k s
+    pub step-second : (y : ℕ) → y ≡ getD b (column * 12 + k) 0 → q ≤ y → s ≡ tried G place (row * q + column) k s
     step-second y u h = step-none (inr (rw (← u) h))
 
   -- The events of entry `place` may be tried.
   pub record ScanOk (place : ℕ) (s : St) : Type 0 where
     pub sizes : Sizes p q e n
-    pub running : Running G place 0 s
+    pub far : ℕ → ℕ
+    pub running : Running G far place 0 s
     pub here : place < s .tail
 
   module _ (place : ℕ) (s : St) (o : ScanOk place s) where
     -- the entry has its seat
     pub scan-seat : Seat n place (s .work)
-    scan-seat = seat place 0 s (o .sizes) (o .running) place (o .here)
+    scan-seat = seat (o .far) place 0 s (o .sizes) (o .running) place (o .here)
 
     -- the node of the entry
     abbrev node₀ : ℕ
     node₀ = nodeAt (s .work) place
 
-    -- and its distance
-    abbrev dist₀ : ℕ
-    dist₀ = distAt n (s .work) node₀
-
-    -- with the node and the distance that were read
-    module _ (node dist : ℕ) (en : node ≡ node₀) (ed : dist ≡ distAt n (s .work) node) where
+    -- with its pair taken apart
+    module _ (row column : ℕ) (er : row ≡ node₀ / q) (ec : column ≡ node₀ % q) where
       -- all events tried from the pair's two nodes are tried from the pair
-      pub scan-end : (s₁ : St) (k : ℕ) → s₁ ≡ scanned G place (node / q * q + node % q) dist k s → s₁ ≡ scanned G place node₀ dist₀ k s
-      scan-end s₁ k c =
-          c ∙ ap (λ (y : ℕ). scanned G place y dist k s) (div-add-mod' node q ∙ en)
-          ∙ ap (λ (y : ℕ). scanned G place node₀ y k s) (ed ∙ ap (distAt n (s .work)) en)
+      pub scan-end : (s₁ : St) (k : ℕ) → s₁ ≡ scanned G place (row * q + column) k s → s₁ ≡ scanned G place node₀ k s
+      scan-end s₁ k c = c ∙ ap (λ (y : ℕ). scanned G place y k s) (rw (er, ec) (div-add-mod' node₀ q))
 
       -- after k events the next may be tried
-      pub scan-step-ok : (k : ℕ) (s₁ : St) → k < e → s₁ ≡ scanned G place (node / q * q + node % q) dist k s
-          → StepOk place (node / q) (node % q) dist k s₁
+      pub scan-step-ok : (k : ℕ) (s₁ : St) → k < e → s₁ ≡ scanned G place (row * q + column) k s → StepOk place row column k s₁
       scan-step-ok k s₁ l c = record {
         sizes = o .sizes;
-        running = rw c′ (scan-kept G place s (o .running) (o .here) k (rw pairs-events (omega arith)) .0);
+        far = t .far;
+        running = rw (scan-end s₁ k c) (t .running);
         inside = scan-seat .inside;
-        in-p = div-lt-iff-lt-mul (o .sizes .some-q) .1 (rw (← o .sizes .size, en) (scan-seat .node));
-        in-q = mod-lt node (o .sizes .some-q);
-        near = omega (arith, ed ∙ ap (distAt n (s .work)) en, scan-seat .near);
+        in-p = rw er (div-lt-iff-lt-mul (o .sizes .some-q) .1 (rw (← o .sizes .size) (scan-seat .node)));
+        in-q = rw ec (mod-lt node₀ (o .sizes .some-q));
         event = l;
       }
         where
-          c′ : s₁ ≡ scanned G place node₀ (distAt (G .size) (s .work) node₀) k s
-          c′ = scan-end s₁ k c ∙ ap (λ (y : ℕ). scanned G place node₀ (distAt y (s .work) node₀) k s) (sym (pairs-size (o .sizes)))
+          t : Stepped G (o .far) (o .far node₀) place k s (scanned G place node₀ k s)
+          t = scan-kept G (o .far) place s (o .running) (o .here) k (rw pairs-events (omega arith))
 
   module _ (w : List ℕ) (o : RunOk p q e n w) where
-    -- the start is an entry
-    pub run-start : (bad : ℕ → Bool) (s : St) → s ≡ visited n 0 1 0 (st 0 w) → Before G bad w 0 s
+    -- the start is an entry, alone in its level
+    pub run-start : (bad : ℕ → Bool) (s : St) → s ≡ visited n 0 1 (st 0 w) → Before G bad w 0 0 0 1 s
     run-start bad s c =
         let m = pairs-size (o .sizes) in
         let few = few-pairs p q e n (o .sizes) in
         let r = running-start G w (rw pairs-events (o .sizes .events)) (rw m (some-pair p q e n w o)) (rw m few) (rw m (o .room)) (rw m (o .clean)) in
-        let c′ : s ≡ visited (G .size) 0 1 0 (st 0 w) = rw m c in
+        let c′ : s ≡ visited (G .size) 0 1 (st 0 w) = rw m c in
+        let one : visited (G .size) 0 1 (st 0 w) .tail ≡ 1 = r .2 in
         rw c′ (record {
+          far = put none 0 0;
           running = r .0;
           within = omega arith;
           good = λ x l. absurd (omega arith);
           long = r .1 .long;
           rest = r .1 .rest;
+          level = record {
+            order = (omega arith, omega (arith, one));
+            nearer = λ x l. absurd (omega arith);
+            here = λ x a b. let e : x ≡ 0 = omega arith in rw e (ap (put none 0 0) (r .0 .queue .root .0) ∙ r .0 .queue .root .2);
+            farther = λ x a b. absurd (omega (arith, one));
+          };
+          since = omega arith;
+          until = λ l. omega arith;
         })
 
     -- and the words that are not the search's own are as they were
-    pub start-rest : (s : St) → s ≡ visited n 0 1 0 (st 0 w) → drop (3 * G .size) (s .work) ≡ drop (3 * G .size) w
+    pub start-rest : (s : St) → s ≡ visited n 0 1 (st 0 w) → drop (wordsFor (G .size)) (s .work) ≡ drop (wordsFor (G .size)) w
     start-rest s c = run-start (λ v. false) s c .rest
 
-  module _ (bad : ℕ → Bool) (w : List ℕ) (h : ℕ) (s : St) (z : Sizes p q e n) (f : Before G bad w h s) where
-    -- a good entry whose events have all been tried
-    pub run-more : (s₁ : St) → h < s .tail → bad (nodeAt (s .work) h) ≡ false
-        → s₁ ≡ scanned G h (nodeAt (s .work) h) (distAt n (s .work) (nodeAt (s .work) h)) e s → Before G bad w (h + 1) s₁
-    run-more s₁ l t c =
-        let r = scan-kept G h s (f .running) l (G .events) (omega arith) in
-        let v = nodeAt (s .work) h in
-        let c′ : s₁ ≡ scanned G h v (distAt (G .size) (s .work) v) (G .events) s =
-        c ∙ ap (λ (y : ℕ). scanned G h v (distAt y (s .work) v) e s) (sym (pairs-size z))
-        ∙ ap (λ (y : ℕ). scanned G h v (distAt (G .size) (s .work) v) y s) (sym pairs-events)
-        in
-        rw c′ (record {
-          running = running-next G h _ (r .0);
-          within = omega (arith, r .1 .queue .grows);
-          good = λ x k. ap bad (r .1 .queue .nodes x (omega arith))
-              ∙ ⊎-elim (λ (i : x ≡ h). rw i t) (λ (i : x < h). f .good x i) (eq-or-lt-of-le (omega arith));
-          long = r .1 .long ∙ f .long;
-          rest = r .1 .rest ∙ f .rest;
+  module _ (bad : ℕ → Bool) (w : List ℕ) (h d start end : ℕ) (s : St) (z : Sizes p q e n) (f : Before G bad w h d start end s) where
+    -- the distances of the entries
+    abbrev E : ℕ → ℕ
+    E x = f .far (nodeAt (s .work) x)
+
+    -- entry h is at the distance d, which is small
+    at-depth : h < s .tail → E h ≡ d
+    at-depth l = f .level .here h (f .since) (f .until l)
+
+    pub shallow : h < s .tail → d < 1024
+    shallow l = omega (arith, at-depth l, f .running .queue .near h l, tail-le G (f .far) h 0 s (f .running), few-pairs p q e n z, pairs-size z)
+
+    -- a good entry whose events have all been tried: the level goes on, or the next one begins where it ends
+    pub run-more : (s₁ : St) (d₁ start₁ end₁ : ℕ) → h < s .tail → bad (nodeAt (s .work) h) ≡ false → s₁ ≡ scanned G h (nodeAt (s .work) h) e s
+        → d₁ ≡ cond (ltb (h + 1) end) d (d + 1) → start₁ ≡ cond (ltb (h + 1) end) start end → end₁ ≡ cond (ltb (h + 1) end) end (s₁ .tail)
+        → Before G bad w (h + 1) d₁ start₁ end₁ s₁
+    run-more s₁ d₁ start₁ end₁ l t c ed es ee = rw c′ (pick (lt-or-ge (h + 1) end))
+      where
+        s′ : St
+        s′ = scanned G h (nodeAt (s .work) h) (G .events) s
+
+        c′ : s₁ ≡ s′
+        c′ = c ∙ ap (λ (y : ℕ). scanned G h (nodeAt (s .work) h) y s) (sym pairs-events)
+
+        r : Stepped G (f .far) (f .far (nodeAt (s .work) h)) h (G .events) s s′
+        r = scan-kept G (f .far) h s (f .running) l (G .events) (omega arith)
+
+        E′ : ℕ → ℕ
+        E′ x = r .far (nodeAt (s′ .work) x)
+
+        level′ : Level E′ d start end (s′ .tail)
+        level′ = level-grows E E′ d start end (s .tail) (s′ .tail) (f .level) (r .keeps .queue .grows)
+            (λ x a. entry-kept G (f .far) (r .far) h 0 s s′ (f .running) (r .keeps) x a)
+            (λ x a b. r .fresh x a b ∙ ap (λ (y : ℕ). y + 1) (at-depth l))
+
+        good′ : (x : ℕ) → x < h + 1 → bad (nodeAt (s′ .work) x) ≡ false
+        good′ x k = ap bad (r .keeps .queue .nodes x (omega arith))
+            ∙ ⊎-elim (λ (i : x ≡ h). rw i t) (λ (i : x < h). f .good x i) (eq-or-lt-of-le (omega arith))
+
+        pick : (h + 1 < end) ⊎ (end ≤ h + 1) → Before G bad w (h + 1) d₁ start₁ end₁ s′
+        pick (inl i) = rw (ed, es, ee, lt-ltb (h + 1) end i) (record {
+          far = r .far;
+          running = running-next G (r .far) h s′ (r .running);
+          within = omega (arith, r .keeps .queue .grows);
+          good = good′;
+          long = r .keeps .long ∙ f .long;
+          rest = r .keeps .rest ∙ f .rest;
+          level = level′;
+          since = omega (arith, f .since);
+          until = λ k. i;
+        })
+        pick (inr i) = rw (ed, es, ee, c′, le-ltb (h + 1) end i) (record {
+          far = r .far;
+          running = running-next G (r .far) h s′ (r .running);
+          within = omega (arith, r .keeps .queue .grows);
+          good = good′;
+          long = r .keeps .long ∙ f .long;
+          rest = r .keeps .rest ∙ f .rest;
+          level = level-next E′ d start end (s′ .tail) level′;
+          since = omega (arith, f .until l);
+          until = λ k. k;
         })
 
     -- what is not the search's own is as it was, if it was so where the loop began
-    rest-kept : (w₀ : List ℕ) → drop (3 * G .size) w ≡ drop (3 * G .size) w₀ → drop (3 * n) (s .work) ≡ drop (3 * n) w₀
+    rest-kept : (w₀ : List ℕ) → drop (wordsFor (G .size)) w ≡ drop (wordsFor (G .size)) w₀ → drop (wordsFor n) (s .work) ≡ drop (wordsFor n) w₀
     rest-kept w₀ r =
-        ap (λ (y : ℕ). drop (3 * y) (s .work)) (sym (pairs-size z)) ∙ f .rest ∙ r
-        ∙ ap (λ (y : ℕ). drop (3 * y) w₀) (pairs-size z)
+        ap (λ (y : ℕ). drop (wordsFor y) (s .work)) (sym (pairs-size z)) ∙ f .rest ∙ r
+        ∙ ap (λ (y : ℕ). drop (wordsFor y) w₀) (pairs-size z)
+
+    -- the level's first entry is the first that is no nearer than entry h
+    begins : h < s .tail → levelStart (nodeAt (s .work)) (f .far) h ≡ start
+    begins l = go (eq-or-lt-of-le (f .since))
+      where
+        test : ℕ → Bool
+        test x = leb (E h) (E x)
+
+        before : (x : ℕ) → x < start → test x ≡ false
+        before x k = lt-leb (E h) (E x) (omega (arith, at-depth l, f .level .nearer x k))
+
+        go : (start ≡ h) ⊎ (start < h) → levelStart (nodeAt (s .work)) (f .far) h ≡ start
+        go (inl i) = first-none test h (λ x k. before x (omega arith)) ∙ sym i
+        go (inr i) = first-is test h start i before
+            (le-leb (E h) (E start) (omega (arith, at-depth l, f .level .here start (omega arith) (omega (arith, f .until l)))))
 
     -- the search stops at a bad entry
-    pub run-hit : (w₀ : List ℕ) → drop (3 * G .size) w ≡ drop (3 * G .size) w₀ → bad (nodeAt (s .work) h) ≡ true
-        → Ended G bad h s × (drop (3 * n) (s .work) ≡ drop (3 * n) w₀)
-    run-hit w₀ r t = (record { running = f .running; within = f .within; good = f .good; hit = λ l. t }, rest-kept w₀ r)
+    pub run-hit : (w₀ : List ℕ) → drop (wordsFor (G .size)) w ≡ drop (wordsFor (G .size)) w₀ → bad (nodeAt (s .work) h) ≡ true
+        → Ended G bad h d start s × (drop (wordsFor n) (s .work) ≡ drop (wordsFor n) w₀)
+    run-hit w₀ r t = (
+      record { far = f .far; running = f .running; within = f .within; good = f .good; hit = λ l. t; depth = at-depth; level = begins },
+      rest-kept w₀ r,
+    )
 
     -- or where the queue ends
-    pub run-over : (w₀ : List ℕ) → drop (3 * G .size) w ≡ drop (3 * G .size) w₀ → s .tail ≤ h
-        → Ended G bad h s × (drop (3 * n) (s .work) ≡ drop (3 * n) w₀)
+    pub run-over : (w₀ : List ℕ) → drop (wordsFor (G .size)) w ≡ drop (wordsFor (G .size)) w₀ → s .tail ≤ h
+        → Ended G bad h d start s × (drop (wordsFor n) (s .work) ≡ drop (wordsFor n) w₀)
     run-over w₀ r k = (
-      record { running = f .running; within = f .within; good = f .good; hit = λ l. absurd (omega arith) },
+      record {
+        far = f .far;
+        running = f .running;
+        within = f .within;
+        good = f .good;
+        hit = λ l. absurd (omega arith);
+        depth = λ l. absurd (omega arith);
+        level = λ l. absurd (omega arith);
+      },
       rest-kept w₀ r,
     )

@@ -3,7 +3,7 @@
 use std::collections::{BTreeMap, BTreeSet};
 
 use super::faults;
-use crate::comparison::{refuses, strays, Named, Outcome};
+use crate::comparison::{refuses, strays, Named, Outcome, WORDS_A_PAIR};
 use crate::probes::probes;
 use crate::sheet::{accept, after, Sheet};
 
@@ -52,10 +52,14 @@ faults! {
         WorkWordLeft,
         /// Later words of the work list are set to 0 too.
         WorkBeyond,
+        /// Three words a pair are set to 0, as far as the work list goes.
+        WorkThreeCleared,
         /// 12: an exact list is refused.
         WorkExactRefused,
         /// 12: a list one short is accepted.
         WorkShortAccepted,
+        /// 12: three words a pair are asked for.
+        WorkThreeAsked,
         /// 13: an exact list is refused.
         TraceExactRefused,
         /// 13: a list one short is accepted where the trace fits.
@@ -101,17 +105,23 @@ pub fn compare_with(
         trace_only,
     }
     .outcome();
-    let words = 3 * reference.n as usize * device.n as usize;
-    let cleared = match fault {
-        CompareFault::WorkWordLeft => words - 1,
-        CompareFault::WorkBeyond => work.len(),
-        _ => words.min(work.len()),
-    };
+    let pairs = reference.n as usize * device.n as usize;
+    let cleared = cleared_words(fault, pairs).min(work.len());
     work[..cleared].fill(0);
     if let Outcome::Violates { trace, .. } = &outcome {
         write(fault, trace, list);
     }
     Ok(outcome)
+}
+
+/// How many words from the front of the work list are set to 0, as far as it goes.
+fn cleared_words(fault: CompareFault, pairs: usize) -> usize {
+    match fault {
+        CompareFault::WorkWordLeft => WORDS_A_PAIR * pairs - 1,
+        CompareFault::WorkThreeCleared => 3 * pairs,
+        CompareFault::WorkBeyond => usize::MAX,
+        _ => WORDS_A_PAIR * pairs,
+    }
 }
 
 fn write(fault: CompareFault, trace: &[u8], list: &mut [u8]) {
@@ -149,9 +159,10 @@ fn admit(
     let test = |bad: bool, number: u8| if bad { Err(number) } else { Ok(()) };
     let events = test(reference.e != device.e, 11);
     let words = match fault {
-        CompareFault::WorkExactRefused => work <= 3 * pairs,
-        CompareFault::WorkShortAccepted => work + 1 < 3 * pairs,
-        _ => work < 3 * pairs,
+        CompareFault::WorkExactRefused => work <= WORDS_A_PAIR * pairs,
+        CompareFault::WorkShortAccepted => work + 1 < WORDS_A_PAIR * pairs,
+        CompareFault::WorkThreeAsked => work < 3 * pairs,
+        _ => work < WORDS_A_PAIR * pairs,
     };
     let words = test(words, 12);
     let places = match fault {

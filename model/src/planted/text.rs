@@ -2,6 +2,7 @@
 
 use super::comparisons::{compare_with, CompareFault};
 use super::faults;
+use crate::comparison::MAX_WORDS;
 use crate::sheet::read;
 use crate::text::{output, output_by, MAX_INPUT};
 
@@ -59,7 +60,7 @@ fn comparison_fault(fault: TextFault) -> Option<CompareFault> {
 pub fn output_with(fault: TextFault, input: &[u8]) -> String {
     match comparison_fault(fault) {
         Some(other) => output_by(input, |reference, device| {
-            let (mut work, mut list) = ([0; 3_072], [0; 1_023]);
+            let (mut work, mut list) = ([0; MAX_WORDS], [0; 1_023]);
             compare_with(other, reference, device, false, &mut work, &mut list)
         }),
         None => lines_with(fault, input),

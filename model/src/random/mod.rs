@@ -1,8 +1,9 @@
-//! A small deterministic generator, and random sheets, bytes, runs and pairs.
+//! A small deterministic generator, and random sheets, bytes, lists, runs and pairs.
 
 mod damage;
 mod input;
 mod kept;
+mod lists;
 mod pairs;
 mod raw;
 mod runs;
@@ -10,6 +11,7 @@ mod runs;
 pub use damage::{damaged, damaged_twice, long_bytes, noise_bytes, AIMS_READ};
 pub use input::program_input;
 pub use kept::{kept, kept_noise, kept_twice, AIMS_KEPT};
+pub use lists::{length_around, work_length};
 pub use pairs::{deep_pair, device_of, pair, small_pair};
 pub use raw::{antichain, crowded_sheet, full_sheet, random_raw, random_sheet, sheet_of_size, Raw};
 pub use runs::{random_record, random_report};

@@ -1,14 +1,14 @@
 //! Definitions written out literally, to hold the model against.
 #![allow(dead_code)]
 
-use model::comparison::{compare, Outcome};
+use model::comparison::{compare, Outcome, MAX_WORDS};
 use model::sheet::{after, walk, Sheet};
 use model::tests::{open, step, verdict, Answer, Run, Verdict};
 use model::verdict::device_reports;
 
 /// The comparison with lists that are always long enough.
 pub fn compared(reference: &Sheet, device: &Sheet, trace_only: bool) -> Outcome {
-    compare(reference, device, trace_only, 3 * 1_024, 1_023).expect("accepted")
+    compare(reference, device, trace_only, MAX_WORDS, 1_023).expect("accepted")
 }
 
 /// Whether the device fails test k.

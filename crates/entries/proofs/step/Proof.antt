@@ -5,25 +5,25 @@ use Rattle.entries.proofs.step.Statement.{statement}
 use Rattle.entries.proofs.step.Tie as tie
 
 mul-wide : tie.Need-mul-wide
-mul-wide c = omega (arith, step-facts _ _ _ _ _ _ _ _ _ _ _ _ (c .before .before .pre))
+mul-wide c = omega (arith, step-facts _ _ _ _ _ _ _ _ _ _ _ (c .before .before .pre))
 
 add-wide : tie.Need-add-wide
-add-wide c = omega (arith, step-facts _ _ _ _ _ _ _ _ _ _ _ _ (c .before .before .pre))
+add-wide c = omega (arith, step-facts _ _ _ _ _ _ _ _ _ _ _ (c .before .before .pre))
 
 element-copy-out-wide : tie.Need-element-copy-out-wide
-element-copy-out-wide c = omega (arith, step-facts _ _ _ _ _ _ _ _ _ _ _ _ (c .before .before .pre))
+element-copy-out-wide c = omega (arith, step-facts _ _ _ _ _ _ _ _ _ _ _ (c .before .before .pre))
 
 wide-requires : tie.Need-wide-requires
 wide-requires c κs = tt
 
 mul-wide-2 : tie.Need-mul-wide-2
-mul-wide-2 c = omega (arith, step-facts _ _ _ _ _ _ _ _ _ _ _ _ (c .before .before .before .before .before .before .pre))
+mul-wide-2 c = omega (arith, step-facts _ _ _ _ _ _ _ _ _ _ _ (c .before .before .before .before .before .before .pre))
 
 add-wide-2 : tie.Need-add-wide-2
-add-wide-2 c = omega (arith, step-facts _ _ _ _ _ _ _ _ _ _ _ _ (c .before .before .before .before .before .before .pre))
+add-wide-2 c = omega (arith, step-facts _ _ _ _ _ _ _ _ _ _ _ (c .before .before .before .before .before .before .pre))
 
 element-copy-out-wide-2 : tie.Need-element-copy-out-wide-2
-element-copy-out-wide-2 c = omega (arith, step-facts _ _ _ _ _ _ _ _ _ _ _ _ (c .before .before .before .before .before .before .pre))
+element-copy-out-wide-2 c = omega (arith, step-facts _ _ _ _ _ _ _ _ _ _ _ (c .before .before .before .before .before .before .pre))
 
 wide-requires-2 : tie.Need-wide-requires-2
 wide-requires-2 c κs = tt
@@ -32,7 +32,7 @@ mul-visit : tie.Need-mul-visit
 mul-visit c =
     omega (
       arith,
-      step-product _ _ _ _ _ _ _ _ _ _ _ _
+      step-product _ _ _ _ _ _ _ _ _ _ _
           (c .before .before .before .before .before .before .before .before .before .before .pre) _ _
           (c .before .before .before .before .before .if1 .taken) (c .before .if2 .taken) .0,
     )
@@ -41,10 +41,10 @@ add-visit : tie.Need-add-visit
 add-visit c =
     omega (
       arith,
-      step-product _ _ _ _ _ _ _ _ _ _ _ _
+      step-product _ _ _ _ _ _ _ _ _ _ _
           (c .before .before .before .before .before .before .before .before .before .before .pre) _ _
           (c .before .before .before .before .before .if1 .taken) (c .before .if2 .taken) .0,
-      step-facts _ _ _ _ _ _ _ _ _ _ _ _
+      step-facts _ _ _ _ _ _ _ _ _ _ _
           (c .before .before .before .before .before .before .before .before .before .before .pre),
     )
 
@@ -52,7 +52,7 @@ mul-visit-2 : tie.Need-mul-visit-2
 mul-visit-2 c =
     omega (
       arith,
-      step-facts _ _ _ _ _ _ _ _ _ _ _ _
+      step-facts _ _ _ _ _ _ _ _ _ _ _
           (c .before .before .before .before .before .before .before .before .before .before .before .pre),
     )
 
@@ -60,7 +60,7 @@ add-visit-2 : tie.Need-add-visit-2
 add-visit-2 c =
     omega (
       arith,
-      step-facts _ _ _ _ _ _ _ _ _ _ _ _
+      step-facts _ _ _ _ _ _ _ _ _ _ _
           (c .before .before .before .before .before .before .before .before .before .before .before .pre),
     )
 
@@ -68,32 +68,19 @@ add-visit-3 : tie.Need-add-visit-3
 add-visit-3 c =
     omega (
       arith,
-      step-facts _ _ _ _ _ _ _ _ _ _ _ _
+      step-facts _ _ _ _ _ _ _ _ _ _ _
           (c .before .before .before .before .before .before .before .before .before .before .before .pre),
-    )
-
-add-visit-4 : tie.Need-add-visit-4
-add-visit-4 c =
-    omega (
-      arith,
-      step-facts _ _ _ _ _ _ _ _ _ _ _ _
-          (c .before .before .before .before .before .before .before .before .before .before .before .before .pre),
     )
 
 visit-requires : tie.Need-visit-requires
 visit-requires c κs = (
-  step-visit-ok _ _ _ _ _ _ _ _ _ _ _ _
-      (c .before .before .before .before .before .before .before .before .before .before .before .before .pre) _ _
-      (c .before .before .before .before .before .before .before .if1 .taken) (c .before .before .before .if2 .taken),
+  step-visit-ok _ _ _ _ _ _ _ _ _ _ _
+      (c .before .before .before .before .before .before .before .before .before .before .before .pre) _ _
+      (c .before .before .before .before .before .before .if1 .taken) (c .before .before .if2 .taken),
   omega (
     arith,
-    step-facts _ _ _ _ _ _ _ _ _ _ _ _
-        (c .before .before .before .before .before .before .before .before .before .before .before .before .pre),
-  ),
-  omega (
-    arith,
-    step-facts _ _ _ _ _ _ _ _ _ _ _ _
-        (c .before .before .before .before .before .before .before .before .before .before .before .before .pre),
+    step-facts _ _ _ _ _ _ _ _ _ _ _
+        (c .before .before .before .before .before .before .before .before .before .before .before .pre),
   ),
 )
 
@@ -102,21 +89,21 @@ same-length c = c .before .before .visit .kept .0
 
 returns : tie.Need-returns
 returns c =
-    step-both _ _ _ _ _ _ _ _ _ _ _ _
-    (c .before .before .before .before .before .before .before .before .before .before .before .before .before .before .before .pre) _ _ _
-    (c .before .before .before .before .before .before .before .before .before .before .before .wide .ensures)
-    (c .before .before .before .before .before .before .before .wide2 .ensures)
-    (c .before .before .before .before .before .before .before .before .before .before .if1 .taken)
-    (c .before .before .before .before .before .before .if2 .taken) (c .before .before .visit .ensures)
+    step-both _ _ _ _ _ _ _ _ _ _ _
+    (c .before .before .before .before .before .before .before .before .before .before .before .before .before .before .pre) _ _ _
+    (c .before .before .before .before .before .before .before .before .before .before .wide .ensures)
+    (c .before .before .before .before .before .before .wide2 .ensures)
+    (c .before .before .before .before .before .before .before .before .before .if1 .taken)
+    (c .before .before .before .before .before .if2 .taken) (c .before .before .visit .ensures)
 
 returns-2 : tie.Need-returns-2
 returns-2 c =
-    step-second _ _ _ _ _ _ _ _ _ _ _ _ (c .before .before .before .before .before .before .before .before .before .pre) _
+    step-second _ _ _ _ _ _ _ _ _ _ _ (c .before .before .before .before .before .before .before .before .before .pre) _
     (c .before .wide2 .ensures) (c .if2 .left)
 
 returns-3 : tie.Need-returns-3
 returns-3 c =
-    step-first _ _ _ _ _ _ _ _ _ _ _ _ (c .before .before .before .before .before .pre) _ (c .before .wide .ensures) (c .if1 .left)
+    step-first _ _ _ _ _ _ _ _ _ _ _ (c .before .before .before .before .before .pre) _ (c .before .wide .ensures) (c .if1 .left)
 
 pub step-spec : {M : Type 1} → statement M
 step-spec =
@@ -135,7 +122,6 @@ step-spec =
     mul-visit-2
     add-visit-2
     add-visit-3
-    add-visit-4
     visit-requires
     same-length
     returns

@@ -1,4 +1,4 @@
--- `entries::visit`: the three words of a new entry, or nothing.
+-- `entries::visit`: the two words of a new entry, or nothing.
 use mathlib.Core.Path.{_∙_}
 use native.Mathlib.Omega.{arith}
 use lib.ListN.{length-set}
@@ -28,39 +28,27 @@ mul-work c = omega arith
 slice-write-work : tie.Need-slice-write-work
 slice-write-work c = omega arith
 
-set-dist-requires : tie.Need-set-dist-requires
-set-dist-requires c κs = (omega arith, simp length-set (omega arith), omega arith)
-
 cast-work-2 : tie.Need-cast-work-2
 cast-work-2 c = omega arith
 
 mul-work-2 : tie.Need-mul-work-2
 unfolding linkAt
-mul-work-2 c =
-    omega (arith, c .before .before .before .before .before .before .before .pre .0 .free (c .before .before .before .before .if1 .taken))
+mul-work-2 c = omega (arith, c .before .before .pre .0 .free (c .if1 .taken))
 
 slice-write-work-2 : tie.Need-slice-write-work-2
 unfolding linkAt
-slice-write-work-2 c =
-    omega (
-      arith,
-      c .before .before .before .before .before .before .before .pre .0 .free (c .before .before .before .before .if1 .taken),
-      simp length-set at (c .before .before .set-dist .kept .0),
-    )
+slice-write-work-2 c = simp length-set (omega (arith, c .before .before .pre .0 .free (c .if1 .taken)))
 
 add-result : tie.Need-add-result
 unfolding linkAt
-add-result c =
-    omega (arith, c .before .before .before .before .before .before .before .pre .0 .free (c .before .before .before .before .if1 .taken))
+add-result c = omega (arith, c .before .before .pre .0 .free (c .if1 .taken))
 
 same-length : tie.Need-same-length
-same-length c =
-    let a = c .before .before .before .before .before .before .before .args in
-    length-set (c .before .before .set-dist .last .0) (a .tail) (a .node) ∙ (simp length-set at (c .before .before .set-dist .kept .0))
+same-length c = simp length-set
 
 returns : tie.Need-returns
 unfolding visited linkAt
-returns c = rw (eq-eqb _ _ (c .before .before .before .before .if1 .taken), c .before .before .set-dist .ensures)
+returns c = rw (eq-eqb _ _ (c .if1 .taken))
 
 returns-2 : tie.Need-returns-2
 unfolding visited linkAt
@@ -77,7 +65,6 @@ visit-spec =
     add-work
     mul-work
     slice-write-work
-    set-dist-requires
     cast-work-2
     mul-work-2
     slice-write-work-2

@@ -10,37 +10,28 @@ use Rattle.queue.proofs.scan.Statement.{statement}
 use Rattle.queue.proofs.scan.Tie as tie
 
 abbrev Inv-loop : tie.InvT-loop
-Inv-loop a b p q e work₀ n tail place node dist at t₀ k₀ work t k =
-    (k ≤ e) × (st t work ≡ scanned (tablePairs a b p q e) (at .place) (at .reference * q + at .device) (at .distance) k (st t₀ work₀)) ×
+Inv-loop a b p q e work₀ n tail place at t₀ k₀ work t k =
+    (k ≤ e) × (st t work ≡ scanned (tablePairs a b p q e) (at .place) (at .reference * q + at .device) k (st t₀ work₀)) ×
     (length work ≡ length work₀)
 
 abbrev μ-loop : tie.MeasureT-loop
-μ-loop a b p q e work₀ n tail place node dist at t₀ k₀ work t k = e - k
+μ-loop a b p q e work₀ n tail place at t₀ k₀ work t k = e - k
 
-node-at-requires : tie.Need-node-at-requires Inv-loop μ-loop
-node-at-requires c κs = omega (arith, scan-seat _ _ _ _ _ _ _ _ (c .before .before .pre))
-
-dist-at-requires : tie.Need-dist-at-requires Inv-loop μ-loop
-dist-at-requires c κs = (
-  omega (arith, scan-seat _ _ _ _ _ _ _ _ (c .before .before .before .before .pre)),
-  omega
-      (arith, scan-seat _ _ _ _ _ _ _ _ (c .before .before .before .before .pre), c .before .node-at .ensures),
-)
-
-div-t19 : tie.Need-div-t19 Inv-loop μ-loop
-div-t19 c = omega (arith, c .before .before .before .before .before .pre .sizes .some-q)
-
-rem-t20 : tie.Need-rem-t20 Inv-loop μ-loop
-rem-t20 c = omega (arith, c .before .before .before .before .before .pre .sizes .some-q)
+entry-at-requires : tie.Need-entry-at-requires Inv-loop μ-loop
+entry-at-requires c κs =
+    let o = c .before .before .pre in
+    let s = scan-seat _ _ _ _ _ _ _ _ o in
+    (omega (arith, s), omega (arith, s), o .sizes .some-q, o .sizes .columns)
 
 loop-holds : tie.Need-loop-holds Inv-loop μ-loop
-loop-holds c = (omega arith, scan-none _ _ _ _ _, refl)
+loop-holds c = (omega arith, scan-none _ _ _ _, refl)
 
 step-requires : tie.Need-step-requires Inv-loop μ-loop
 step-requires c κs =
-    scan-step-ok _ _ _ _ _ _ _ _ (c .before .before .before .before .before .before .before .before .pre) _ _
-    (c .before .before .before .before .before .node-at .ensures) (c .before .before .before .dist-at .ensures) _ _
-    (c .before .loop-test .taken) (c .before .before .loop .inv .1)
+    let at = c .before .before .before .entry-at .ensures in
+    rw (at .0)
+    (scan-step-ok _ _ _ _ _ _ _ _ (c .before .before .before .before .before .before .pre) _ _ (at .1) (at .2) _ _ (c .before .loop-test .taken)
+    (rw (at .0) at (c .before .before .loop .inv .1)))
 
 add-k : tie.Need-add-k Inv-loop μ-loop
 add-k c = omega arith
@@ -51,7 +42,7 @@ loop-less c = omega arith
 loop-again : tie.Need-loop-again Inv-loop μ-loop
 loop-again c = (
   omega arith,
-  scan-next _ _ _ _ _ _ _ _ (c .before .before .before .before .before .loop .inv .1) (c .before .before .step .ensures),
+  scan-next _ _ _ _ _ _ _ (c .before .before .before .before .before .loop .inv .1) (c .before .before .step .ensures),
   c .before .before .step .kept .1 .1 .1 .1 .1 .0 ∙ c .before .before .before .before .before .loop .inv .2,
 )
 
@@ -60,9 +51,9 @@ same-length c = c .before .loop .inv .2
 
 returns : tie.Need-returns Inv-loop μ-loop
 returns c =
-    let i : c .before .loop .k ≡ c .before .before .before .before .before .before .before .args .e = omega arith in
-    scan-end _ _ _ _ _ _ _ _ (c .before .before .before .before .before .before .before .pre) _ _
-    (c .before .before .before .before .node-at .ensures) (c .before .before .dist-at .ensures) _ _ (rw i at (c .before .loop .inv .1))
+    let i : c .before .loop .k ≡ c .before .before .before .before .before .args .e = omega arith in
+    let at = c .before .before .entry-at .ensures in
+    scan-end _ _ _ _ _ _ _ _ (c .before .before .before .before .before .pre) _ _ (at .1) (at .2) _ _ (rw (i, at .0) at (c .before .loop .inv .1))
 
 pub scan-spec : {M : Type 1} → statement M
 scan-spec =
@@ -70,10 +61,7 @@ scan-spec =
     (tie.spec
     Inv-loop
     μ-loop
-    node-at-requires
-    dist-at-requires
-    div-t19
-    rem-t20
+    entry-at-requires
     loop-holds
     step-requires
     add-k

@@ -1,23 +1,24 @@
 -- `run_lists::holding`. After i turns the count is at most i.
 use Prim.Native.Nat.{_-_, _≤_}
 use native.Mathlib.Omega.{arith}
+use lib.ListN.{length}
 use Rattle.run_lists.proofs.holding.Statement.{statement}
 use Rattle.run_lists.proofs.holding.Tie as tie
 
 abbrev Inv-loop : tie.InvT-loop
-Inv-loop x list count₀ i₀ count i = (count ≤ i) × (i ≤ 128)
+Inv-loop list x count₀ i₀ i-end count i = (count ≤ i) × (i ≤ length list)
 
 abbrev μ-loop : tie.MeasureT-loop
-μ-loop x list count₀ i₀ count i = 128 - i
+μ-loop list x count₀ i₀ i-end count i = length list - i
 
 loop-holds : tie.Need-loop-holds Inv-loop μ-loop
 loop-holds c = omega arith
 
-mul-y : tie.Need-mul-y Inv-loop μ-loop
-mul-y c = omega arith
+mul-alike : tie.Need-mul-alike Inv-loop μ-loop
+mul-alike c = omega arith
 
-array-read-y : tie.Need-array-read-y Inv-loop μ-loop
-array-read-y c = omega arith
+shared-slice-read-alike : tie.Need-shared-slice-read-alike Inv-loop μ-loop
+shared-slice-read-alike c = omega arith
 
 alike-requires : tie.Need-alike-requires Inv-loop μ-loop
 alike-requires c κs = tt
@@ -44,8 +45,8 @@ holding-spec =
     Inv-loop
     μ-loop
     loop-holds
-    mul-y
-    array-read-y
+    mul-alike
+    shared-slice-read-alike
     alike-requires
     add-count
     add-i

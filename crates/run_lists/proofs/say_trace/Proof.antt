@@ -1,20 +1,21 @@
--- `run_lists::say_trace` goes over 128 places.
+-- `run_lists::say_trace` goes over the list once.
 use Prim.Native.Nat.{_-_, _≤_}
 use native.Mathlib.Omega.{arith}
+use lib.ListN.{length}
 use Rattle.run_lists.proofs.say_trace.Statement.{statement}
 use Rattle.run_lists.proofs.say_trace.Tie as tie
 
 abbrev Inv-loop : tie.InvT-loop
-Inv-loop trace i₀ i = i ≤ 128
+Inv-loop trace i₀ i-end i = i ≤ length trace
 
 abbrev μ-loop : tie.MeasureT-loop
-μ-loop trace i₀ i = 128 - i
+μ-loop trace i₀ i-end i = length trace - i
 
 loop-holds : tie.Need-loop-holds Inv-loop μ-loop
 loop-holds c = omega arith
 
-array-read-x : tie.Need-array-read-x Inv-loop μ-loop
-array-read-x c = omega arith
+shared-slice-read-say-event : tie.Need-shared-slice-read-say-event Inv-loop μ-loop
+shared-slice-read-say-event c = omega arith
 
 say-event-requires : tie.Need-say-event-requires Inv-loop μ-loop
 say-event-requires c κs = tt
@@ -38,7 +39,7 @@ say-trace-spec =
     Inv-loop
     μ-loop
     loop-holds
-    array-read-x
+    shared-slice-read-say-event
     say-event-requires
     add-i
     loop-less

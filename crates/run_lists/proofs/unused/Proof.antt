@@ -1,24 +1,24 @@
 -- `run_lists::unused`. After i turns the count is at most i.
 use Prim.Native.Nat.{_-_, _≤_}
 use native.Mathlib.Omega.{arith}
-use borrow.Author.Needs.{needs}
+use lib.ListN.{length}
 use Rattle.run_lists.proofs.unused.Statement.{statement}
 use Rattle.run_lists.proofs.unused.Tie as tie
 
 abbrev Inv-loop : tie.InvT-loop
-Inv-loop trace count₀ i₀ count i = (count ≤ i) × (i ≤ 128)
+Inv-loop trace count₀ i₀ i-end count i = (count ≤ i) × (i ≤ length trace)
 
 abbrev μ-loop : tie.MeasureT-loop
-μ-loop trace count₀ i₀ count i = 128 - i
+μ-loop trace count₀ i₀ i-end count i = length trace - i
 
 loop-holds : tie.Need-loop-holds Inv-loop μ-loop
 loop-holds c = omega arith
 
-array-read-x : tie.Need-array-read-x Inv-loop μ-loop
-array-read-x c = omega arith
+shared-slice-read-x : tie.Need-shared-slice-read-x Inv-loop μ-loop
+shared-slice-read-x c = omega arith
 
 cast-alike : tie.Need-cast-alike Inv-loop μ-loop
-cast-alike c = search needs
+cast-alike c = omega (arith, c .shared-slice-known2 .given (c .before .before .loop .i))
 
 alike-requires : tie.Need-alike-requires Inv-loop μ-loop
 alike-requires c κs = tt
@@ -45,7 +45,7 @@ unused-spec =
     Inv-loop
     μ-loop
     loop-holds
-    array-read-x
+    shared-slice-read-x
     cast-alike
     alike-requires
     add-count

@@ -7,54 +7,26 @@ use Rattle.search.proofs.settle.Tie as tie
 node-at-requires : tie.Need-node-at-requires
 node-at-requires c κs = omega (arith, c .before .before .before .before .pre .1 .some (c .if1 .taken))
 
-dist-at-requires : tie.Need-dist-at-requires
-dist-at-requires c κs = (
-  omega (arith, c .before .before .before .before .before .pre .1 .some (c .before .if1 .taken)),
-  omega
-      (arith, c .before .before .before .before .before .pre .1 .some (c .before .if1 .taken), c .node-at .ensures),
-)
-
-level-start-requires : tie.Need-level-start-requires
-level-start-requires c κs = c .before .before .before .before .before .before .pre .1 .level
-
 write-trace-requires : tie.Need-write-trace-requires
 write-trace-requires c κs =
-    let o = c .before .before .before .before .before .before .before .before .pre .1 in
-    let l = c .before .before .before .before .if1 .taken in (
-      o .entries,
-      rw (c .before .before .dist-at .ensures, c .before .before .before .node-at .ensures) (o .links l),
-      rw (c .before .before .dist-at .ensures, c .before .before .before .node-at .ensures) (omega (arith, o .some l)),
-      rw (c .before .before .dist-at .ensures, c .before .before .before .node-at .ensures) (o .fits l),
-    )
+    let o = c .before .before .before .before .before .before .pre .1 in
+    let l = c .before .before .if1 .taken in
+    (o .back l, o .fits l)
 
-div-t13 : tie.Need-div-t13
-div-t13 c = omega (arith, c .before .before .before .before .before .before .before .before .before .before .before .pre .0)
+div-t11 : tie.Need-div-t11
+div-t11 c = omega (arith, c .before .before .before .before .before .before .before .before .before .pre .0)
 
-rem-t14 : tie.Need-rem-t14
-rem-t14 c = omega (arith, c .before .before .before .before .before .before .before .before .before .before .before .pre .0)
+rem-t12 : tie.Need-rem-t12
+rem-t12 c = omega (arith, c .before .before .before .before .before .before .before .before .before .pre .0)
 
 same-length : tie.Need-same-length
-same-length c = c .before .before .write-trace .kept .1 .1 .1 .1 .1 .0
+same-length c = c .before .before .write-trace .kept .1 .1 .1 .1 .0
 
 returns : tie.Need-returns
-returns c =
-    settle-bad _ _ _ _ _ _ _ _ _ _ (c .before .before .before .before .before .before .before .if1 .taken)
-    (c .before .before .before .before .before .before .node-at .ensures) (c .before .before .before .before .before .dist-at .ensures)
-    (c .before .before .before .before .level-start .ensures) (c .before .before .write-trace .ensures)
+returns c = settle-bad _ _ _ _ _ _ _ _ _ _ (c .before .before .before .before .before .if1 .taken) (c .before .before .before .before .node-at .ensures) (c .before .before .write-trace .ensures)
 
 returns-2 : tie.Need-returns-2
-returns-2 c = settle-clear _ _ _ _ _ _ (c .if1 .left)
+returns-2 c = settle-clear _ _ _ _ _ _ _ _ (c .if1 .left)
 
 pub settle-spec : {M : Type 1} → statement M
-settle-spec =
-    tie.close
-    (tie.spec
-    node-at-requires
-    dist-at-requires
-    level-start-requires
-    write-trace-requires
-    div-t13
-    rem-t14
-    same-length
-    returns
-    returns-2)
+settle-spec = tie.close (tie.spec node-at-requires write-trace-requires div-t11 rem-t12 same-length returns returns-2)

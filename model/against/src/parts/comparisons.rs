@@ -1,9 +1,11 @@
 //! Comparisons: pairs that refine and that do not, near and far, both kinds, with work and
-//! trace lists of every length around the limits, and sheets that are refused.
+//! trace lists of every length around the limits, work lists whose later words are left, and
+//! sheets that are refused.
 
+use model::comparison::{MAX_WORDS, WORDS_A_PAIR};
 use model::numbers::{compare_numbers, compared, Compared};
 use model::planted::comparisons::{compare_with, CompareFault};
-use model::random::{deep_pair, pair, random_sheet, small_pair, Rng};
+use model::random::{deep_pair, length_around, pair, random_sheet, small_pair, work_length, Rng};
 use model::sheet::{check, Sheet};
 
 use super::{bad_sheet, catch, count_sheets, flag, names, shown_sheet, KEPT};
@@ -21,6 +23,8 @@ const STRAYS: &str = "strays at d 0 (0), 1 to 9 (1), 10 to 99 (2), 100 and more 
 const REFUSALS: &str = "refusals at d 0 (0), 1 to 9 (1), 10 to 99 (2), 100 and more (3)";
 const TRACES: &str = "trace-only strays at d 0 (0), 1 to 9 (1), 10 to 99 (2), 100 and more (3)";
 const WORK: &str = "work lists 0 none, 1 one short, 2 exact, 3 one more, 4 longer, 5 shorter";
+const LATER: &str =
+    "answered, work lists of 2 p q words (0), up to 3 p q - 2 (1), 3 p q - 1 (2), 3 p q (3), more (4)";
 const TRACE: &str = "trace lists 0 none, 1 one short, 2 exact, 3 one more, 4 longer, 5 shorter";
 
 pub const PART: Part = Part {
@@ -43,6 +47,7 @@ fn findings() -> Findings {
         (REFUSALS, vec![0, 1, 2, 3]),
         (TRACES, vec![0, 1, 2, 3]),
         (WORK, (0..=5).collect()),
+        (LATER, (0..=4).collect()),
         (TRACE, (0..=5).collect()),
     ];
     Findings::new(groups, names(CompareFault::ALL))
@@ -59,7 +64,7 @@ fn round(rng: &mut Rng, round: u64, findings: &mut Findings) {
     findings.count(PAIRS, 1);
     let trace_only = rng.one_in(3);
     let pairs = reference.n as usize * device.n as usize;
-    let (words, places) = (3 * pairs, pairs - 1);
+    let (words, places) = (WORDS_A_PAIR * pairs, pairs - 1);
     let more = (rng.below(9), rng.below(9));
     try_compare(
         rng,
@@ -69,9 +74,9 @@ fn round(rng: &mut Rng, round: u64, findings: &mut Findings) {
         (words + more.0, places + more.1),
     );
     let lengths = match rng.below(4) {
-        0 => (around(rng, words), places),
-        1 => (words, around(rng, places)),
-        2 => (around(rng, words), around(rng, places)),
+        0 => (work_length(rng, pairs), places),
+        1 => (words, length_around(rng, places)),
+        2 => (work_length(rng, pairs), length_around(rng, places)),
         _ => (words, places),
     };
     try_compare(rng, findings, (&reference, &device), trace_only, lengths);
@@ -82,20 +87,8 @@ fn round(rng: &mut Rng, round: u64, findings: &mut Findings) {
         2 => (first, second) = (bad_sheet(rng), bad_sheet(rng)),
         _ => second = random_sheet(rng),
     }
-    let lengths = rng.pick(&[(0, 0), (3_072, 1_023), (words, places)]);
+    let lengths = rng.pick(&[(0, 0), (MAX_WORDS, 1_023), (words, places)]);
     try_compare(rng, findings, (&first, &second), trace_only, lengths);
-}
-
-/// A length around a limit.
-fn around(rng: &mut Rng, limit: usize) -> usize {
-    match rng.below(6) {
-        0 => 0,
-        1 => limit.saturating_sub(1),
-        2 => limit,
-        3 => limit + 1,
-        4 => limit + rng.range(2, 20),
-        _ => rng.below(limit + 1),
-    }
 }
 
 /// The class of a length beside its limit.
@@ -107,6 +100,17 @@ fn class(length: usize, limit: usize) -> u64 {
         _ if length == limit + 1 => 3,
         _ if length > limit => 4,
         _ => 5,
+    }
+}
+
+/// The class of the words after the first 2·p·q, which an answered comparison leaves.
+fn later(left: usize, pairs: usize) -> u64 {
+    match left {
+        0 => 0,
+        _ if left + 1 < pairs => 1,
+        _ if left + 1 == pairs => 2,
+        _ if left == pairs => 3,
+        _ => 4,
     }
 }
 
@@ -161,14 +165,28 @@ fn try_compare(
     count_sheets(findings, [MINE, THEIRS, BOTH], reference, device);
     if check(reference) == 0 && check(device) == 0 && reference.e == device.e {
         let pairs = reference.n as usize * device.n as usize;
-        findings.count(WORK, class(words, 3 * pairs));
-        findings.count(TRACE, class(places, pairs - 1));
+        count_lists(findings, pairs, (words, places), model.refusal);
     }
     catch(findings, CompareFault::ALL, |fault| {
         let (mut work, mut list) = (work.clone(), list.clone());
         let other = compare_with(fault, reference, device, trace_only, &mut work, &mut list);
         compared(&other) != ours || work != ours_work || list != ours_list
     });
+}
+
+/// Counts the lengths of the lists that two accepted sheets with equal events were compared on.
+fn count_lists(
+    findings: &mut Findings,
+    pairs: usize,
+    (words, places): (usize, usize),
+    refusal: u8,
+) {
+    let limit = WORDS_A_PAIR * pairs;
+    findings.count(WORK, class(words, limit));
+    findings.count(TRACE, class(places, pairs - 1));
+    if refusal == 0 {
+        findings.count(LATER, later(words - limit, pairs));
+    }
 }
 
 fn count(findings: &mut Findings, answer: &Compared, trace_only: bool) {

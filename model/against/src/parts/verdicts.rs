@@ -1,7 +1,7 @@
 //! Verdicts: every test below p·q on small pairs, chosen tests on large ones, both kinds,
 //! and sheets and test numbers that are refused.
 
-use model::comparison::{compare, Outcome};
+use model::comparison::{compare, Outcome, MAX_WORDS};
 use model::numbers::{judge_numbers, judged};
 use model::planted::verdicts::{verdict_with, VerdictFault};
 use model::random::{deep_pair, pair, random_sheet, small_pair, Rng};
@@ -74,7 +74,8 @@ fn chosen(rng: &mut Rng, reference: &Sheet, device: &Sheet, trace_only: bool) ->
     if rng.one_in(4) {
         numbers.push(MAX_TEST);
     }
-    if let Ok(Outcome::Violates { d, .. }) = compare(reference, device, trace_only, 3_072, 1_023) {
+    let outcome = compare(reference, device, trace_only, MAX_WORDS, 1_023);
+    if let Ok(Outcome::Violates { d, .. }) = outcome {
         numbers.extend([d.saturating_sub(1), d, d + 1]);
     }
     numbers.retain(|&k| k <= MAX_TEST);

@@ -3,6 +3,7 @@
 
 use std::hint::black_box;
 
+use model::comparison::{MAX_WORDS, WORDS_A_PAIR};
 use model::numbers::Record;
 use model::sheet::{encode, Sheet, MAX_BYTES};
 use model::tests::MAX_TEST;
@@ -47,7 +48,7 @@ pub fn worst() -> Vec<Case> {
     cases.push(comparison("refining", reference, device));
     let (reference, device) = longest(32);
     cases.push(verdict("violating, d 1023", reference, device, MAX_TEST));
-    let last = same::compare((&reference, &device), 0, (3_072, 1_023));
+    let last = same::compare((&reference, &device), 0, (MAX_WORDS, 1_023));
     assert_eq!((last.kind, last.d, last.cleared), (2, 1_023, 1_023));
     cases.push(comparison("violating, d 1023", reference, device));
     cases
@@ -185,9 +186,10 @@ fn suite(case: &str, reference: Sheet, device: Sheet) -> Case {
 fn comparison(case: &str, reference: Sheet, device: Sheet) -> Case {
     let (p, q) = (reference.n, device.n);
     let pairs = p as usize * q as usize;
-    same::compare((&reference, &device), 0, (3 * pairs, pairs - 1));
+    let (words, places) = (WORDS_A_PAIR * pairs, pairs - 1);
+    same::compare((&reference, &device), 0, (words, places));
     let (mine, theirs) = (Tables::of(&reference), Tables::of(&device));
-    let (mut work, mut trace) = (vec![0; 3 * pairs], vec![0; pairs - 1]);
+    let (mut work, mut trace) = (vec![0; words], vec![0; places]);
     let (mut other_work, mut other_trace) = (work.clone(), trace.clone());
     let ours = move || edge::compare(black_box(&reference), &device, 0, &mut work, &mut trace);
     let plain = move || {

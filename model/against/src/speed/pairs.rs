@@ -1,5 +1,6 @@
 //! Verdicts and comparisons over flat tables.
 
+use model::comparison::WORDS_A_PAIR;
 use model::numbers::{Compared, Said, Suited};
 use model::sheet::{MAX_EVENTS, MAX_NODES, NO_NODE};
 
@@ -221,14 +222,14 @@ pub fn compare(
 ) -> Compared {
     let pairs = reference.n as usize * device.n as usize;
     let refusal = match pair_fault(reference, device) {
-        0 if work.len() < 3 * pairs => 12,
+        0 if work.len() < WORDS_A_PAIR * pairs => 12,
         0 if trace.len() + 1 < pairs => 13,
         number => number,
     };
     if refusal != 0 {
         return answer(refusal, 0, 0, 0);
     }
-    work[..3 * pairs].fill(0);
+    work[..WORDS_A_PAIR * pairs].fill(0);
     let mine: [u16; MAX_NODES] = initials(reference);
     let theirs: [u16; MAX_NODES] = initials(device);
     let mut search = Search::new();

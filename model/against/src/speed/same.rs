@@ -1,6 +1,7 @@
 //! The library and plain Rust on the same inputs: each answer and the contents of each lent
 //! list must be equal. A difference ends the program.
 
+use model::comparison::WORDS_A_PAIR;
 use model::numbers::{Compared, Record};
 use model::random::{
     damaged, deep_pair, kept, kept_twice, pair, random_record, random_sheet, Rng, AIMS_KEPT,
@@ -132,7 +133,8 @@ fn two_sheets(rng: &mut Rng, reference: &Sheet, device: &Sheet) {
     judge(reference, device, k.min(65_535) as u16, traces);
     let length = rng.pick(&[pairs, pairs + 3, pairs.saturating_sub(1)]);
     judge_all(reference, device, traces, length);
-    let words = rng.pick(&[3 * pairs, 3 * pairs + 1, (3 * pairs).saturating_sub(1)]);
+    let words = WORDS_A_PAIR * pairs;
+    let words = rng.pick(&[words, words + 1, words.saturating_sub(1), words + pairs]);
     let places = rng.pick(&[pairs, pairs.saturating_sub(1), pairs.saturating_sub(2)]);
     compare((reference, device), traces, (words, places));
 }
