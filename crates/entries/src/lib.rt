@@ -1,6 +1,7 @@
 // The entries of a search's work list: they are read, and the pair that an event of one leads to becomes a new one. With n pairs the
 // work list has n words for the queue of the pairs reached and n for each pair's link: 0 while it has not been reached, 1 at the start,
-// else 12 times the entry that led to it, the event, and 2. No word has a pair's distance: the queue counts its levels.
+// else 16 times the entry that led to it, the event, and 2 (16 is above every event, and a link is taken apart by shifts). No word has a
+// pair's distance: the queue counts its levels.
 ghost use mathlib.Core.Path.{_≡_};
 ghost use Prim.Native.Nat.{_+_, _*_, _≤_, _<_};
 ghost use lib.ListN.{length};
@@ -58,7 +59,7 @@ pub fn step(
     if r < p {
         let d = base::wide(b[at.device * 12 + k]);
         if d < q {
-            return visit(work, n, tail, r * q + d, at.place * 12 + k + 2);
+            return visit(work, n, tail, r * q + d, at.place * 16 + k + 2);
         }
     }
     tail

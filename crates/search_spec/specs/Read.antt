@@ -28,7 +28,7 @@ use Rattle.search_spec.specs.Steps.{Sizes, pairs-size, small-product, Ru
 unfoldable pub Deep : ℕ → List ℕ → ℕ → ℕ → Type 0
 Deep n w x zero = Unit {0}
 Deep n w x (suc d) =
-    (x < n) × (nodeAt w x < n) × (2 ≤ linkAt n w (nodeAt w x)) × Deep n w ((linkAt n w (nodeAt w x) - 2) / 12) d
+    (x < n) × (nodeAt w x < n) × (2 ≤ linkAt n w (nodeAt w x)) × Deep n w ((linkAt n w (nodeAt w x) - 2) / 16) d
 
 -- what reading d links back from entry x asks
 pub record BackOk (n : ℕ) (w : List ℕ) (x d : ℕ) : Type 0 where
@@ -41,7 +41,7 @@ pub record BackOk (n : ℕ) (w : List ℕ) (x d : ℕ) : Type 0 where
 pub record Link (n : ℕ) (w : List ℕ) (x d : ℕ) : Type 0 where
   pub seat : Seat n x w
   pub link : 2 ≤ linkAt n w (nodeAt w x)
-  pub rest : BackOk n w ((linkAt n w (nodeAt w x) - 2) / 12) (d - 1)
+  pub rest : BackOk n w ((linkAt n w (nodeAt w x) - 2) / 16) (d - 1)
 
 module _ (n : ℕ) (w : List ℕ) (x : ℕ) where
   -- where links are left, one can be followed
@@ -60,13 +60,13 @@ module _ (n : ℕ) (w : List ℕ) (x : ℕ) where
   deep-none = tt
 
   -- one link more
-  deep-more : (d j : ℕ) → x < n → nodeAt w x < n → 2 ≤ linkAt n w (nodeAt w x) → (linkAt n w (nodeAt w x) - 2) / 12 ≡ j → Deep n w j d → Deep n w x (suc d)
+  deep-more : (d j : ℕ) → x < n → nodeAt w x < n → 2 ≤ linkAt n w (nodeAt w x) → (linkAt n w (nodeAt w x) - 2) / 16 ≡ j → Deep n w j d → Deep n w x (suc d)
   unfolding Deep
   deep-more d j a b c e D = (a, b, c, rw e D)
 
 module _ (N K : ℕ → ℕ) (x : ℕ) where
   -- the last event is the one of the entry's own link
-  read-open : (d : ℕ) → d ≢ 0 → readBack N K d x ≡ readBack N K (d - 1) ((K (N x) - 2) / 12) ++ ((K (N x) - 2) % 12 ∷ [])
+  read-open : (d : ℕ) → d ≢ 0 → readBack N K d x ≡ readBack N K (d - 1) ((K (N x) - 2) / 16) ++ ((K (N x) - 2) % 16 ∷ [])
   unfolding readBack
   read-open zero ne = absurd (ne refl)
   read-open (suc d) ne = let e : suc d - 1 ≡ d = omega arith in rw e
@@ -78,20 +78,20 @@ module _ (N K : ℕ → ℕ) (x : ℕ) where
 
   -- the last event goes to the place before the rest of the list, and what leads there in front of it
   pub read-more : (d link : ℕ) (o o′ : List ℕ) → d ≢ 0 → d ≤ length o → link ≡ K (N x)
-      → o′ ≡ readBack N K (d - 1) ((link - 2) / 12) ++ drop (d - 1) (set o (d - 1) ((link - 2) % 12))
+      → o′ ≡ readBack N K (d - 1) ((link - 2) / 16) ++ drop (d - 1) (set o (d - 1) ((link - 2) % 16))
       → o′ ≡ readBack N K d x ++ drop d o
   read-more d link o o′ ne l c e =
-      let i = (link - 2) % 12 in
+      let i = (link - 2) % 16 in
       let q : suc (d - 1) ≡ d = omega (arith, ne) in
       let b : d - 1 < length o = omega (arith, ne) in
-      let p = readBack N K (d - 1) ((link - 2) / 12) in
+      let p = readBack N K (d - 1) ((link - 2) / 16) in
       let tail : drop (d - 1) (set o (d - 1) i) ≡ i ∷ drop d o =
       drop-cons (set o (d - 1) i) (d - 1) 0 (omega (arith, length-set o (d - 1) i))
       ∙ ap (λ (y : ℕ). y ∷ drop (suc (d - 1)) (set o (d - 1) i)) (getD-set-same o (d - 1) i 0 b)
       ∙ ap (λ (r : List ℕ). i ∷ r) (drop-set-lt (suc (d - 1)) o (d - 1) i (omega arith) ∙ ap (λ (y : ℕ). drop y o) q)
       in
       let whole : p ++ (i ∷ []) ≡ readBack N K d x =
-      ap (λ (y : ℕ). readBack N K (d - 1) ((y - 2) / 12) ++ ((y - 2) % 12 ∷ [])) c ∙ sym (read-open d ne)
+      ap (λ (y : ℕ). readBack N K (d - 1) ((y - 2) / 16) ++ ((y - 2) % 16 ∷ [])) c ∙ sym (read-open d ne)
       in
       e ∙ ap (λ (r : List ℕ). p ++ r) tail ∙ sym (append-snoc p i (drop d o)) ∙ ap (λ (r : List ℕ). r ++ drop d o) whole
 

@@ -167,7 +167,7 @@ module _ (a b : List ℕ) (p q e n : ℕ) where
 
     -- both tables have a successor
     pub step-both : (x y : ℕ) (s′ : St) → x ≡ getD a (row * 12 + k) 0 → y ≡ getD b (column * 12 + k) 0 → x < p → y < q
-        → s′ ≡ visited n (x * q + y) (place * 12 + k + 2) s → s′ ≡ tried G place (row * q + column) k s
+        → s′ ≡ visited n (x * q + y) (place * 16 + k + 2) s → s′ ≡ tried G place (row * q + column) k s
     unfolding tried
     step-both x y s′ u v h l c =
         let m = pairs-size (o .sizes) in

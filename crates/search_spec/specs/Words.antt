@@ -45,7 +45,7 @@ visited n v m s = cond (eqb (linkAt n (s .work) v) 0) (st (s .tail + 1) (set (se
 
 -- Event k of entry h, the node v, is tried.
 unfoldable pub tried : Graph → ℕ → ℕ → ℕ → St → St
-tried g h v k s = cond (ltb (g .next v k) (g .size)) (visited (g .size) (g .next v k) (h * 12 + k + 2) s) s
+tried g h v k s = cond (ltb (g .next v k) (g .size)) (visited (g .size) (g .next v k) (h * 16 + k + 2) s) s
 
 -- Its first k events are tried.
 unfoldable pub scanned : Graph → ℕ → ℕ → ℕ → St → St
@@ -178,12 +178,12 @@ module _ (g : Graph) (D : ℕ → ℕ) (h k : ℕ) (s : St) (r : Running g D h k
   }
 
   -- the node is visited
-  visit-kept : v < n → Stepped g D d h (suc k) s (visited n v (h * 12 + k + 2) s)
+  visit-kept : v < n → Stepped g D d h (suc k) s (visited n v (h * 16 + k + 2) s)
   unfolding visited
   visit-kept l = go (eq-zero-or-pos (linkAt n (s .work) v))
     where
       m : ℕ
-      m = h * 12 + k + 2
+      m = h * 16 + k + 2
 
       w′ : List ℕ
       w′ = set (set (s .work) (n + v) m) (s .tail) v
@@ -218,7 +218,7 @@ module _ (g : Graph) (D : ℕ → ℕ) (h k : ℕ) (s : St) (r : Running g D h k
   unfolding tried
   try-kept = go (ltb v n) refl
     where
-      go : (b : Bool) → ltb v n ≡ b → Stepped g D d h (suc k) s (cond b (visited n v (h * 12 + k + 2) s) s)
+      go : (b : Bool) → ltb v n ≡ b → Stepped g D d h (suc k) s (cond b (visited n v (h * 16 + k + 2) s) s)
       go true e = visit-kept (ltb-true v n e)
       go false e = skip (λ b. absurd (omega (arith, ltb-false v n e)))
 

@@ -37,8 +37,8 @@ fn read_back(work: &&[u16], n: usize, place: usize, d: usize, events: &mut [u8; 
         return;
     }
     let link = link_at(work, n, place);
-    events[d - 1] = ((link - 2) % 12) as u8;
-    read_back(work, n, (link - 2) / 12, d - 1, events);
+    events[d - 1] = ((link - 2) % 16) as u8;
+    read_back(work, n, (link - 2) / 16, d - 1, events);
 }
 
 // Writes the first d events of a list to the front of the trace list.
