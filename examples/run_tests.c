@@ -160,10 +160,11 @@ int main(void) {
     print_suite(1, 6);
     print_suite(0, 5);
 
-    print_comparison("compared", &device, 0, 18, 5);
-    print_comparison("traces alone", &device, 1, 18, 5);
-    print_comparison("with 17 words", &device, 0, 17, 5);
-    print_comparison("with 4 places", &device, 0, 18, 4);
-    print_comparison("with itself", &reference, 0, 12, 3);
+    print_comparison("compared", &device, 0, 12, 5);
+    print_comparison("traces alone", &device, 1, 12, 5);
+    print_comparison("with 18 words", &device, 0, 18, 5);
+    print_comparison("with 11 words", &device, 0, 11, 5);
+    print_comparison("with 4 places", &device, 0, 12, 4);
+    print_comparison("with itself", &reference, 0, 8, 3);
     return 0;
 }

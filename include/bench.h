@@ -44,7 +44,7 @@ enum {
                                 its k, or whose k is above 1,023 */
     BENCH_SHORT_PROBES = 10, /* a probe list shorter than the probes; also a list of verdicts shorter than the tests */
     BENCH_OTHER_EVENTS = 11, /* the two sheets have different E */
-    BENCH_SHORT_WORK = 12,   /* a work list below 3 p q words, for p nodes of the reference and q of the device */
+    BENCH_SHORT_WORK = 12,   /* a work list below 2 p q words, for p nodes of the reference and q of the device */
     BENCH_SHORT_TRACE = 13,  /* a trace list below p q - 1 bytes */
     BENCH_BAD_TEST = 14,     /* a test number k above 1,023 */
     BENCH_BAD_EVENT = 15,    /* an event that is not below E */
@@ -187,8 +187,8 @@ struct bench_compared {
 };
 
 /* Compares a device of q nodes with a reference of p, by traces alone if the flag `traces` is set. Handed over: copies of both
- * sheets. Lent: `words` words from `work` on, of which 3 p q are needed, and `places` bytes from `trace` on, of which p q - 1
- * are needed. Answered: whether the device refines the reference, or the nearest violation; then 3 p q words of the work list
+ * sheets. Lent: `words` words from `work` on, of which 2 p q are needed, and `places` bytes from `trace` on, of which p q - 1
+ * are needed. Answered: whether the device refines the reference, or the nearest violation; then 2 p q words of the work list
  * are 0 and its later words as they were, and the d events of the trace, the least of its length by event number, stand at
  * the front of the trace list and its rest is as it was. Or the refusal (the reference's; the device's; 11; 12; 13), and
  * both lists are as they were. */

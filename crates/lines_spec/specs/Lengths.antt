@@ -6,7 +6,7 @@ use Prim.Native.Nat.{ℕ, zero, suc, _+_, _-_, _*_, _^_, _≤_, _<_}
 use native.Mathlib.Nat.{le-trans}
 use native.Mathlib.Omega.{arith}
 use lib.Dec.{eqb, ltb, leb}
-use lib.ListN.{length, getD, take, length-append}
+use lib.ListN.{length, getD, take, replicate, length-append, length-replicate}
 use lib.Pow.{pow-mono}
 use borrow.Author.Tests.{ltb-true}
 use Rattle.base.specs.Refusal.{unless}
@@ -33,6 +33,7 @@ use Rattle.probes_spec.specs.FirstMissedLaws.{missed-found}
 use Rattle.events.specs.Sets.{has}
 use Rattle.refinement_spec.specs.PairTests.{strays, hasStray, firstStray, violating}
 use Rattle.comparison_spec.specs.declared.Outcome.the-variants.{Refines, Stray, Denied}
+use Rattle.comparison_spec.specs.CallLaws.{compare-fits}
 use Rattle.comparison_spec.specs.Comparison.{pairs, workWords, nearest, nearestTrace, clearedOf, lastRow, refusalNamed, named, comparisonOf, compareFault, outcomeOf, traceAfter}
 use Rattle.text_spec.specs.Lines.{ascii, decimal, numberLine, eventList}
 use Rattle.text_spec.specs.DecimalLaws.{decimal-few}
@@ -96,6 +97,14 @@ module _ (P Q : Sheet) (hP : sheetFault P ≡ 0) (hQ : sheetFault Q ≡ 0) where
   pairs-le : pairs P Q ≤ 1024
   unfolding pairs
   pairs-le = nodes-most (check-sound P hP) (check-sound Q hQ)
+
+  -- both lists that the program lends are enough: 12 and 13 cannot occur
+  pub lists-fit : P .e ≡ Q .e → compareFault P Q workList traceList ≡ 0
+  unfolding workList traceList
+  lists-fit same =
+      let words = length-replicate {A = ℕ} 2048 0 in
+      let places = length-replicate {A = ℕ} 1023 0 in
+      compare-fits P Q (replicate 2048 0) (replicate 1023 0) hP hQ same (omega (arith, pairs-le, words)) (omega (arith, pairs-le, places))
 
   nearest-le : nearest false P Q ≤ 1024
   unfolding nearest pairs
