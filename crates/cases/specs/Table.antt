@@ -1,5 +1,5 @@
 -- The P cases of 01 as one table: each row is a call or a whole run, its answer is a list of numbers, and one equation has them
--- all. The rows `adding` are for 02, K5. Sheets come as bytes, through the definition of reading. The rows compute through the
+-- all. The rows `adding` are for 02, K5, the rows `lending` for K7. Sheets come as bytes, through the definition of reading. The rows compute through the
 -- definitions that the contracts cite, the probe lists among them.
 use mathlib.Core.Path.{_≡_, refl}
 use mathlib.Core.Bool.{Bool, true, false}
@@ -52,6 +52,9 @@ pub data Case : Type 0 where
   running : List ℕ → ℕ → ℕ → Bool → List Report → Case
   -- the comparison of a reference with a device, with a work list of 28 words that hold 7 and a trace list of 8 places that hold 9
   comparing : List ℕ → List ℕ → Bool → Case
+  -- the refusal of a comparison with a work list of so many words, which hold 7, and a trace list of so many places; and what the
+  -- work list then holds (02, K7)
+  lending : List ℕ → List ℕ → ℕ → ℕ → Case
 
 -- the refusal, E and N
 unfoldable pub readNumbers : ReadSheet → List ℕ
@@ -90,6 +93,8 @@ numbersOf (adding x) = upTo (insert x) 12
 numbersOf (verdict P Q k to) = numbers (judged (verdictOf (sheet P) (sheet Q) k to))
 numbersOf (running P k h to reports) = answersOf (sheet P) (openOf (sheet P) k h to) reports
 numbersOf (comparing P Q to) = comparedNumbers (compared (outcomeOf to (sheet P) (sheet Q) work trace)) ++ (traceAfter to (sheet P) (sheet Q) work trace ++ workAfter (sheet P) (sheet Q) work trace)
+numbersOf (lending P Q words places) =
+    compareFault (sheet P) (sheet Q) (replicate words 7) (replicate places 9) ∷ workAfter (sheet P) (sheet Q) (replicate words 7) (replicate places 9)
 
 -- the rows
 unfoldable pub table : List Case
@@ -140,12 +145,27 @@ table =
     ∷ comparing mustLoop stopped false
     ∷ comparing mustLoop stopped true
     ∷ comparing exampleReference stopped false
+    ∷ lending exampleReference exampleDevice 12 5
+    ∷ lending exampleReference exampleDevice 11 5
+    ∷ lending exampleReference exampleDevice 13 5
+    ∷ lending exampleReference exampleDevice 17 5
+    ∷ lending exampleReference exampleDevice 18 5
+    ∷ lending exampleReference exampleDevice 12 4
+    ∷ lending exampleReference exampleDevice 11 4
+    ∷ lending exampleReference exampleDevice 0 0
+    ∷ lending exampleReference stopped 0 0
+    ∷ lending onlyZero onlyOne 2 0
+    ∷ lending onlyZero onlyOne 1 0
     -- any case sheet against itself refines (`outcome-self` says so of every accepted sheet)
     ∷ map (λ b. comparing b b false) caseSheets
 
 -- a comparison's numbers, the trace list, and the work list with its first words 0
 unfoldable pub lists : List ℕ → List ℕ → ℕ → List ℕ
 lists numbers traced zeros = numbers ++ (traced ++ (replicate zeros 0 ++ replicate (28 - zeros) 7))
+
+-- a refusal, and a work list with so many words that are 0 and then so many as they were
+unfoldable pub lent : ℕ → ℕ → ℕ → List ℕ
+lent refusal zeros left = refusal ∷ (replicate zeros 0 ++ replicate left 7)
 
 -- what they answer
 unfoldable pub answers : List (List ℕ)
@@ -202,6 +222,17 @@ answers =
     ∷ lists (0 ∷ 3 ∷ 0 ∷ 0 ∷ 0 ∷ 1 ∷ 0 ∷ []) (9 ∷ 9 ∷ 9 ∷ 9 ∷ 9 ∷ 9 ∷ 9 ∷ 9 ∷ []) 2
     ∷ lists (0 ∷ 1 ∷ 0 ∷ 1 ∷ 0 ∷ 0 ∷ 0 ∷ []) (9 ∷ 9 ∷ 9 ∷ 9 ∷ 9 ∷ 9 ∷ 9 ∷ 9 ∷ []) 2
     ∷ lists (11 ∷ 0 ∷ 0 ∷ 0 ∷ 0 ∷ 0 ∷ 0 ∷ []) (9 ∷ 9 ∷ 9 ∷ 9 ∷ 9 ∷ 9 ∷ 9 ∷ 9 ∷ []) 0
+    ∷ lent 0 12 0
+    ∷ lent 12 0 11
+    ∷ lent 0 12 1
+    ∷ lent 0 12 5
+    ∷ lent 0 12 6
+    ∷ lent 13 0 12
+    ∷ lent 12 0 11
+    ∷ lent 12 0 0
+    ∷ lent 11 0 0
+    ∷ lent 0 2 0
+    ∷ lent 12 0 1
     ∷ lists (0 ∷ 1 ∷ 0 ∷ 2 ∷ 0 ∷ 0 ∷ 0 ∷ []) (9 ∷ 9 ∷ 9 ∷ 9 ∷ 9 ∷ 9 ∷ 9 ∷ 9 ∷ []) 8
     ∷ lists (0 ∷ 1 ∷ 0 ∷ 3 ∷ 0 ∷ 0 ∷ 0 ∷ []) (9 ∷ 9 ∷ 9 ∷ 9 ∷ 9 ∷ 9 ∷ 9 ∷ 9 ∷ []) 18
     ∷ lists (0 ∷ 1 ∷ 0 ∷ 1 ∷ 0 ∷ 0 ∷ 0 ∷ []) (9 ∷ 9 ∷ 9 ∷ 9 ∷ 9 ∷ 9 ∷ 9 ∷ 9 ∷ []) 2
@@ -213,5 +244,5 @@ answers =
 
 -- every row answers what 01 and 02 say
 pub cases-hold : map numbersOf table ≡ answers
-unfolding numbersOf table answers lists caseSheets workAfter readNumbers numbers recordNumbers answersOf comparedNumbers work trace sheet exampleReference exampleDevice onlyZero onlyOne mayLoop mustLoop stopped readSheet answer bytesFault headFault lengthField layoutFault nextAt startOf succOf setsOf rowAt rowOf sheetOf graphFault rangesOk countOk countsOk successorsOk rowSuccessorsOk successorOk setsOk rowSetsOk setOk ascends noneInside blank unusedOk blanksOk reachedOk sheetFault successor acceptance acceptances initials mayStop step bit has inside meets insert setOf walk nearer leads meetsIn distance later choice leastFrom leastTrace cleared code pairNext product onCodes pairDistance pairTrace pairCleared all any first count upTo hits isProbe gather select probes missing orNext firstMissing firstMissed strays hasStray firstStray covers hasRefusal violates violating allEvents outside probesAt chosen flag flagOf offerOf newRun openFault openOf recordOk eventFault reportFault movedBy endedRun answerOf stepOf failsFrom verdictFault verdictOf said judged pairs nearest nearestTrace clearedOf lastRow refusalNamed named comparisonOf compareFault outcomeOf traceAfter compared
+unfolding numbersOf table answers lists lent caseSheets workAfter readNumbers numbers recordNumbers answersOf comparedNumbers work trace sheet exampleReference exampleDevice onlyZero onlyOne mayLoop mustLoop stopped readSheet answer bytesFault headFault lengthField layoutFault nextAt startOf succOf setsOf rowAt rowOf sheetOf graphFault rangesOk countOk countsOk successorsOk rowSuccessorsOk successorOk setsOk rowSetsOk setOk ascends noneInside blank unusedOk blanksOk reachedOk sheetFault successor acceptance acceptances initials mayStop step bit has inside meets insert setOf walk nearer leads meetsIn distance later choice leastFrom leastTrace cleared code pairNext product onCodes pairDistance pairTrace pairCleared all any first count upTo hits isProbe gather select probes missing orNext firstMissing firstMissed strays hasStray firstStray covers hasRefusal violates violating allEvents outside probesAt chosen flag flagOf offerOf newRun openFault openOf recordOk eventFault reportFault movedBy endedRun answerOf stepOf failsFrom verdictFault verdictOf said judged pairs nearest nearestTrace clearedOf lastRow refusalNamed named comparisonOf compareFault outcomeOf traceAfter compared
 cases-hold = refl
