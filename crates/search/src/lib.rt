@@ -2,17 +2,19 @@
 // of a given table of bad ones, in a lent work list (crate `entries`).
 ghost use mathlib.Core.Path.{_≡_};
 ghost use Prim.Native.Nat.{_≤_};
-ghost use lib.ListN.{length, replicate};
+ghost use lib.ListN.{length, drop, replicate};
+ghost use Rattle.search_spec.specs.Words.{wordsFor};
 ghost use Rattle.search_spec.specs.Found.{settled, readOut, Searched};
 ghost use Rattle.search_spec.specs.Read.{SettleOk, SearchOk};
 use queue::Stop;
 use search_spec::Found;
 
-// The answer where a search ended, with its trace.
-fn settle(q: usize, work: &[u16], n: usize, stop: Stop, trace: &mut [u8]) -> Found
+// The answer where a search ended, with its trace. The queue is spent by it.
+fn settle(q: usize, work: &mut [u16], n: usize, stop: Stop, trace: &mut [u8]) -> Found
     requires { ⌜ (1 ≤ q) × SettleOk n (now work) (stop .head) (stop .tail) (stop .distance) (now trace) ⌝ }
     ensures { λ r. ⌜ (r ≡ settled q (now (work .entry)) (stop .head) (stop .tail) (stop .distance) (stop .nearer))
-        × (now (trace .exit) ≡ readOut n (now (work .entry)) (stop .head) (stop .tail) (stop .distance) (now (trace .entry))) ⌝ }
+        × (now (trace .exit) ≡ readOut n (now (work .entry)) (stop .head) (stop .tail) (stop .distance) (now (trace .entry)))
+        × (drop (wordsFor n) (now (work .exit)) ≡ drop (wordsFor n) (now (work .entry))) ⌝ }
 {
     if stop.head < stop.tail {
         let node = entries::node_at(work, stop.head);

@@ -9,9 +9,9 @@ use native.Mathlib.Omega.{arith}
 use native.Mathlib.Nat.{eq-zero-or-pos}
 use native.Mathlib.Numerals.{add-one}
 use lib.ListN.{length, getD, set, take, drop, replicate, length-set, length-replicate, getD-replicate, List·getD-append}
-use lib.Seq.{drop-at, drop-cons, getD-set-same, drop-set-lt, append-snoc, set-at, length-take-le, getD-append-add, drop-append-add}
+use lib.Seq.{drop-at, drop-cons, getD-set-same, drop-set-lt, append-snoc, set-at, length-take-le, getD-append-add, getD-drop, drop-append-add, drop-drop}
 use borrow.Author.Tests.{lt-ltb, le-ltb}
-use Rattle.base.specs.Table.{upTo, length-upTo, upTo-ext, upTo-all}
+use Rattle.base.specs.Table.{upTo, length-upTo, getD-upTo, upTo-ext, upTo-all}
 use Rattle.base.specs.Front.{atFront-count}
 use Rattle.walks.specs.Graph.{Graph}
 use Rattle.search_spec.specs.declared.Found.{Found}
@@ -24,45 +24,21 @@ use Rattle.search_spec.specs.Steps.{Sizes, pairs-size, small-product, Ru
 
 -- ---- the trace
 
--- d links of the work list w can be followed from entry x: every entry on the way is one of n, and so is its node.
-unfoldable pub Deep : ℕ → List ℕ → ℕ → ℕ → Type 0
-Deep n w x zero = Unit {0}
-Deep n w x (suc d) =
-    (x < n) × (nodeAt w x < n) × (2 ≤ linkAt n w (nodeAt w x)) × Deep n w ((linkAt n w (nodeAt w x) - 2) / 16) d
+-- d links can be followed from entry x, where N gives the node of an entry and K the link of a node: all entries on the way are below m.
+unfoldable pub Deep : ℕ → (ℕ → ℕ) → (ℕ → ℕ) → ℕ → ℕ → Type 0
+Deep m N K x zero = Unit {0}
+Deep m N K x (suc d) = (x < m) × (2 ≤ K (N x)) × Deep m N K ((K (N x) - 2) / 16) d
 
--- what reading d links back from entry x asks
-pub record BackOk (n : ℕ) (w : List ℕ) (x d : ℕ) : Type 0 where
-  pub small : n ≤ 1024
-  pub room : wordsFor n ≤ length w
-  pub links : Deep n w x d
-  pub few : d ≤ 1024
-
--- one link is there to be followed, and then d - 1 from the entry that it names
-pub record Link (n : ℕ) (w : List ℕ) (x d : ℕ) : Type 0 where
-  pub seat : Seat n x w
-  pub link : 2 ≤ linkAt n w (nodeAt w x)
-  pub rest : BackOk n w ((linkAt n w (nodeAt w x) - 2) / 16) (d - 1)
-
-module _ (n : ℕ) (w : List ℕ) (x : ℕ) where
-  -- where links are left, one can be followed
-  pub back-link : (d : ℕ) → d ≢ 0 → BackOk n w x d → Link n w x d
-  unfolding Deep
-  back-link zero ne o = absurd (ne refl)
-  back-link (suc d) ne o = let e : suc d - 1 ≡ d = omega arith in record {
-    seat = record { small = o .small; room = o .room; inside = o .links .0; node = o .links .1 };
-    link = o .links .2;
-    rest = record { small = o .small; room = o .room; links = rw e (o .links .3); few = omega (arith, o .few) };
-  }
-
+module _ (m : ℕ) (N K : ℕ → ℕ) (x : ℕ) where
   -- no link is asked for
-  pub deep-none : Deep n w x 0
+  pub deep-none : Deep m N K x 0
   unfolding Deep
   deep-none = tt
 
   -- one link more
-  deep-more : (d j : ℕ) → x < n → nodeAt w x < n → 2 ≤ linkAt n w (nodeAt w x) → (linkAt n w (nodeAt w x) - 2) / 16 ≡ j → Deep n w j d → Deep n w x (suc d)
+  deep-more : (d j : ℕ) → x < m → 2 ≤ K (N x) → (K (N x) - 2) / 16 ≡ j → Deep m N K j d → Deep m N K x (suc d)
   unfolding Deep
-  deep-more d j a b c e D = (a, b, c, rw e D)
+  deep-more d j a c e D = (a, c, rw e D)
 
 module _ (N K : ℕ → ℕ) (x : ℕ) where
   -- the last event is the one of the entry's own link
@@ -126,36 +102,168 @@ write-whole N K d x events events′ o o′ ee eo =
     eo ∙ ap (λ (l : List ℕ). frontOf l d ++ drop d o) ee
     ∙ ap (λ (l : List ℕ). l ++ drop d o) (front-is r (drop d events) d (readBack-length N K d x))
 
--- as many links as its distance can be followed from an entry
-pub deep : (g : Graph) (D : ℕ → ℕ) (h k : ℕ) (s : St) → Running g D h k s → (x : ℕ) → x < s .tail → Deep (g .size) (s .work) x (D (nodeAt (s .work) x))
-deep g D h k s r x l = go (suc x) x (omega arith) l
+-- ---- the links in the places of their entries
+
+-- The link that stands at a place.
+unfoldable pub linkIn : List ℕ → ℕ → ℕ
+linkIn l x = getD l x 0
+
+-- The work list with the links of the first m entries in the entries' places.
+unfoldable pub linked : ℕ → List ℕ → ℕ → List ℕ
+linked n w m = upTo (λ x. linkAt n w (nodeAt w x)) m ++ drop m w
+
+-- what putting the links of the first m entries there asks: the entries are there
+pub record LinksOk (n : ℕ) (w : List ℕ) (m : ℕ) : Type 0 where
+  pub small : n ≤ 1024
+  pub room : wordsFor n ≤ length w
+  pub upto : m ≤ n
+  pub nodes : (x : ℕ) → x < m → nodeAt w x < n
+
+module _ (n : ℕ) (w : List ℕ) where
+  -- the link of an entry
+  abbrev entryLink : ℕ → ℕ
+  entryLink x = linkAt n w (nodeAt w x)
+
+  -- no link is there yet
+  pub linked-none : w ≡ linked n w 0
+  unfolding linked upTo
+  linked-none = refl
+
+  module _ (m : ℕ) where
+    -- a place of such a link
+    linked-at : (x : ℕ) → x < m → linkIn (linked n w m) x ≡ linkAt n w (nodeAt w x)
+    unfolding linkIn linked
+    linked-at x l = List·getD-append (upTo entryLink m) (drop m w) 0 x (omega (arith, length-upTo entryLink m)) ∙ getD-upTo entryLink m x 0 l
+
+    -- any later place
+    linked-later : (v : List ℕ) → v ≡ linked n w m → (i : ℕ) → m ≤ i → getD v i 0 ≡ getD w i 0
+    unfolding linked
+    linked-later v c i l =
+        let e : i ≡ length (upTo entryLink m) + (i - m) = omega (arith, length-upTo entryLink m) in
+        let f : m + (i - m) ≡ i = omega arith in
+        ap (λ (y : List ℕ). getD y i 0) c ∙ ap (λ (y : ℕ). getD (upTo entryLink m ++ drop m w) y 0) e
+        ∙ getD-append-add (upTo entryLink m) (drop m w) (i - m) 0 ∙ getD-drop m w (i - m) 0 ∙ ap (λ (y : ℕ). getD w y 0) f
+
+    -- the next entry's node, and its link
+    module _ (v : List ℕ) (c : v ≡ linked n w m) (node : ℕ) (e : node ≡ getD v m 0) where
+      pub linked-node : node ≡ nodeAt w m
+      unfolding nodeAt
+      linked-node = e ∙ linked-later v c m (omega arith)
+
+      pub linked-link : m ≤ n → getD v (n + node) 0 ≡ linkAt n w (nodeAt w m)
+      unfolding linkAt
+      linked-link l = linked-later v c (n + node) (omega arith) ∙ ap (λ (y : ℕ). getD w (n + y) 0) linked-node
+
+    -- one link more
+    pub linked-next : (v : List ℕ) (link : ℕ) → v ≡ linked n w m → m < length w → link ≡ entryLink m → set v m link ≡ linked n w (m + 1)
+    unfolding linked upTo
+    linked-next v link c l e =
+        rw (c, e, drop-cons w m 0 l, set-at (upTo entryLink m) (getD w m 0) (drop (suc m) w) (entryLink m) m (length-upTo entryLink m), add-one m)
+        (sym (append-snoc (upTo entryLink m) (entryLink m) (drop (suc m) w)))
+
+    -- the words behind are as they were
+    pub linked-rest : (k : ℕ) → m ≤ k → drop k (linked n w m) ≡ drop k w
+    unfolding linked
+    linked-rest k l =
+        let e : k ≡ length (upTo entryLink m) + (k - m) = omega (arith, length-upTo entryLink m) in
+        let f : m + (k - m) ≡ k = omega arith in
+        ap (λ (y : ℕ). drop y (upTo entryLink m ++ drop m w)) e ∙ drop-append-add (upTo entryLink m) (drop m w) (k - m)
+        ∙ drop-drop (k - m) m w ∙ ap (λ (y : ℕ). drop y w) f
+
+    -- links that can be followed in the work list can be followed there ..
+    pub linked-deep : (l : List ℕ) → l ≡ linked n w m → (d x : ℕ) → Deep m (nodeAt w) (linkAt n w) x d → Deep m (λ x. x) (linkIn l) x d
+    unfolding Deep
+    linked-deep l c d x D = rw c (go d x D)
+      where
+        go : (d x : ℕ) → Deep m (nodeAt w) (linkAt n w) x d → Deep m (λ x. x) (linkIn (linked n w m)) x d
+        go zero x D = tt
+        go (suc d) x D = rw (linked-at x (D .0)) (D .0, D .1, go d ((linkAt n w (nodeAt w x) - 2) / 16) (D .2))
+
+    -- .. and lead by the same events
+    pub linked-read : (l : List ℕ) → l ≡ linked n w m → (d x : ℕ) → Deep m (nodeAt w) (linkAt n w) x d
+        → readBack (λ x. x) (linkIn l) d x ≡ readBack (nodeAt w) (linkAt n w) d x
+    unfolding Deep readBack
+    linked-read l c d x D = rw c (go d x D)
+      where
+        go : (d x : ℕ) → Deep m (nodeAt w) (linkAt n w) x d → readBack (λ x. x) (linkIn (linked n w m)) d x ≡ readBack (nodeAt w) (linkAt n w) d x
+        go zero x D = refl
+        go (suc d) x D = rw (linked-at x (D .0), go d ((linkAt n w (nodeAt w x) - 2) / 16) (D .2))
+
+-- what reading d links back from place x of a list of links asks
+pub record BackOk (l : List ℕ) (x d : ℕ) : Type 0 where
+  pub most : ℕ
+  pub small : most ≤ 1024
+  pub room : most ≤ length l
+  pub links : Deep most (λ x. x) (linkIn l) x d
+  pub few : d ≤ 1024
+
+-- one link can be followed, and then d - 1 from the place that it names
+pub record Link (l : List ℕ) (x d : ℕ) : Type 0 where
+  pub small : x < 1024
+  pub inside : x < length l
+  pub link : 2 ≤ linkIn l x
+  pub rest : BackOk l ((linkIn l x - 2) / 16) (d - 1)
+
+-- where links are left, one can be followed
+pub back-link : (l : List ℕ) (x d : ℕ) → d ≢ 0 → BackOk l x d → Link l x d
+unfolding Deep
+back-link l x zero ne o = absurd (ne refl)
+back-link l x (suc d) ne o = let e : suc d - 1 ≡ d = omega arith in record {
+  small = omega (arith, o .links .0, o .small);
+  inside = omega (arith, o .links .0, o .room);
+  link = o .links .1;
+  rest = record { most = o .most; small = o .small; room = o .room; links = rw e (o .links .2); few = omega (arith, o .few) };
+}
+
+-- what writing the d events that lead to entry x asks
+pub record TraceOk (n : ℕ) (w : List ℕ) (x d : ℕ) : Type 0 where
+  pub entries : LinksOk n w (x + 1)
+  pub links : Deep (x + 1) (nodeAt w) (linkAt n w) x d
+  pub few : d ≤ 1024
+
+-- with the links in the entries' places they may be read back
+pub trace-back-ok : (n : ℕ) (w l : List ℕ) (x d : ℕ) → TraceOk n w x d → l ≡ linked n w (x + 1) → length l ≡ length w → BackOk l x d
+trace-back-ok n w l x d o c e = record {
+  most = x + 1;
+  small = omega (arith, o .entries);
+  room = omega (arith, o .entries);
+  links = linked-deep n w (x + 1) l c d x (o .links);
+  few = o .few;
+}
+
+-- as many links as its distance can be followed from an entry, and all entries on the way are before it
+pub deep : (g : Graph) (D : ℕ → ℕ) (h k : ℕ) (s : St) → Running g D h k s → (m x : ℕ) → x < m → x < s .tail
+    → Deep m (nodeAt (s .work)) (linkAt (g .size) (s .work)) x (D (nodeAt (s .work) x))
+deep g D h k s r m x b l = go (suc x) x (omega arith) b l
   where
     n : ℕ
     n = g .size
 
     To : ℕ → Type 0
-    To x = Deep n (s .work) x (D (nodeAt (s .work) x))
+    To x = Deep m (nodeAt (s .work)) (linkAt n (s .work)) x (D (nodeAt (s .work) x))
 
-    more : (x j i : ℕ) → x < s .tail → Made g (nodeAt (s .work)) (linkAt n (s .work)) D x j i → To j → To x
-    more x j i l m t =
-        rw (m .depth ∙ add-one (D (nodeAt (s .work) j)))
-        (deep-more n (s .work) x (D (nodeAt (s .work) j)) j (omega (arith, tail-le g D h k s r)) (r .queue .entry x l .0) (omega (arith, m .link))
-        (omega (arith, m .link, m .event, r .queue .few)) t)
+    more : (x j i : ℕ) → x < m → Made g (nodeAt (s .work)) (linkAt n (s .work)) D x j i → To j → To x
+    more x j i b a t =
+        rw (a .depth ∙ add-one (D (nodeAt (s .work) j)))
+        (deep-more m (nodeAt (s .work)) (linkAt n (s .work)) x (D (nodeAt (s .work) j)) j b (omega (arith, a .link))
+        (omega (arith, a .link, a .event, r .queue .few)) t)
 
-    go : (c x : ℕ) → x < c → x < s .tail → To x
-    go zero x b l = absurd (omega arith)
-    go (suc c) x b l = pick (eq-zero-or-pos x) (go c)
+    go : (c x : ℕ) → x < c → x < m → x < s .tail → To x
+    go zero x a b l = absurd (omega arith)
+    go (suc c) x a b l = pick (eq-zero-or-pos x) (go c)
       where
-        pick : (x ≡ 0) ⊎ (0 < x) → ((y : ℕ) → y < c → y < s .tail → To y) → To x
-        pick (inl z) ih = rw (z, r .queue .root .0, r .queue .root .2) (deep-none n (s .work) 0)
-        pick (inr p) ih = let m = r .queue .made x p l in more x (m .0) (m .1) l (m .2) (ih (m .0) (omega (arith, m .2 .before)) (omega (arith, m .2 .before)))
+        pick : (x ≡ 0) ⊎ (0 < x) → ((y : ℕ) → y < c → y < m → y < s .tail → To y) → To x
+        pick (inl z) ih = rw (z, r .queue .root .0, r .queue .root .2) (deep-none m (nodeAt (s .work)) (linkAt n (s .work)) 0)
+        pick (inr p) ih =
+            let o = r .queue .made x p l in
+            more x (o .0) (o .1) b (o .2) (ih (o .0) (omega (arith, o .2 .before)) (omega (arith, o .2 .before)) (omega (arith, o .2 .before)))
 
 -- ---- the answer
 
 -- what settling asks, where the search ended at entry h of t, at the distance d
 pub record SettleOk (n : ℕ) (w : List ℕ) (h t d : ℕ) (trace : List ℕ) : Type 0 where
   pub some : h < t → Seat n h w
-  pub back : h < t → BackOk n w h d
+  pub back : h < t → TraceOk n w h d
   pub fits : h < t → d ≤ length trace
 
 module _ (q n : ℕ) (w : List ℕ) (h t d c : ℕ) where
@@ -237,9 +345,13 @@ module _ (p q e : ℕ) (work trace : List ℕ) (o : SearchOk p q e work trace) w
     search-settle-ok = record {
       some = λ l. at h l;
       back = λ l. record {
-        small = search-small;
-        room = rw (← m) (end .running .room);
-        links = rw (← end .depth l, ← m) (deep (tablePairs a b p q e) (end .far) h 0 s (end .running) h l);
+        entries = record {
+          small = search-small;
+          room = rw (← m) (end .running .room);
+          upto = omega (arith, at h l .inside);
+          nodes = λ x k. at x (omega arith) .node;
+        };
+        links = rw (← end .depth l, ← m) (deep (tablePairs a b p q e) (end .far) h 0 s (end .running) (h + 1) h (omega arith) l);
         few = omega (arith, close l, at h l .inside, search-small);
       };
       fits = λ l. omega (arith, close l, at h l .inside, o .places);
@@ -255,15 +367,16 @@ module _ (p q e : ℕ) (work trace : List ℕ) (o : SearchOk p q e work trace) w
         close l = omega (arith, end .depth l, end .running .queue .near h l)
 
     -- what was read off the queue, and a list whose words are set to 0 at the end, are the answer
-    pub search-whole : (v w′ o′ : List ℕ) (f : Found) → v ≡ cleanLinks → drop (wordsFor (p * q)) (s .work) ≡ drop (wordsFor (p * q)) v
+    pub search-whole : (v u w′ o′ : List ℕ) (f : Found) → v ≡ cleanLinks → drop (wordsFor (p * q)) (s .work) ≡ drop (wordsFor (p * q)) v
+        → drop (wordsFor (p * q)) u ≡ drop (wordsFor (p * q)) (s .work)
         → (f ≡ settled q (s .work) h (s .tail) d c) × (o′ ≡ readOut (p * q) (s .work) h (s .tail) d trace)
-        → w′ ≡ replicate (wordsFor (p * q)) 0 ++ drop (wordsFor (p * q)) (s .work)
+        → w′ ≡ replicate (wordsFor (p * q)) 0 ++ drop (wordsFor (p * q)) u
         → Searched a b p q e bad work trace w′ o′ f
-    search-whole v w′ o′ f cv cs cf cw = record {
+    search-whole v u w′ o′ f cv cs cu cf cw = record {
       answer = cf .0 ∙ settled-is a b p q e bad h d c s (o .first-some) (o .second-some) end;
       traced = cf .1 ∙ readOut-is a b p q e bad h d c s (o .first-some) (o .second-some) end trace;
       zeroed = unfold workFound in (cw ∙ ap (λ (y : List ℕ). replicate m 0 ++ y)
-          (cs ∙ zero-rest (p * q) m work v (omega arith) (o .words) cv) ∙ sym (atFront-count work (replicate m 0) (length-replicate m 0)));
+          (cu ∙ cs ∙ zero-rest (p * q) m work v (omega arith) (o .words) cv) ∙ sym (atFront-count work (replicate m 0) (length-replicate m 0)));
     }
       where
         m : ℕ

@@ -1,13 +1,12 @@
 // The trace to an entry of a search's work list: its events are read back from link to link, the last one first, and written in their
-// order to the front of the trace list.
+// order to the front of the trace list. The links are put in the places of their entries first, so that each names the place of the next.
 ghost use mathlib.Core.Path.{_≡_};
 ghost use mathlib.Core.List.{_++_};
 ghost use Prim.Native.Nat.{_≤_};
 ghost use lib.ListN.{length, drop};
 ghost use Rattle.search_spec.specs.Queue.{readBack};
-ghost use Rattle.search_spec.specs.Words.{nodeAt, linkAt};
-ghost use Rattle.search_spec.specs.Steps.{Seat};
-ghost use Rattle.search_spec.specs.Read.{frontOf, BackOk};
+ghost use Rattle.search_spec.specs.Words.{wordsFor, nodeAt, linkAt};
+ghost use Rattle.search_spec.specs.Read.{linkIn, linked, frontOf, LinksOk, BackOk, TraceOk};
 
 // A word as a number.
 fn number(word: u16) -> usize
@@ -16,29 +15,30 @@ fn number(word: u16) -> usize
     word as usize
 }
 
-// The link of the entry at a place.
-fn link_at(work: &&[u16], n: usize, place: usize) -> usize
-    requires { ⌜ Seat n place (now (now work)) ⌝ }
-    ensures { λ r. ⌜ r ≡ linkAt n (now (now (work .entry))) (nodeAt (now (now (work .entry))) place) ⌝ }
+// Puts the links of the first m entries in the entries' places.
+fn put_links(work: &mut [u16], n: usize, m: usize)
+    requires { ⌜ LinksOk n (now work) m ⌝ }
+    ensures { λ _. ⌜ now (work .exit) ≡ linked n (now (work .entry)) m ⌝ }
 {
-    let node = number(work[place]);
-    number(work[n + node])
+    for x in 0..m {
+        let node = number(work[x]);
+        work[x] = work[n + node];
+    }
 }
 
 // Writes the d events that lead to an entry to the front of a list, the last one first: it stands in the entry's link, and the
-// others lead to the entry that the link names. (The work list is lent by a reference to it, and the events' list is of fixed size, so
-// that the compiler makes a loop of it: a slice, or a part of it, handed on costs a frame on the stack for each event.)
-fn read_back(work: &&[u16], n: usize, place: usize, d: usize, events: &mut [u8; 1024])
-    requires { ⌜ BackOk n (now (now work)) place d × (length (now events) ≡ 1024) ⌝ }
-    ensures { λ _. ⌜ now (events .exit) ≡ readBack (nodeAt (now (now (work .entry)))) (linkAt n (now (now (work .entry)))) d place
-        ++ drop d (now (events .entry)) ⌝ }
+// others lead to the entry that the link names. (The links are lent by a reference to the list, and the events' list is of fixed size,
+// so that the compiler makes a loop of it: a slice handed on costs a frame on the stack for each event.)
+fn read_back(links: &&[u16], place: usize, d: usize, events: &mut [u8; 1024])
+    requires { ⌜ BackOk (now (now links)) place d × (length (now events) ≡ 1024) ⌝ }
+    ensures { λ _. ⌜ now (events .exit) ≡ readBack (λ x. x) (linkIn (now (now (links .entry)))) d place ++ drop d (now (events .entry)) ⌝ }
 {
     if d == 0 {
         return;
     }
-    let link = link_at(work, n, place);
+    let link = number(links[place]);
     events[d - 1] = ((link - 2) % 16) as u8;
-    read_back(work, n, (link - 2) / 16, d - 1, events);
+    read_back(links, (link - 2) / 16, d - 1, events);
 }
 
 // Writes the first d events of a list to the front of the trace list.
@@ -51,12 +51,22 @@ fn put_front(events: &[u8; 1024], d: usize, trace: &mut [u8])
     }
 }
 
-// Writes the d events that lead to an entry to the front of the trace list.
-pub fn write_trace(work: &[u16], n: usize, place: usize, d: usize, trace: &mut [u8])
-    requires { ⌜ BackOk n (now work) place d × (d ≤ length (now trace)) ⌝ }
-    ensures { λ _. ⌜ now (trace .exit) ≡ readBack (nodeAt (now (work .entry))) (linkAt n (now (work .entry))) d place ++ drop d (now (trace .entry)) ⌝ }
+// Writes the d events that links lead back by to the front of the trace list.
+fn write_back(links: &[u16], place: usize, d: usize, trace: &mut [u8])
+    requires { ⌜ BackOk (now links) place d × (d ≤ length (now trace)) ⌝ }
+    ensures { λ _. ⌜ now (trace .exit) ≡ readBack (λ x. x) (linkIn (now (links .entry))) d place ++ drop d (now (trace .entry)) ⌝ }
 {
     let mut events = [0u8; 1024];
-    read_back(&work, n, place, d, &mut events);
+    read_back(&links, place, d, &mut events);
     put_front(&events, d, trace);
+}
+
+// Writes the d events that lead to an entry to the front of the trace list. The queue is spent by it.
+pub fn write_trace(work: &mut [u16], n: usize, place: usize, d: usize, trace: &mut [u8])
+    requires { ⌜ TraceOk n (now work) place d × (d ≤ length (now trace)) ⌝ }
+    ensures { λ _. ⌜ (now (trace .exit) ≡ readBack (nodeAt (now (work .entry))) (linkAt n (now (work .entry))) d place ++ drop d (now (trace .entry)))
+        × (drop (wordsFor n) (now (work .exit)) ≡ drop (wordsFor n) (now (work .entry))) ⌝ }
+{
+    put_links(work, n, place + 1);
+    write_back(work, place, d, trace);
 }

@@ -44,48 +44,59 @@ settle-requires c κs =
 
 slice-relend-prefix-clear : tie.Need-slice-relend-prefix-clear
 slice-relend-prefix-clear c =
-    let s = c .before .before .before .before .before .before .before .before .before .before .before .before .before .before .before in
+    let s = c .before .before .before .before .before .before .before .before .before .before .before .before .before .before .before .before .before in
     let a = s .args in
-    let l = c .before .before .before .before .before .before .before .before .before .before .before .clear in
-    let k = c .before .before .before .before .before .before .before .run .kept .1 .1 .1 .1 .1 .1 .0 in
+    let l = c .before .before .before .before .before .before .before .before .before .before .before .before .before .clear in
+    let r = c .before .before .before .before .before .before .before .before .before .run in
+    let f = c .before .before .before .before .settle in
     let m = part-length (a .p * a .q) (2 * (a .p * a .q)) (a .work .now) (l .last .0) (l .kept .0) in
-    omega (arith, s .pre .words, k, m)
+    let k = r .kept .1 .1 .1 .1 .1 .1 .0 in
+    let j = f .kept .1 .0 in
+    omega (arith, s .pre .words, j, k, m)
 
 slice-aggregate-clear : tie.Need-slice-aggregate-clear
 slice-aggregate-clear c =
-    let s = c .before .before .before .before .before .before .before .before .before .before .before .before .before .before .before .before in
+    let s = c .before .before .before .before .before .before .before .before .before .before .before .before .before .before .before .before .before .before in
     let a = s .args in
-    let l = c .before .before .before .before .before .before .before .before .before .before .before .before .clear in
-    let k = c .before .before .before .before .before .before .before .before .run .kept .1 .1 .1 .1 .1 .1 .0 in
+    let l = c .before .before .before .before .before .before .before .before .before .before .before .before .before .before .clear in
+    let r = c .before .before .before .before .before .before .before .before .before .before .run in
+    let f = c .before .before .before .before .before .settle in
     let m = part-length (a .p * a .q) (2 * (a .p * a .q)) (a .work .now) (l .last .0) (l .kept .0) in
-    sym (length-take-le _ _ (omega (arith, s .pre .words, k, m)))
+    let k = r .kept .1 .1 .1 .1 .1 .1 .0 in
+    let j = f .kept .1 .0 in
+    sym (length-take-le _ _ (omega (arith, s .pre .words, j, k, m)))
 
 clear-requires-2 : tie.Need-clear-requires-2
 clear-requires-2 c κs = tt
 
 same-length : tie.Need-same-length
 same-length c =
-    let a = c .before .before .before .before .before .before .before .before .before .before .before .before .before .before .before .before .before .before .before .args in
-    let l = c .before .before .before .before .before .before .before .before .before .before .before .before .before .before .before .clear in
-    let k = c .before .before .before .before .before .before .before .before .before .before .before .run .kept .1 .1 .1 .1 .1 .1 .0 in
+    let s = c .before .before .before .before .before .before .before .before .before .before .before .before .before .before .before .before .before .before .before .before .before in
+    let a = s .args in
+    let l = c .before .before .before .before .before .before .before .before .before .before .before .before .before .before .before .before .before .clear in
+    let r = c .before .before .before .before .before .before .before .before .before .before .before .before .before .run in
+    let f = c .before .before .before .before .before .before .before .before .settle in
     let m = part-length (a .p * a .q) (2 * (a .p * a .q)) (a .work .now) (l .last .0) (l .kept .0) in
-    length-front (c .before .before .before .before .before .before .before .before .before .before .before .run .last .1 .1 .1 .1 .1 .1 .0)
-    (c .before .before .clear2 .last .0) (2 * (a .p * a .q)) (c .before .before .clear2 .kept .0) ∙ k ∙ m
+    let k = r .kept .1 .1 .1 .1 .1 .1 .0 in
+    let j = f .kept .1 .0 in
+    length-front (f .last .1 .0) (c .before .before .clear2 .last .0) (2 * (a .p * a .q)) (c .before .before .clear2 .kept .0) ∙ j ∙ k ∙ m
 
 same-length-2 : tie.Need-same-length-2
-same-length-2 c = c .before .before .before .before .before .before .settle .kept .1 .1 .1 .1 .0
+same-length-2 c = c .before .before .before .before .before .before .before .before .settle .kept .1 .1 .1 .1 .0
 
 returns : tie.Need-returns
 returns c =
-    let s = c .before .before .before .before .before .before .before .before .before .before .before .before .before .before .before .before .before .before .before in
+    let s = c .before .before .before .before .before .before .before .before .before .before .before .before .before .before .before .before .before .before .before .before .before in
     let a = s .args in
-    let l = c .before .before .before .before .before .before .before .before .before .before .before .before .before .before .before .clear in
-    let k = c .before .before .before .before .before .before .before .before .before .before .before .run .kept .1 .1 .1 .1 .1 .1 .0 in
+    let l = c .before .before .before .before .before .before .before .before .before .before .before .before .before .before .before .before .before .clear in
+    let r = c .before .before .before .before .before .before .before .before .before .before .before .before .before .run in
+    let f = c .before .before .before .before .before .before .before .before .settle in
     let m = part-length (a .p * a .q) (2 * (a .p * a .q)) (a .work .now) (l .last .0) (l .kept .0) in
-    let r = c .before .before .before .before .before .before .before .before .before .before .before .run in
-    search-whole _ _ _ _ _ (s .pre) _ _ _ _ _ _ _ (r .ensures .0) _ _ _ _
-    (cleared-part (a .p * a .q) _ (a .work .now) _ (omega arith) (s .pre .words) (l .ensures)) (r .ensures .1)
-    (c .before .before .before .before .before .before .settle .ensures) (cleared-front (2 * (a .p * a .q)) (r .last .1 .1 .1 .1 .1 .1 .0) _ (omega (arith, s .pre .words, k, m)) (c .before .before .clear2 .ensures))
+    let k = r .kept .1 .1 .1 .1 .1 .1 .0 in
+    let j = f .kept .1 .0 in
+    search-whole _ _ _ _ _ (s .pre) _ _ _ _ _ _ _ (r .ensures .0) _ _ _ _ _
+    (cleared-part (a .p * a .q) _ (a .work .now) _ (omega arith) (s .pre .words) (l .ensures)) (r .ensures .1) (f .ensures .2) (f .ensures .0, f .ensures .1)
+    (cleared-front (2 * (a .p * a .q)) (f .last .1 .0) _ (omega (arith, s .pre .words, j, k, m)) (c .before .before .clear2 .ensures))
 
 pub search-spec : {M : Type 1} → statement M
 search-spec =

@@ -1,20 +1,19 @@
 -- `trace_back::read_back`: recursion on the number of events left, from the last event to the first.
 use native.Mathlib.Omega.{arith}
 use lib.ListN.{length-set}
-use Rattle.search_spec.specs.Words.{nodeAt, linkAt}
-use Rattle.search_spec.specs.Read.{back-link, read-none, read-more}
+use Rattle.search_spec.specs.Read.{linkIn, back-link, read-none, read-more}
 use Prim.Native.Nat.{ℕ, _<_}
 use borrow.Fn.Kinds.{In}
 use borrow.Fn.PlainCycle.{Measures, is, falls, and}
 use Rattle.trace_back.proofs.read_back.Reads as read-back
 use Rattle.trace_back.proofs.read_back.Kinds as read-back-kinds
 use Rattle.trace_back.proofs.+read_back.Lts-read_back as read-back-lts
-use Rattle.trace_back.proofs.link_at.Reads as link-at-reads
+use Rattle.trace_back.proofs.number.Reads as number-reads
 use Rattle.trace_back.proofs.+read_back.{statement}
 use Rattle.trace_back.proofs.+read_back.Tie.{close}
 
 abbrev μ-read-back : Measures 3 read-back-kinds.ps ℕ
-μ-read-back κs a = a .1 .1 .1 .0
+μ-read-back κs a = a .1 .1 .0
 
 abbrev read-back-at : ℕ → In 3 read-back-kinds.ps
 read-back-at t = and 3 read-back-kinds.ps (is 3 read-back-kinds.ps μ-read-back t) read-back.Pre
@@ -24,104 +23,126 @@ read-back-below t =
     and 3 read-back-kinds.ps (falls 3 read-back-kinds.ps _<_ μ-read-back t) read-back.Pre
 
 read-back-returns : (t : ℕ) → read-back-lts.Need-returns (
-  link-at-reads.Asked,
-  link-at-reads.Learnt,
+  number-reads.Asked,
+  number-reads.Learnt,
   read-back-below t,
   read-back.Post,
 ) (read-back-at t) read-back.Post
 read-back-returns t c = read-none _ _ _ _ _ (c .if1 .taken)
 
-read-back-link-at-requires : (t : ℕ) → read-back-lts.Need-link-at-requires (
-  link-at-reads.Asked,
-  link-at-reads.Learnt,
+read-back-mul-number : (t : ℕ) → read-back-lts.Need-mul-number (
+  number-reads.Asked,
+  number-reads.Learnt,
   read-back-below t,
   read-back.Post,
 ) (read-back-at t) read-back.Post
-read-back-link-at-requires t c κs = back-link _ _ _ _ (c .if1 .left) (c .before .pre .1 .0) .seat
+read-back-mul-number t c = omega (arith, back-link _ _ _ (c .if1 .left) (c .before .pre .1 .0) .small)
+
+read-back-index-1-number : (t : ℕ) → read-back-lts.Need-index-1-number (
+  number-reads.Asked,
+  number-reads.Learnt,
+  read-back-below t,
+  read-back.Post,
+) (read-back-at t) read-back.Post
+read-back-index-1-number t c = back-link _ _ _ (c .if1 .left) (c .before .pre .1 .0) .inside
+
+read-back-number-requires : (t : ℕ) → read-back-lts.Need-number-requires (
+  number-reads.Asked,
+  number-reads.Learnt,
+  read-back-below t,
+  read-back.Post,
+) (read-back-at t) read-back.Post
+read-back-number-requires t c κs = tt
 
 read-back-sub-events : (t : ℕ) → read-back-lts.Need-sub-events (
-  link-at-reads.Asked,
-  link-at-reads.Learnt,
+  number-reads.Asked,
+  number-reads.Learnt,
   read-back-below t,
   read-back.Post,
 ) (read-back-at t) read-back.Post
-read-back-sub-events t c = rw (c .link-at .ensures) (back-link _ _ _ _ (c .before .if1 .left) (c .before .before .pre .1 .0) .link)
+unfolding linkIn
+read-back-sub-events t c = rw (c .number .ensures) (back-link _ _ _ (c .before .before .if1 .left) (c .before .before .before .pre .1 .0) .link)
 
 read-back-cast-events : (t : ℕ) → read-back-lts.Need-cast-events (
-  link-at-reads.Asked,
-  link-at-reads.Learnt,
+  number-reads.Asked,
+  number-reads.Learnt,
   read-back-below t,
   read-back.Post,
 ) (read-back-at t) read-back.Post
 read-back-cast-events t c = omega arith
 
 read-back-sub-events-2 : (t : ℕ) → read-back-lts.Need-sub-events-2 (
-  link-at-reads.Asked,
-  link-at-reads.Learnt,
+  number-reads.Asked,
+  number-reads.Learnt,
   read-back-below t,
   read-back.Post,
 ) (read-back-at t) read-back.Post
-read-back-sub-events-2 t c = omega (arith, c .before .if1 .left)
+read-back-sub-events-2 t c = omega (arith, c .before .before .if1 .left)
 
 read-back-element-write-events : (t : ℕ) → read-back-lts.Need-element-write-events (
-  link-at-reads.Asked,
-  link-at-reads.Learnt,
+  number-reads.Asked,
+  number-reads.Learnt,
   read-back-below t,
   read-back.Post,
 ) (read-back-at t) read-back.Post
-read-back-element-write-events t c = omega (arith, c .before .if1 .left, c .before .before .pre .1 .0 .few)
+read-back-element-write-events t c = omega (arith, c .before .before .if1 .left, c .before .before .before .pre .1 .0 .few)
 
 read-back-sub-read-back : (t : ℕ) → read-back-lts.Need-sub-read-back (
-  link-at-reads.Asked,
-  link-at-reads.Learnt,
+  number-reads.Asked,
+  number-reads.Learnt,
   read-back-below t,
   read-back.Post,
 ) (read-back-at t) read-back.Post
-read-back-sub-read-back t c = rw (c .link-at .ensures) (back-link _ _ _ _ (c .before .if1 .left) (c .before .before .pre .1 .0) .link)
+unfolding linkIn
+read-back-sub-read-back t c = rw (c .number .ensures) (back-link _ _ _ (c .before .before .if1 .left) (c .before .before .before .pre .1 .0) .link)
 
 read-back-sub-read-back-2 : (t : ℕ) → read-back-lts.Need-sub-read-back-2 (
-  link-at-reads.Asked,
-  link-at-reads.Learnt,
+  number-reads.Asked,
+  number-reads.Learnt,
   read-back-below t,
   read-back.Post,
 ) (read-back-at t) read-back.Post
-read-back-sub-read-back-2 t c = omega (arith, c .before .if1 .left)
+read-back-sub-read-back-2 t c = omega (arith, c .before .before .if1 .left)
 
 read-back-read-back-requires : (t : ℕ) → read-back-lts.Need-read-back-requires (
-  link-at-reads.Asked,
-  link-at-reads.Learnt,
+  number-reads.Asked,
+  number-reads.Learnt,
   read-back-below t,
   read-back.Post,
 ) (read-back-at t) read-back.Post
+unfolding linkIn
 read-back-read-back-requires t c κs =
-    let s = c .before .before .before .pre in (
-      omega (arith, c .before .before .if1 .left, s .0),
-      (rw (c .before .link-at .ensures) (back-link _ _ _ _ (c .before .before .if1 .left) (s .1 .0) .rest), simp length-set (s .1 .1)),
+    let s = c .before .before .before .before .pre in (
+      omega (arith, c .before .before .before .if1 .left, s .0),
+      (rw (c .before .number .ensures) (back-link _ _ _ (c .before .before .before .if1 .left) (s .1 .0) .rest), simp length-set (s .1 .1)),
     )
 
 read-back-returns-2 : (t : ℕ) → read-back-lts.Need-returns-2 (
-  link-at-reads.Asked,
-  link-at-reads.Learnt,
+  number-reads.Asked,
+  number-reads.Learnt,
   read-back-below t,
   read-back.Post,
 ) (read-back-at t) read-back.Post
+unfolding linkIn
 read-back-returns-2 t c =
-    let s = c .before .before .before .before in
+    let s = c .before .before .before .before .before in
     let a = s .args in
-    read-more (nodeAt (a .work .now .now)) (linkAt (a .n) (a .work .now .now)) (a .place) _ _ (a .events .now) _ (c .before .before .before .if1 .left)
-    (omega (arith, s .pre .1 .0 .few, s .pre .1 .1)) (c .before .before .link-at .ensures) (c .read-back .ensures)
+    read-more (λ x. x) (linkIn (a .links .now .now)) (a .place) _ _ (a .events .now) _ (c .before .before .before .before .if1 .left)
+    (omega (arith, s .pre .1 .0 .few, s .pre .1 .1)) (c .before .before .number .ensures) (c .read-back .ensures)
 
 pub +read-back-spec : {M : Type 1} → statement M
 +read-back-spec = close μ-read-back λ t. read-back-lts.spec (
-  link-at-reads.Asked,
-  link-at-reads.Learnt,
+  number-reads.Asked,
+  number-reads.Learnt,
   read-back-below t,
   read-back.Post,
 )
     (read-back-at t)
     read-back.Post
     (read-back-returns t)
-    (read-back-link-at-requires t)
+    (read-back-mul-number t)
+    (read-back-index-1-number t)
+    (read-back-number-requires t)
     (read-back-sub-events t)
     (read-back-cast-events t)
     (read-back-sub-events-2 t)
