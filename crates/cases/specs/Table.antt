@@ -1,6 +1,6 @@
 -- The P cases of 01 as one table: each row is a call or a whole run, its answer is a list of numbers, and one equation has them
--- all. The rows `adding` are for 02, K5, the rows `lending` for K7. Sheets come as bytes, through the definition of reading. The rows compute through the
--- definitions that the contracts cite, the probe lists among them.
+-- all. The rows `adding` are for 02, K5, the rows `lending` for K7. Sheets come as bytes, through the definition of reading. The
+-- rows compute through the definitions that the contracts cite, the probe lists among them.
 use mathlib.Core.Path.{_≡_, refl}
 use mathlib.Core.Bool.{Bool, true, false}
 use mathlib.Core.List.{List, [], _∷_, _++_, map}

@@ -30,8 +30,8 @@ fn judge(
     outcomes::tell(reference, device, found)
 }
 
-// Compares a device's sheet with a reference's, `trace_only` with traces alone. The work list is to have 2 p q words, which are 0
-// afterwards, the trace list p q - 1 bytes, which the trace fills from the front.
+// Compares a device's sheet with a reference's, `trace_only` with traces alone. The work list is to have 2 p q words,
+// which are 0 afterwards, the trace list p q - 1 bytes, which the trace fills from the front.
 pub fn compare(
     reference: Sheet,
     device: Sheet,

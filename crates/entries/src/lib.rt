@@ -1,9 +1,9 @@
-// The entries of a search's work list: they are read, and the pair that an event of one leads to becomes a new one. With n pairs the
-// work list has n words for the queue of the pairs reached and n for each pair's link: 0 while it has not been reached, 1 at the start,
-// else 16 times the entry that led to it, the event, and 2 (16 is above every event, and a link is taken apart by shifts). No word has a
-// pair's distance: the queue counts its levels.
+// The entries of a search's work list: they are read, and the pair that an event of one leads to becomes a new one.
+// With n pairs the work list has n words for the queue of the pairs reached and n for each pair's link: 0 while it has
+// not been reached, 1 at the start, else 16 times the entry that led to it, the event, and 2 (16 is above every event,
+// and a link is taken apart by shifts). No word has a pair's distance: the queue counts its levels.
 ghost use mathlib.Core.Path.{_≡_};
-ghost use Prim.Native.Nat.{_+_, _*_, _≤_, _<_};
+ghost use Prim.Native.Nat.{_+_, _*_, _<_};
 ghost use lib.ListN.{length};
 ghost use Rattle.search_spec.specs.Tables.{tablePairs};
 ghost use Rattle.search_spec.specs.Words.{st, nodeAt, visited, tried, VisitOk};

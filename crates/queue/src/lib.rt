@@ -1,5 +1,6 @@
-// The queue of a breadth-first search over the pairs of nodes of two graphs that are given as flat tables of successors: one entry of
-// the work list after another is taken, and the pairs that its events lead to become entries, until one is bad or none is left.
+// The queue of a breadth-first search over the pairs of nodes of two graphs that are given as flat tables of
+// successors: one entry of the work list after another is taken, and the pairs that its events lead to become entries,
+// until one is bad or none is left.
 ghost use mathlib.Core.Path.{_≡_};
 ghost use mathlib.Core.Bool.{false, cond};
 ghost use Prim.Native.Nat.{_+_, _/_, _%_, _≤_, _<_};
@@ -11,7 +12,8 @@ ghost use Rattle.search_spec.specs.Found.{Ended};
 ghost use Rattle.search_spec.specs.Steps.{ScanOk, RunOk};
 use entries::Entry;
 
-// Where a search ended: the entry at which it did, how many entries there are, the distance of that entry, and how many are nearer.
+// Where a search ended: the entry at which it did, how many entries there are, the distance of that entry, and how many
+// are nearer.
 pub struct Stop {
     pub head: usize,
     pub tail: usize,
@@ -30,7 +32,8 @@ struct Level {
 fn level_at(level: Level, head: usize, tail: usize) -> Level
     requires { ⌜ level .distance < 1024 ⌝ }
     ensures { λ r. ⌜ (r .distance ≡ cond (ltb head (level .end)) (level .distance) (level .distance + 1))
-        × (r .start ≡ cond (ltb head (level .end)) (level .start) (level .end)) × (r .end ≡ cond (ltb head (level .end)) (level .end) tail) ⌝ }
+        × (r .start ≡ cond (ltb head (level .end)) (level .start) (level .end))
+        × (r .end ≡ cond (ltb head (level .end)) (level .end) tail) ⌝ }
 {
     if head < level.end {
         return level;
@@ -42,8 +45,8 @@ fn level_at(level: Level, head: usize, tail: usize) -> Level
     }
 }
 
-// x / q, for x below 1,024 and q up to 32, as a product: every entry of the queue waits for it, and a division takes three times as
-// long.
+// x / q, for x below 1,024 and q up to 32, as a product: every entry of the queue waits for it, and a division takes
+// three times as long.
 fn quotient(x: usize, q: usize) -> usize
     requires { ⌜ (x < 1024) × (1 ≤ q) × (q ≤ 32) ⌝ }
     ensures { λ r. ⌜ r ≡ x / q ⌝ }
@@ -113,8 +116,9 @@ pub fn run(
     n: usize,
 ) -> Stop
     requires { ⌜ RunOk p q e n (now work) ⌝ }
-    ensures { λ r. ⌜ Ended (tablePairs (now (a .entry)) (now (b .entry)) p q e) (badCode (now (bad .entry)) q) (r .head) (r .distance) (r .nearer)
-        (st (r .tail) (now (work .exit))) × (drop (wordsFor n) (now (work .exit)) ≡ drop (wordsFor n) (now (work .entry))) ⌝ }
+    ensures { λ r. ⌜ Ended (tablePairs (now (a .entry)) (now (b .entry)) p q e) (badCode (now (bad .entry)) q)
+        (r .head) (r .distance) (r .nearer) (st (r .tail) (now (work .exit)))
+        × (drop (wordsFor n) (now (work .exit)) ≡ drop (wordsFor n) (now (work .entry))) ⌝ }
 {
     let mut t = entries::visit(work, n, 0, 0, 1);
     let mut h = 0;

@@ -1,5 +1,5 @@
-// A breadth-first search over the pairs of nodes of two graphs that are given as flat tables of successors, for the nearest pair
-// of a given table of bad ones, in a lent work list (crate `entries`).
+// A breadth-first search over the pairs of nodes of two graphs that are given as flat tables of successors, for the
+// nearest pair of a given table of bad ones, in a lent work list (crate `entries`).
 ghost use mathlib.Core.Path.{_≡_};
 ghost use Prim.Native.Nat.{_≤_};
 ghost use lib.ListN.{length, drop, replicate};
@@ -13,7 +13,8 @@ use search_spec::Found;
 fn settle(q: usize, work: &mut [u16], n: usize, stop: Stop, trace: &mut [u8]) -> Found
     requires { ⌜ (1 ≤ q) × SettleOk n (now work) (stop .head) (stop .tail) (stop .distance) (now trace) ⌝ }
     ensures { λ r. ⌜ (r ≡ settled q (now (work .entry)) (stop .head) (stop .tail) (stop .distance) (stop .nearer))
-        × (now (trace .exit) ≡ readOut n (now (work .entry)) (stop .head) (stop .tail) (stop .distance) (now (trace .entry)))
+        × (now (trace .exit)
+        ≡ readOut n (now (work .entry)) (stop .head) (stop .tail) (stop .distance) (now (trace .entry)))
         × (drop (wordsFor n) (now (work .exit)) ≡ drop (wordsFor n) (now (work .entry))) ⌝ }
 {
     if stop.head < stop.tail {
@@ -38,9 +39,9 @@ fn clear(words: &mut [u16])
     }
 }
 
-// Searches the pairs that common traces of two graphs reach for the nearest bad one. Of the work list only the links must be 0 before;
-// all of its words are 0 afterwards. Node v's successor on event i stands at
-// 12 v + i of its table, a number that is no node stands for none; whether the pair (v, w) is bad stands at q v + w.
+// Searches the pairs that common traces of two graphs reach for the nearest bad one. Of the work list only the links
+// must be 0 before; all of its words are 0 afterwards. Node v's successor on event i stands at 12 v + i of its table, a
+// number that is no node stands for none; whether the pair (v, w) is bad stands at q v + w.
 pub fn search(
     reference: &[u8; 384],
     device: &[u8; 384],
@@ -52,8 +53,8 @@ pub fn search(
     trace: &mut [u8],
 ) -> Found
     requires { ⌜ SearchOk p q e (now work) (now trace) ⌝ }
-    ensures { λ r. ⌜ Searched (now (reference .entry)) (now (device .entry)) p q e (now (bad .entry)) (now (work .entry)) (now (trace .entry))
-        (now (work .exit)) (now (trace .exit)) r ⌝ }
+    ensures { λ r. ⌜ Searched (now (reference .entry)) (now (device .entry)) p q e (now (bad .entry))
+        (now (work .entry)) (now (trace .entry)) (now (work .exit)) (now (trace .exit)) r ⌝ }
 {
     let n = p * q;
     let all = 2 * n;

@@ -18,7 +18,7 @@ use Rattle.search_spec.specs.declared.Found.{Found}
 use Rattle.search_spec.specs.declared.Found.the-variants.{Clear, Bad}
 use Rattle.search_spec.specs.Tables.{tablePairs, badCode}
 use Rattle.search_spec.specs.Queue.{Made, readBack, readBack-length}
-use Rattle.search_spec.specs.Words.{wordsFor, St, nodeAt, linkAt, Running, tail-le}
+use Rattle.search_spec.specs.Words.{wordsFor, St, nodeAt, linkAt, Running}
 use Rattle.search_spec.specs.Found.{Ended, settled, readOut, Searched, settled-is, readOut-is, workFound}
 use Rattle.search_spec.specs.Steps.{Sizes, pairs-size, small-product, RunOk, Seat, seat}
 

@@ -1,5 +1,6 @@
-// The trace to an entry of a search's work list: its events are read back from link to link, the last one first, and written in their
-// order to the front of the trace list. The links are put in the places of their entries first, so that each names the place of the next.
+// The trace to an entry of a search's work list: its events are read back from link to link, the last one first, and
+// written in their order to the front of the trace list. The links are put in the places of their entries first, so
+// that each names the place of the next.
 ghost use mathlib.Core.Path.{_≡_};
 ghost use mathlib.Core.List.{_++_};
 ghost use Prim.Native.Nat.{_≤_};
@@ -26,12 +27,14 @@ fn put_links(work: &mut [u16], n: usize, m: usize)
     }
 }
 
-// Writes the d events that lead to an entry to the front of a list, the last one first: it stands in the entry's link, and the
-// others lead to the entry that the link names. (The links are lent by a reference to the list, and the events' list is of fixed size,
-// so that the compiler makes a loop of it: a slice handed on costs a frame on the stack for each event.)
+// Writes the d events that lead to an entry to the front of a list, the last one first: it stands in the entry's link,
+// and the others lead to the entry that the link names. (The links are lent by a reference to the list, and the events'
+// list is of fixed size, so that the compiler makes a loop of it: a slice handed on costs a frame on the stack for each
+// event.)
 fn read_back(links: &&[u16], place: usize, d: usize, events: &mut [u8; 1024])
     requires { ⌜ BackOk (now (now links)) place d × (length (now events) ≡ 1024) ⌝ }
-    ensures { λ _. ⌜ now (events .exit) ≡ readBack (λ x. x) (linkIn (now (now (links .entry)))) d place ++ drop d (now (events .entry)) ⌝ }
+    ensures { λ _. ⌜ now (events .exit)
+        ≡ readBack (λ x. x) (linkIn (now (now (links .entry)))) d place ++ drop d (now (events .entry)) ⌝ }
 {
     if d == 0 {
         return;
@@ -54,7 +57,8 @@ fn put_front(events: &[u8; 1024], d: usize, trace: &mut [u8])
 // Writes the d events that links lead back by to the front of the trace list.
 fn write_back(links: &[u16], place: usize, d: usize, trace: &mut [u8])
     requires { ⌜ BackOk (now links) place d × (d ≤ length (now trace)) ⌝ }
-    ensures { λ _. ⌜ now (trace .exit) ≡ readBack (λ x. x) (linkIn (now (links .entry))) d place ++ drop d (now (trace .entry)) ⌝ }
+    ensures { λ _. ⌜ now (trace .exit)
+        ≡ readBack (λ x. x) (linkIn (now (links .entry))) d place ++ drop d (now (trace .entry)) ⌝ }
 {
     let mut events = [0u8; 1024];
     read_back(&links, place, d, &mut events);
@@ -64,7 +68,8 @@ fn write_back(links: &[u16], place: usize, d: usize, trace: &mut [u8])
 // Writes the d events that lead to an entry to the front of the trace list. The queue is spent by it.
 pub fn write_trace(work: &mut [u16], n: usize, place: usize, d: usize, trace: &mut [u8])
     requires { ⌜ TraceOk n (now work) place d × (d ≤ length (now trace)) ⌝ }
-    ensures { λ _. ⌜ (now (trace .exit) ≡ readBack (nodeAt (now (work .entry))) (linkAt n (now (work .entry))) d place ++ drop d (now (trace .entry)))
+    ensures { λ _. ⌜ (now (trace .exit)
+        ≡ readBack (nodeAt (now (work .entry))) (linkAt n (now (work .entry))) d place ++ drop d (now (trace .entry)))
         × (drop (wordsFor n) (now (work .exit)) ≡ drop (wordsFor n) (now (work .entry))) ⌝ }
 {
     put_links(work, n, place + 1);

@@ -1,5 +1,4 @@
 -- `entries::visit`: the two words of a new entry, or nothing.
-use mathlib.Core.Path.{_∙_}
 use native.Mathlib.Omega.{arith}
 use lib.ListN.{length-set}
 use borrow.Author.Tests.{eq-eqb, ne-eqb}
