@@ -188,10 +188,10 @@ struct bench_compared {
 
 /* Compares a device of q nodes with a reference of p, by traces alone if the flag `traces` is set. Handed over: copies of both
  * sheets. Lent: `words` words from `work` on, of which 2 p q are needed, and `places` bytes from `trace` on, of which p q - 1
- * are needed. Answered: whether the device refines the reference, or the nearest violation; then 2 p q words of the work list
- * are 0 and its later words as they were, and the d events of the trace, the least of its length by event number, stand at
- * the front of the trace list and its rest is as it was. Or the refusal (the reference's; the device's; 11; 12; 13), and
- * both lists are as they were. */
+ * are needed; 2,048 words and 1,023 bytes are enough for any two sheets. Answered: whether the device refines the reference,
+ * or the nearest violation; then 2 p q words of the work list are 0 and its later words as they were, and the d events of the
+ * trace, the least of its length by event number, stand at the front of the trace list and its rest is as it was. Or the
+ * refusal (the reference's; the device's; 11; 12; 13), and both lists are as they were. */
 struct bench_compared bench_compare(struct bench_sheet reference, struct bench_sheet device, uint8_t traces, uint16_t *work,
                                     size_t words, uint8_t *trace, size_t places);
 

@@ -30,7 +30,7 @@ use Rattle.comparison_spec.specs.Meaning.{ReachedBefore, ReachedEver, Number, N
 use Rattle.comparison_spec.specs.ComparisonLaws.{trace-length, nearest-below, nearest-only, refines-nearest}
 use Rattle.comparison_spec.specs.OutcomeLaws.{traceOf}
 use Rattle.comparison_spec.specs.AnswerLaws.{outcome-describes}
-use Rattle.comparison_spec.specs.CallLaws.{compare-fits, given-outcome, given-trace}
+use Rattle.comparison_spec.specs.CallLaws.{compare-0, compare-fits, given-outcome, given-trace}
 use Rattle.claim.specs.Claim.{Accepted, LongEnough, Witness, by-stray, by-refusal, Reports, stray-reports, refusal-reports, Violated, Demand3}
 
 -- accepted as bytes or as kept, a sheet is not refused by a later call
@@ -61,6 +61,11 @@ module _ (P Q : Sheet) (accP : sheetFault P ≡ 0) (accQ : sheetFault Q ≡ 0) (
   fits : (work trace : List ℕ) → LongEnough P Q work trace → compareFault P Q work trace ≡ 0
   unfolding pairs
   fits work trace l = compare-fits P Q work trace accP accQ same (l .0) (l .1)
+
+  -- and with no others: they are long enough exactly if neither 12 nor 13 applies
+  pub long-enough : (work trace : List ℕ) → LongEnough P Q work trace ↔ (compareFault P Q work trace ≡ 0)
+  unfolding pairs
+  long-enough work trace = (fits work trace, λ z. let o = compare-0 P Q work trace .0 z in (omega (arith, o .0 .1), omega (arith, o .1)))
 
   given : (work trace : List ℕ) → LongEnough P Q work trace → outcomeOf to P Q work trace ≡ comparisonOf to P Q
   given work trace l = given-outcome P Q work trace to (fits work trace l)

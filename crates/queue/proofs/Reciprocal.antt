@@ -2,7 +2,8 @@
 use mathlib.Core.Path.{_≡_}
 use Prim.Native.Nat.{ℕ, _+_, _-_, _*_, _/_, _%_, _≤_, _<_}
 use native.Mathlib.Omega.{arith}
-use native.Mathlib.Nat.{mul-le-mul, mul-le-mul-left, mul-le-mul-right, mul-comm, mul-assoc, mul-add, add-mul, div-add-mod', mod-lt, le-div-iff-mul-le, div-eq-of-lt-le, div-le-self, div-mul-le-self}
+use native.Mathlib.Nat.{mul-le-mul, mul-le-mul-left, mul-le-mul-right, mul-comm, mul-assoc, mul-add, add-mul}
+use native.Mathlib.Nat.{div-add-mod', mod-lt, le-div-iff-mul-le, div-eq-of-lt-le, div-le-self, div-mul-le-self}
 
 module _ (x q : ℕ) (lx : x < 1024) (some : 1 ≤ q) (few : q ≤ 32) where
   -- the factor

@@ -12,8 +12,8 @@ ghost use Rattle.search_spec.specs.Found.{Ended};
 ghost use Rattle.search_spec.specs.Steps.{ScanOk, RunOk};
 use entries::Entry;
 
-// Where a search ended: the entry at which it did, how many entries there are, the distance of that entry, and how many
-// are nearer.
+// Where a search ended: the entry at which it did and how many entries there are; and, where that entry is a bad one,
+// its distance and how many are nearer.
 pub struct Stop {
     pub head: usize,
     pub tail: usize,
@@ -28,7 +28,8 @@ struct Level {
     end: usize,
 }
 
-// The level of the entry `head` of `tail`: the one before it, or the next where that has ended.
+// The level of the entry `head`, from that of the entry before it: the same or, where that has ended, the next one, up
+// to `tail`.
 fn level_at(level: Level, head: usize, tail: usize) -> Level
     requires { ⌜ level .distance < 1024 ⌝ }
     ensures { λ r. ⌜ (r .distance ≡ cond (ltb head (level .end)) (level .distance) (level .distance + 1))
@@ -45,8 +46,8 @@ fn level_at(level: Level, head: usize, tail: usize) -> Level
     }
 }
 
-// x / q, for x below 1,024 and q up to 32, as a product: every entry of the queue waits for it, and a division takes
-// three times as long.
+// x / q, for x below 1,024 and q up to 32, as a product. Each entry of the queue is one step behind the last, so that
+// the search waits for its quotient; it does not wait for 65,536 / q, which is the same for all.
 fn quotient(x: usize, q: usize) -> usize
     requires { ⌜ (x < 1024) × (1 ≤ q) × (q ≤ 32) ⌝ }
     ensures { λ r. ⌜ r ≡ x / q ⌝ }

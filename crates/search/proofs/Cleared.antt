@@ -4,13 +4,9 @@ use mathlib.Core.List.{List, _++_}
 use Prim.Native.Nat.{ℕ, _-_, _≤_}
 use lib.ListN.{length, take, drop, replicate}
 use lib.Seq.{length-take-le}
-use borrow.Rule.Slice.PartMut.{midOf, postOf, putMid, same-len-mid, mid-len, post-is}
+use borrow.Rule.Slice.PartMut.{midOf, postOf, putMid, mid-len, post-is}
 
--- the words from a up to b: the list is as long as it was
-pub part-length : (a b : ℕ) (w part : List ℕ) → length part ≡ length (midOf a (b - a) w) → length (putMid a (b - a) w part) ≡ length w
-part-length a b w part e = same-len-mid a (b - a) w part e
-
--- and it is 0 there
+-- the words from a up to b
 pub cleared-part : (a b : ℕ) (w part : List ℕ) → a ≤ b → b ≤ length w → part ≡ replicate (length (midOf a (b - a) w)) 0
     → putMid a (b - a) w part ≡ take a w ++ (replicate (b - a) 0 ++ drop b w)
 cleared-part a b w part le fits c =

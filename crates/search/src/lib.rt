@@ -9,7 +9,7 @@ ghost use Rattle.search_spec.specs.Read.{SettleOk, SearchOk};
 use queue::Stop;
 use search_spec::Found;
 
-// The answer where a search ended, with its trace. The queue is spent by it.
+// The answer where a search ended, with its trace. Links may then stand in the places of the queue.
 fn settle(q: usize, work: &mut [u16], n: usize, stop: Stop, trace: &mut [u8]) -> Found
     requires { ⌜ (1 ≤ q) × SettleOk n (now work) (stop .head) (stop .tail) (stop .distance) (now trace) ⌝ }
     ensures { λ r. ⌜ (r ≡ settled q (now (work .entry)) (stop .head) (stop .tail) (stop .distance) (stop .nearer))
@@ -39,9 +39,10 @@ fn clear(words: &mut [u16])
     }
 }
 
-// Searches the pairs that common traces of two graphs reach for the nearest bad one. Of the work list only the links
-// must be 0 before; all of its words are 0 afterwards. Node v's successor on event i stands at 12 v + i of its table, a
-// number that is no node stands for none; whether the pair (v, w) is bad stands at q v + w.
+// Searches the pairs that common traces of two graphs reach for the nearest bad one. Node v's successor on event i
+// stands at 12 v + i of its table, a number that is no node stands for none; whether the pair (v, w) is bad stands at
+// q v + w. Of the search's 2 p q words in the work list the links are set to 0 before, and all of them at the end;
+// later words are left.
 pub fn search(
     reference: &[u8; 384],
     device: &[u8; 384],
@@ -57,10 +58,10 @@ pub fn search(
         (now (work .entry)) (now (trace .entry)) (now (work .exit)) (now (trace .exit)) r ⌝ }
 {
     let n = p * q;
-    let all = 2 * n;
-    clear(&mut work[n..all]);
+    let words = 2 * n;
+    clear(&mut work[n..words]);
     let stop = queue::run(reference, device, p, q, e, bad, work, n);
     let found = settle(q, work, n, stop, trace);
-    clear(&mut work[..all]);
+    clear(&mut work[..words]);
     found
 }

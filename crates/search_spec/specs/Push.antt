@@ -7,7 +7,7 @@ use native.Mathlib.Omega.{arith}
 use native.Mathlib.Nat.{eq-or-lt-of-le}
 use native.Mathlib.Decide.{ℕ-discrete}
 use Rattle.walks.specs.Graph.{Graph}
-use Rattle.search_spec.specs.Queue.{Made, Tried, Queue}
+use Rattle.search_spec.specs.Queue.{linkOf, Made, Tried, Queue}
 
 -- The node v, which had no entry, is now entry `tail`, with the link m and the distance d; all else is as it was.
 pub record Pushed (n : ℕ) (N K D N′ K′ D′ : ℕ → ℕ) (tail v m d : ℕ) : Type 0 where
@@ -60,10 +60,10 @@ tried-kept g N K D N′ K′ D′ tail tail′ x i k l h =
     rw (k .nodes x l) (λ b. let r = h b in rw (k .links (g .next (N x) i) b (r .0)) r)
 
 module _ (g : Graph) (N K D N′ K′ D′ : ℕ → ℕ) (h k tail v : ℕ) (q : Queue g N K D h k tail) (ht : h < tail) (ke : k < g .events) (vn : v < g .size)
-    (next : g .next (N h) k ≡ v) (a : Pushed (g .size) N K D N′ K′ D′ tail v (h * 16 + k + 2) (D (N h) + 1)) where
+    (next : g .next (N h) k ≡ v) (a : Pushed (g .size) N K D N′ K′ D′ tail v (linkOf h k) (D (N h) + 1)) where
   -- the entries there were are left
   kept : Kept (g .size) N K D N′ K′ D′ tail (suc tail)
-  kept = pushed-kept (g .size) N K D N′ K′ D′ tail v (h * 16 + k + 2) (D (N h) + 1) a
+  kept = pushed-kept (g .size) N K D N′ K′ D′ tail v (linkOf h k) (D (N h) + 1) a
 
   -- their links
   old-link : (x : ℕ) → x < tail → K′ (N′ x) ≡ K (N x)
@@ -74,7 +74,7 @@ module _ (g : Graph) (N K D N′ K′ D′ : ℕ → ℕ) (h k tail v : ℕ) (q 
   old-dist x l = rw (a .old x l) (kept .dists (N x) (q .entry x l .0) (q .entry x l .1))
 
   -- the link of the new entry
-  new-link : K′ (N′ tail) ≡ h * 16 + k + 2
+  new-link : K′ (N′ tail) ≡ linkOf h k
   new-link = rw (a .new) (a .link)
 
   -- it was made by event k of entry h
@@ -173,7 +173,7 @@ module _ (g : Graph) (N K D : ℕ → ℕ) (h k tail : ℕ) (q : Queue g N K D h
       tried : Tried g N K h k
       tried b =
           let r = q .placed (g .next (N h) k) b (s b) in
-          let c : K (g .next (N h) k) < h * 16 + k + 2 = rw (r .2) at (q .bound (r .0) (r .1)) in
+          let c : K (g .next (N h) k) < linkOf h k = rw (r .2) at (q .bound (r .0) (r .1)) in
           (s b, omega arith)
 
 -- all events of the entry have been tried

@@ -1,5 +1,5 @@
 -- Breadth-first search in one graph: what holds of its queue, and that the first bad entry ends the least trace to a bad node.
--- Entry x of the queue is the node N x. K v is the link of node v: 0 while it has no entry, 1 at the start, and j * 16 + i + 2 if
+-- Entry x of the queue is the node N x. K v is the link of node v: 0 while it has no entry, 1 at the start, and linkOf j i if
 -- the event i of entry j first led to it, so that the order of links is the order in which the search tries events. D v is the
 -- number of events that led to v.
 use mathlib.Core.Path.{_≡_, refl, sym, ap, _∙_}
@@ -23,17 +23,27 @@ use Rattle.walks.specs.Order.{rank, rankFrom, rank-snoc, rank-length, rank-lex�
 use Rattle.walks.specs.Near.{LeadsToBad, distance, distance≤, distance<, distance→, distance-le, leastTrace, leastTrace-unique}
 use Rattle.walks.specs.Cleared.{cleared, cleared-listed}
 
+-- The link to entry j and event i, and the two in a link: 16 is above every event.
+abbrev pub linkOf : ℕ → ℕ → ℕ
+linkOf j i = j * 16 + i + 2
+
+abbrev pub entryOf : ℕ → ℕ
+entryOf m = (m - 2) / 16
+
+abbrev pub eventOf : ℕ → ℕ
+eventOf m = (m - 2) % 16
+
 -- Entry x was made from entry j by event i.
 pub record Made (g : Graph) (N K D : ℕ → ℕ) (x j i : ℕ) : Type 0 where
   pub before : j < x
   pub event : i < g .events
   pub edge : g .next (N j) i ≡ N x
-  pub link : K (N x) ≡ j * 16 + i + 2
+  pub link : K (N x) ≡ linkOf j i
   pub depth : D (N x) ≡ D (N j) + 1
 
 -- Where event i leads from entry x, there is an entry that was made no later than by it.
 abbrev pub Tried : Graph → (ℕ → ℕ) → (ℕ → ℕ) → ℕ → ℕ → Type 0
-Tried g N K x i = g .next (N x) i < g .size → (0 < K (g .next (N x) i)) × (K (g .next (N x) i) ≤ x * 16 + i + 2)
+Tried g N K x i = g .next (N x) i < g .size → (0 < K (g .next (N x) i)) × (K (g .next (N x) i) ≤ linkOf x i)
 
 -- What holds when the queue has `tail` entries and all events of the entries before `head`, and k events of entry `head`, have
 -- been tried.
@@ -46,14 +56,14 @@ pub record Queue (g : Graph) (N K D : ℕ → ℕ) (head k tail : ℕ) : Type 0 
   pub made : (x : ℕ) → 0 < x → x < tail → (j : ℕ) × (i : ℕ) × Made g N K D x j i
   pub near : (x : ℕ) → x < tail → D (N x) ≤ x
   pub rising : (x y : ℕ) → x < y → y < tail → K (N x) < K (N y)
-  pub bound : (x : ℕ) → x < tail → K (N x) < head * 16 + k + 2
+  pub bound : (x : ℕ) → x < tail → K (N x) < linkOf head k
   pub done : (x : ℕ) → x < head → (i : ℕ) → i < g .events → Tried g N K x i
   pub part : (i : ℕ) → i < k → Tried g N K head i
 
 -- The events of the last d links that lead to entry x, first the farthest.
 unfoldable pub readBack : (ℕ → ℕ) → (ℕ → ℕ) → ℕ → ℕ → List ℕ
 readBack N K zero x = []
-readBack N K (suc d) x = readBack N K d ((K (N x) - 2) / 16) ++ ((K (N x) - 2) % 16 ∷ [])
+readBack N K (suc d) x = readBack N K d (entryOf (K (N x))) ++ (eventOf (K (N x)) ∷ [])
 
 -- The events that lead from the start to entry x.
 abbrev pub path : (ℕ → ℕ) → (ℕ → ℕ) → (ℕ → ℕ) → ℕ → List ℕ
@@ -68,7 +78,7 @@ pub readBack-length : (N K : ℕ → ℕ) (d x : ℕ) → length (readBack N K d
 unfolding readBack
 readBack-length N K zero x = refl
 readBack-length N K (suc d) x =
-    length-snoc (readBack N K d ((K (N x) - 2) / 16)) ((K (N x) - 2) % 16) ∙ ap suc (readBack-length N K d ((K (N x) - 2) / 16))
+    length-snoc (readBack N K d (entryOf (K (N x)))) (eventOf (K (N x))) ∙ ap suc (readBack-length N K d (entryOf (K (N x))))
 
 -- entries are different nodes
 distinct : {g : Graph} {N K D : ℕ → ℕ} {head k tail : ℕ} → Queue g N K D head k tail → (x y : ℕ) → x < y → y < tail → N x ≢ N y
@@ -94,8 +104,8 @@ module _ {g : Graph} (w : WellFormed g) (N K D : ℕ → ℕ) (head tail : ℕ) 
   unfolding readBack P
   path-step x j i m =
       let d : D (N x) ≡ suc (D (N j)) = m .depth ∙ add-one (D (N j)) in
-      let u : (K (N x) - 2) / 16 ≡ j = omega (arith, m .link, m .event, q .few) in
-      let v : (K (N x) - 2) % 16 ≡ i = omega (arith, m .link, m .event, q .few) in
+      let u : entryOf (K (N x)) ≡ j = omega (arith, m .link, m .event, q .few) in
+      let v : eventOf (K (N x)) ≡ i = omega (arith, m .link, m .event, q .few) in
       rw d (rw (u, v))
 
   -- so the start comes first
@@ -174,7 +184,7 @@ module _ {g : Graph} (w : WellFormed g) (N K D : ℕ → ℕ) (head tail : ℕ) 
       ⊎ ((x : ℕ) × (head ≤ x) × (x < tail) × (rank 12 (P x) ≤ rank 12 t))
 
   -- an entry made no later than by event i of entry x, whose trace is no greater than t, has none greater than t with i
-  made-by : (t : List ℕ) (x y i : ℕ) → x < tail → y < tail → i < 12 → rank 12 (P x) ≤ rank 12 t → K (N y) ≤ x * 16 + i + 2
+  made-by : (t : List ℕ) (x y i : ℕ) → x < tail → y < tail → i < 12 → rank 12 (P x) ≤ rank 12 t → K (N y) ≤ linkOf x i
       → rank 12 (P y) ≤ rank 12 (t ++ (i ∷ []))
   made-by t x y i hx hy hi r k = rw (rank-snoc 12 t i) (pick (eq-zero-or-pos y))
     where

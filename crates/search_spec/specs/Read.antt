@@ -17,7 +17,7 @@ use Rattle.walks.specs.Graph.{Graph}
 use Rattle.search_spec.specs.declared.Found.{Found}
 use Rattle.search_spec.specs.declared.Found.the-variants.{Clear, Bad}
 use Rattle.search_spec.specs.Tables.{tablePairs, badCode}
-use Rattle.search_spec.specs.Queue.{Made, readBack, readBack-length}
+use Rattle.search_spec.specs.Queue.{entryOf, eventOf, Made, readBack, readBack-length}
 use Rattle.search_spec.specs.Words.{wordsFor, St, nodeAt, linkAt, Running}
 use Rattle.search_spec.specs.Found.{Ended, settled, readOut, Searched, settled-is, readOut-is, workFound}
 use Rattle.search_spec.specs.Steps.{Sizes, pairs-size, small-product, RunOk, Seat, seat}
@@ -27,7 +27,7 @@ use Rattle.search_spec.specs.Steps.{Sizes, pairs-size, small-product, Ru
 -- d links can be followed from entry x, where N gives the node of an entry and K the link of a node: all entries on the way are below m.
 unfoldable pub Deep : ℕ → (ℕ → ℕ) → (ℕ → ℕ) → ℕ → ℕ → Type 0
 Deep m N K x zero = Unit {0}
-Deep m N K x (suc d) = (x < m) × (2 ≤ K (N x)) × Deep m N K ((K (N x) - 2) / 16) d
+Deep m N K x (suc d) = (x < m) × (2 ≤ K (N x)) × Deep m N K (entryOf (K (N x))) d
 
 module _ (m : ℕ) (N K : ℕ → ℕ) (x : ℕ) where
   -- no link is asked for
@@ -36,13 +36,13 @@ module _ (m : ℕ) (N K : ℕ → ℕ) (x : ℕ) where
   deep-none = tt
 
   -- one link more
-  deep-more : (d j : ℕ) → x < m → 2 ≤ K (N x) → (K (N x) - 2) / 16 ≡ j → Deep m N K j d → Deep m N K x (suc d)
+  deep-more : (d j : ℕ) → x < m → 2 ≤ K (N x) → entryOf (K (N x)) ≡ j → Deep m N K j d → Deep m N K x (suc d)
   unfolding Deep
   deep-more d j a c e D = (a, c, rw e D)
 
 module _ (N K : ℕ → ℕ) (x : ℕ) where
   -- the last event is the one of the entry's own link
-  read-open : (d : ℕ) → d ≢ 0 → readBack N K d x ≡ readBack N K (d - 1) ((K (N x) - 2) / 16) ++ ((K (N x) - 2) % 16 ∷ [])
+  read-open : (d : ℕ) → d ≢ 0 → readBack N K d x ≡ readBack N K (d - 1) (entryOf (K (N x))) ++ (eventOf (K (N x)) ∷ [])
   unfolding readBack
   read-open zero ne = absurd (ne refl)
   read-open (suc d) ne = let e : suc d - 1 ≡ d = omega arith in rw e
@@ -54,20 +54,20 @@ module _ (N K : ℕ → ℕ) (x : ℕ) where
 
   -- the last event goes to the place before the rest of the list, and what leads there in front of it
   pub read-more : (d link : ℕ) (o o′ : List ℕ) → d ≢ 0 → d ≤ length o → link ≡ K (N x)
-      → o′ ≡ readBack N K (d - 1) ((link - 2) / 16) ++ drop (d - 1) (set o (d - 1) ((link - 2) % 16))
+      → o′ ≡ readBack N K (d - 1) (entryOf link) ++ drop (d - 1) (set o (d - 1) (eventOf link))
       → o′ ≡ readBack N K d x ++ drop d o
   read-more d link o o′ ne l c e =
-      let i = (link - 2) % 16 in
+      let i = eventOf link in
       let q : suc (d - 1) ≡ d = omega (arith, ne) in
       let b : d - 1 < length o = omega (arith, ne) in
-      let p = readBack N K (d - 1) ((link - 2) / 16) in
+      let p = readBack N K (d - 1) (entryOf link) in
       let tail : drop (d - 1) (set o (d - 1) i) ≡ i ∷ drop d o =
       drop-cons (set o (d - 1) i) (d - 1) 0 (omega (arith, length-set o (d - 1) i))
       ∙ ap (λ (y : ℕ). y ∷ drop (suc (d - 1)) (set o (d - 1) i)) (getD-set-same o (d - 1) i 0 b)
       ∙ ap (λ (r : List ℕ). i ∷ r) (drop-set-lt (suc (d - 1)) o (d - 1) i (omega arith) ∙ ap (λ (y : ℕ). drop y o) q)
       in
       let whole : p ++ (i ∷ []) ≡ readBack N K d x =
-      ap (λ (y : ℕ). readBack N K (d - 1) ((y - 2) / 16) ++ ((y - 2) % 16 ∷ [])) c ∙ sym (read-open d ne)
+      ap (λ (y : ℕ). readBack N K (d - 1) (entryOf y) ++ (eventOf y ∷ [])) c ∙ sym (read-open d ne)
       in
       e ∙ ap (λ (r : List ℕ). p ++ r) tail ∙ sym (append-snoc p i (drop d o)) ∙ ap (λ (r : List ℕ). r ++ drop d o) whole
 
@@ -108,9 +108,13 @@ write-whole N K d x events events′ o o′ ee eo =
 unfoldable pub linkIn : List ℕ → ℕ → ℕ
 linkIn l x = getD l x 0
 
+-- The link of entry x.
+abbrev pub entryLink : ℕ → List ℕ → ℕ → ℕ
+entryLink n w x = linkAt n w (nodeAt w x)
+
 -- The work list with the links of the first m entries in the entries' places.
 unfoldable pub linked : ℕ → List ℕ → ℕ → List ℕ
-linked n w m = upTo (λ x. linkAt n w (nodeAt w x)) m ++ drop m w
+linked n w m = upTo (entryLink n w) m ++ drop m w
 
 -- what putting the links of the first m entries there asks: the entries are there
 pub record LinksOk (n : ℕ) (w : List ℕ) (m : ℕ) : Type 0 where
@@ -120,10 +124,6 @@ pub record LinksOk (n : ℕ) (w : List ℕ) (m : ℕ) : Type 0 where
   pub nodes : (x : ℕ) → x < m → nodeAt w x < n
 
 module _ (n : ℕ) (w : List ℕ) where
-  -- the link of an entry
-  abbrev entryLink : ℕ → ℕ
-  entryLink x = linkAt n w (nodeAt w x)
-
   -- no link is there yet
   pub linked-none : w ≡ linked n w 0
   unfolding linked upTo
@@ -133,16 +133,16 @@ module _ (n : ℕ) (w : List ℕ) where
     -- a place of such a link
     linked-at : (x : ℕ) → x < m → linkIn (linked n w m) x ≡ linkAt n w (nodeAt w x)
     unfolding linkIn linked
-    linked-at x l = List·getD-append (upTo entryLink m) (drop m w) 0 x (omega (arith, length-upTo entryLink m)) ∙ getD-upTo entryLink m x 0 l
+    linked-at x l = List·getD-append (upTo (entryLink n w) m) (drop m w) 0 x (omega (arith, length-upTo (entryLink n w) m)) ∙ getD-upTo (entryLink n w) m x 0 l
 
     -- any later place
     linked-later : (v : List ℕ) → v ≡ linked n w m → (i : ℕ) → m ≤ i → getD v i 0 ≡ getD w i 0
     unfolding linked
     linked-later v c i l =
-        let e : i ≡ length (upTo entryLink m) + (i - m) = omega (arith, length-upTo entryLink m) in
+        let e : i ≡ length (upTo (entryLink n w) m) + (i - m) = omega (arith, length-upTo (entryLink n w) m) in
         let f : m + (i - m) ≡ i = omega arith in
-        ap (λ (y : List ℕ). getD y i 0) c ∙ ap (λ (y : ℕ). getD (upTo entryLink m ++ drop m w) y 0) e
-        ∙ getD-append-add (upTo entryLink m) (drop m w) (i - m) 0 ∙ getD-drop m w (i - m) 0 ∙ ap (λ (y : ℕ). getD w y 0) f
+        ap (λ (y : List ℕ). getD y i 0) c ∙ ap (λ (y : ℕ). getD (upTo (entryLink n w) m ++ drop m w) y 0) e
+        ∙ getD-append-add (upTo (entryLink n w) m) (drop m w) (i - m) 0 ∙ getD-drop m w (i - m) 0 ∙ ap (λ (y : ℕ). getD w y 0) f
 
     -- the next entry's node, and its link
     module _ (v : List ℕ) (c : v ≡ linked n w m) (node : ℕ) (e : node ≡ getD v m 0) where
@@ -155,19 +155,19 @@ module _ (n : ℕ) (w : List ℕ) where
       linked-link l = linked-later v c (n + node) (omega arith) ∙ ap (λ (y : ℕ). getD w (n + y) 0) linked-node
 
     -- one link more
-    pub linked-next : (v : List ℕ) (link : ℕ) → v ≡ linked n w m → m < length w → link ≡ entryLink m → set v m link ≡ linked n w (m + 1)
+    pub linked-next : (v : List ℕ) (link : ℕ) → v ≡ linked n w m → m < length w → link ≡ entryLink n w m → set v m link ≡ linked n w (m + 1)
     unfolding linked upTo
     linked-next v link c l e =
-        rw (c, e, drop-cons w m 0 l, set-at (upTo entryLink m) (getD w m 0) (drop (suc m) w) (entryLink m) m (length-upTo entryLink m), add-one m)
-        (sym (append-snoc (upTo entryLink m) (entryLink m) (drop (suc m) w)))
+        rw (c, e, drop-cons w m 0 l, set-at (upTo (entryLink n w) m) (getD w m 0) (drop (suc m) w) (entryLink n w m) m (length-upTo (entryLink n w) m), add-one m)
+        (sym (append-snoc (upTo (entryLink n w) m) (entryLink n w m) (drop (suc m) w)))
 
     -- the words behind are as they were
     pub linked-rest : (k : ℕ) → m ≤ k → drop k (linked n w m) ≡ drop k w
     unfolding linked
     linked-rest k l =
-        let e : k ≡ length (upTo entryLink m) + (k - m) = omega (arith, length-upTo entryLink m) in
+        let e : k ≡ length (upTo (entryLink n w) m) + (k - m) = omega (arith, length-upTo (entryLink n w) m) in
         let f : m + (k - m) ≡ k = omega arith in
-        ap (λ (y : ℕ). drop y (upTo entryLink m ++ drop m w)) e ∙ drop-append-add (upTo entryLink m) (drop m w) (k - m)
+        ap (λ (y : ℕ). drop y (upTo (entryLink n w) m ++ drop m w)) e ∙ drop-append-add (upTo (entryLink n w) m) (drop m w) (k - m)
         ∙ drop-drop (k - m) m w ∙ ap (λ (y : ℕ). drop y w) f
 
     -- links that can be followed in the work list can be followed there ..
@@ -177,7 +177,7 @@ module _ (n : ℕ) (w : List ℕ) where
       where
         go : (d x : ℕ) → Deep m (nodeAt w) (linkAt n w) x d → Deep m (λ x. x) (linkIn (linked n w m)) x d
         go zero x D = tt
-        go (suc d) x D = rw (linked-at x (D .0)) (D .0, D .1, go d ((linkAt n w (nodeAt w x) - 2) / 16) (D .2))
+        go (suc d) x D = rw (linked-at x (D .0)) (D .0, D .1, go d (entryOf (linkAt n w (nodeAt w x))) (D .2))
 
     -- .. and lead by the same events
     pub linked-read : (l : List ℕ) → l ≡ linked n w m → (d x : ℕ) → Deep m (nodeAt w) (linkAt n w) x d
@@ -187,7 +187,7 @@ module _ (n : ℕ) (w : List ℕ) where
       where
         go : (d x : ℕ) → Deep m (nodeAt w) (linkAt n w) x d → readBack (λ x. x) (linkIn (linked n w m)) d x ≡ readBack (nodeAt w) (linkAt n w) d x
         go zero x D = refl
-        go (suc d) x D = rw (linked-at x (D .0), go d ((linkAt n w (nodeAt w x) - 2) / 16) (D .2))
+        go (suc d) x D = rw (linked-at x (D .0), go d (entryOf (linkAt n w (nodeAt w x))) (D .2))
 
 -- what reading d links back from place x of a list of links asks
 pub record BackOk (l : List ℕ) (x d : ℕ) : Type 0 where
@@ -202,7 +202,7 @@ pub record Link (l : List ℕ) (x d : ℕ) : Type 0 where
   pub small : x < 1024
   pub inside : x < length l
   pub link : 2 ≤ linkIn l x
-  pub rest : BackOk l ((linkIn l x - 2) / 16) (d - 1)
+  pub rest : BackOk l (entryOf (linkIn l x)) (d - 1)
 
 -- where links are left, one can be followed
 pub back-link : (l : List ℕ) (x d : ℕ) → d ≢ 0 → BackOk l x d → Link l x d
@@ -259,6 +259,10 @@ deep g D h k s r m x b l = go (suc x) x (omega arith) b l
             more x (o .0) (o .1) b (o .2) (ih (o .0) (omega (arith, o .2 .before)) (omega (arith, o .2 .before)) (omega (arith, o .2 .before)))
 
 -- ---- the answer
+
+-- the words behind the search's own are as they were when the links are in their places
+pub settle-rest : (n : ℕ) (w v : List ℕ) (x : ℕ) {d : ℕ} → TraceOk n w x d → v ≡ linked n w (x + 1) → drop (wordsFor n) v ≡ drop (wordsFor n) w
+settle-rest n w v x o c = ap (drop (wordsFor n)) c ∙ linked-rest n w (x + 1) (wordsFor n) (omega (arith, o .entries))
 
 -- what settling asks, where the search ended at entry h of t, at the distance d
 pub record SettleOk (n : ℕ) (w : List ℕ) (h t d : ℕ) (trace : List ℕ) : Type 0 where

@@ -18,7 +18,7 @@ use Rattle.walks.specs.Product.{product}
 use Rattle.search_spec.specs.Tables.{tableGraph, tablePairs, next-both, next-none}
 use Rattle.search_spec.specs.Words.{wordsFor, St, st, nodeAt, linkAt, visited, tried, scanned, Running, tail-le, Stepped, entry-kept}
 use Rattle.search_spec.specs.Words.{VisitOk, visit-ok, scan-kept, running-next, running-start, put, none, Level, level-grows, level-next}
-use Rattle.search_spec.specs.Queue.{levelStart}
+use Rattle.search_spec.specs.Queue.{linkOf, levelStart}
 use Rattle.search_spec.specs.Found.{Ended}
 
 -- The sizes of two graphs, p and q nodes and e events, and the number n of their pairs.
@@ -167,7 +167,7 @@ module _ (a b : List ℕ) (p q e n : ℕ) where
 
     -- both tables have a successor
     pub step-both : (x y : ℕ) (s′ : St) → x ≡ getD a (row * 12 + k) 0 → y ≡ getD b (column * 12 + k) 0 → x < p → y < q
-        → s′ ≡ visited n (x * q + y) (place * 16 + k + 2) s → s′ ≡ tried G place (row * q + column) k s
+        → s′ ≡ visited n (x * q + y) (linkOf place k) s → s′ ≡ tried G place (row * q + column) k s
     unfolding tried
     step-both x y s′ u v h l c =
         let m = pairs-size (o .sizes) in

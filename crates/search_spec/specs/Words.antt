@@ -15,7 +15,7 @@ use lib.Seq.{getD-set-same, getD-set-other, drop-set-lt}
 use borrow.Author.Tests.{eq-eqb, ne-eqb, ltb-true, ltb-false}
 use Rattle.base.specs.Truth.{lt-or-ge}
 use Rattle.walks.specs.Graph.{Graph}
-use Rattle.search_spec.specs.Queue.{Queue, capacity, room-left}
+use Rattle.search_spec.specs.Queue.{linkOf, Queue, capacity, room-left}
 use Rattle.search_spec.specs.Push.{Pushed, Kept, kept-refl, kept-trans, pushed-kept, queue-push, queue-skip, queue-next, queue-start}
 
 -- How many words a search over n nodes has: n for the queue and n for the links.
@@ -45,7 +45,7 @@ visited n v m s = cond (eqb (linkAt n (s .work) v) 0) (st (s .tail + 1) (set (se
 
 -- Event k of entry h, the node v, is tried.
 unfoldable pub tried : Graph → ℕ → ℕ → ℕ → St → St
-tried g h v k s = cond (ltb (g .next v k) (g .size)) (visited (g .size) (g .next v k) (h * 16 + k + 2) s) s
+tried g h v k s = cond (ltb (g .next v k) (g .size)) (visited (g .size) (g .next v k) (linkOf h k) s) s
 
 -- Its first k events are tried.
 unfoldable pub scanned : Graph → ℕ → ℕ → ℕ → St → St
@@ -144,7 +144,7 @@ entry-kept g D D′ h k s s′ r p x l =
     let e = r .queue .entry x l in
     ap D′ (p .queue .nodes x l) ∙ p .queue .dists (nodeAt (s .work) x) (e .0) (e .1)
 
--- What holds after some events of entry h, at the distance d: the distances are D′, and every new entry is one farther.
+-- What holds after some events of entry h, at the distance d: the distances are `far`, and every new entry is one farther.
 pub record Stepped (g : Graph) (D : ℕ → ℕ) (d h k : ℕ) (s s′ : St) : Type 0 where
   pub far : ℕ → ℕ
   pub running : Running g far h k s′
@@ -178,12 +178,12 @@ module _ (g : Graph) (D : ℕ → ℕ) (h k : ℕ) (s : St) (r : Running g D h k
   }
 
   -- the node is visited
-  visit-kept : v < n → Stepped g D d h (suc k) s (visited n v (h * 16 + k + 2) s)
+  visit-kept : v < n → Stepped g D d h (suc k) s (visited n v (linkOf h k) s)
   unfolding visited
   visit-kept l = go (eq-zero-or-pos (linkAt n (s .work) v))
     where
       m : ℕ
-      m = h * 16 + k + 2
+      m = linkOf h k
 
       w′ : List ℕ
       w′ = set (set (s .work) (n + v) m) (s .tail) v
@@ -218,7 +218,7 @@ module _ (g : Graph) (D : ℕ → ℕ) (h k : ℕ) (s : St) (r : Running g D h k
   unfolding tried
   try-kept = go (ltb v n) refl
     where
-      go : (b : Bool) → ltb v n ≡ b → Stepped g D d h (suc k) s (cond b (visited n v (h * 16 + k + 2) s) s)
+      go : (b : Bool) → ltb v n ≡ b → Stepped g D d h (suc k) s (cond b (visited n v (linkOf h k) s) s)
       go true e = visit-kept (ltb-true v n e)
       go false e = skip (λ b. absurd (omega (arith, ltb-false v n e)))
 

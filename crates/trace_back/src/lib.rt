@@ -3,10 +3,10 @@
 // that each names the place of the next.
 ghost use mathlib.Core.Path.{_≡_};
 ghost use mathlib.Core.List.{_++_};
-ghost use Prim.Native.Nat.{_≤_};
+ghost use Prim.Native.Nat.{_+_, _≤_};
 ghost use lib.ListN.{length, drop};
 ghost use Rattle.search_spec.specs.Queue.{readBack};
-ghost use Rattle.search_spec.specs.Words.{wordsFor, nodeAt, linkAt};
+ghost use Rattle.search_spec.specs.Words.{nodeAt, linkAt};
 ghost use Rattle.search_spec.specs.Read.{linkIn, linked, frontOf, LinksOk, BackOk, TraceOk};
 
 // A word as a number.
@@ -54,8 +54,8 @@ fn put_front(events: &[u8; 1024], d: usize, trace: &mut [u8])
     }
 }
 
-// Writes the d events that links lead back by to the front of the trace list.
-fn write_back(links: &[u16], place: usize, d: usize, trace: &mut [u8])
+// Writes the d events that are read back from a place of the links to the front of the trace list.
+fn write_events(links: &[u16], place: usize, d: usize, trace: &mut [u8])
     requires { ⌜ BackOk (now links) place d × (d ≤ length (now trace)) ⌝ }
     ensures { λ _. ⌜ now (trace .exit)
         ≡ readBack (λ x. x) (linkIn (now (links .entry))) d place ++ drop d (now (trace .entry)) ⌝ }
@@ -65,13 +65,14 @@ fn write_back(links: &[u16], place: usize, d: usize, trace: &mut [u8])
     put_front(&events, d, trace);
 }
 
-// Writes the d events that lead to an entry to the front of the trace list. The queue is spent by it.
+// Writes the d events that lead to an entry to the front of the trace list. The links of the entries up to it then
+// stand in their places.
 pub fn write_trace(work: &mut [u16], n: usize, place: usize, d: usize, trace: &mut [u8])
     requires { ⌜ TraceOk n (now work) place d × (d ≤ length (now trace)) ⌝ }
     ensures { λ _. ⌜ (now (trace .exit)
         ≡ readBack (nodeAt (now (work .entry))) (linkAt n (now (work .entry))) d place ++ drop d (now (trace .entry)))
-        × (drop (wordsFor n) (now (work .exit)) ≡ drop (wordsFor n) (now (work .entry))) ⌝ }
+        × (now (work .exit) ≡ linked n (now (work .entry)) (place + 1)) ⌝ }
 {
     put_links(work, n, place + 1);
-    write_back(work, place, d, trace);
+    write_events(work, place, d, trace);
 }

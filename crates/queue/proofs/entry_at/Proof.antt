@@ -14,7 +14,10 @@ quotient-requires c κs =
     let s = c .before .before .pre in (omega (arith, c .node-at .ensures, s .1), s .2, s .3)
 
 mul-t6 : tie.Need-mul-t6
-mul-t6 c = rw (c .quotient .ensures) (omega (arith, taken (c .before .node-at .result) (c .before .before .before .args .q), c .before .node-at .ensures, c .before .before .before .pre .1))
+mul-t6 c =
+    let s = c .before .before .before in
+    let t = taken (c .before .node-at .result) (s .args .q) in
+    rw (c .quotient .ensures) (omega (arith, t, c .before .node-at .ensures, s .pre .1))
 
 sub-t7 : tie.Need-sub-t7
 sub-t7 c = rw (c .quotient .ensures) (taken (c .before .node-at .result) (c .before .before .before .args .q))

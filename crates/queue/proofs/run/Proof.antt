@@ -20,19 +20,24 @@ visit-requires : tie.Need-visit-requires Inv-loop μ-loop
 visit-requires c κs = (run-visit-ok _ _ _ _ _ (c .before .before .pre), omega arith)
 
 loop-holds : tie.Need-loop-holds Inv-loop μ-loop
-loop-holds c = before-here _ _ _ _ _ _ _ _ (run-start _ _ _ _ _ _ _ (c .before .before .before .before .before .pre) _ _ (c .before .before .visit .ensures))
+loop-holds c =
+    let o = c .before .before .before .before .before .pre in
+    before-here _ _ _ _ _ _ _ _ (run-start _ _ _ _ _ _ _ o _ _ (c .before .before .visit .ensures))
 
 is-bad-requires : tie.Need-is-bad-requires Inv-loop μ-loop
 is-bad-requires c κs =
-    let s = seat _ _ _ _ _ _ _ _ _ _ (c .before .before .before .before .before .before .before .before .pre .sizes) (c .before .before .loop .inv .running) _ (c .before .loop-test .taken) in (omega (arith, s), omega (arith, s))
+    let z = c .before .before .before .before .before .before .before .before .pre .sizes in
+    let s = seat _ _ _ _ _ _ _ _ _ _ z (c .before .before .loop .inv .running) _ (c .before .loop-test .taken) in
+    (omega (arith, s), omega (arith, s))
 
 same-length : tie.Need-same-length Inv-loop μ-loop
 same-length c = c .before .before .before .before .loop .inv .long ∙ c .before .before .before .before .before .before .before .visit .kept .0
 
 returns : tie.Need-returns Inv-loop μ-loop
 returns c =
-    run-hit _ _ _ _ _ _ _ _ _ _ _ _ _ (c .before .before .before .before .before .before .before .before .before .before .pre .sizes) (c .before .before .before .before .loop .inv) _
-    (start-rest _ _ _ _ _ _ _ (c .before .before .before .before .before .before .before .before .before .before .pre) _ (c .before .before .before .before .before .before .before .visit .ensures))
+    let o = c .before .before .before .before .before .before .before .before .before .before .pre in
+    let v = c .before .before .before .before .before .before .before .visit .ensures in
+    run-hit _ _ _ _ _ _ _ _ _ _ _ _ _ (o .sizes) (c .before .before .before .before .loop .inv) _ (start-rest _ _ _ _ _ _ _ o _ v)
     (badCode-at _ _ _ ∙ sym (c .before .is-bad .ensures) ∙ c .if1 .taken)
 
 scan-requires : tie.Need-scan-requires Inv-loop μ-loop
@@ -44,27 +49,37 @@ scan-requires c κs = record {
 }
 
 add-h : tie.Need-add-h Inv-loop μ-loop
-add-h c = omega (arith, seat _ _ _ _ _ _ _ _ _ _ (c .before .before .before .before .before .before .before .before .before .before .before .before .before .before .pre .sizes) (c .before .before .before .before .before .before .before .before .loop .inv .running) _ (c .before .before .before .before .before .before .before .loop-test .taken))
+add-h c =
+    let z = c .before .before .before .before .before .before .before .before .before .before .before .before .before .before .pre .sizes in
+    let l = c .before .before .before .before .before .before .before .before .loop .inv in
+    omega (arith, seat _ _ _ _ _ _ _ _ _ _ z (l .running) _ (c .before .before .before .before .before .before .before .loop-test .taken))
 
 level-at-requires : tie.Need-level-at-requires Inv-loop μ-loop
-level-at-requires c κs = shallow _ _ _ _ _ _ _ _ _ _ _ _ _ (c .before .before .before .before .before .before .before .before .before .before .before .before .before .before .pre .sizes) (c .before .before .before .before .before .before .before .before .loop .inv) (c .before .before .before .before .before .before .before .loop-test .taken)
+level-at-requires c κs =
+    let z = c .before .before .before .before .before .before .before .before .before .before .before .before .before .before .pre .sizes in
+    shallow _ _ _ _ _ _ _ _ _ _ _ _ _ z (c .before .before .before .before .before .before .before .before .loop .inv) (c .before .before .before .before .before .before .before .loop-test .taken)
 
 loop-less : tie.Need-loop-less Inv-loop μ-loop
-loop-less c = omega (arith, seat _ _ _ _ _ _ _ _ _ _ (c .before .before .before .before .before .before .before .before .before .before .before .before .before .before .before .pre .sizes) (c .before .before .before .before .before .before .before .before .before .loop .inv .running) _ (c .before .before .before .before .before .before .before .before .loop-test .taken))
+loop-less c =
+    let z = c .before .before .before .before .before .before .before .before .before .before .before .before .before .before .before .pre .sizes in
+    let l = c .before .before .before .before .before .before .before .before .before .loop .inv in
+    omega (arith, seat _ _ _ _ _ _ _ _ _ _ z (l .running) _ (c .before .before .before .before .before .before .before .before .loop-test .taken))
 
 loop-again : tie.Need-loop-again Inv-loop μ-loop
 loop-again c =
-    run-more _ _ _ _ _ _ _ _ _ _ _ _ _ (c .before .before .before .before .before .before .before .before .before .before .before .before .before .before .before .pre .sizes) (c .before .before .before .before .before .before .before .before .before .loop .inv) _ _ _ _ (c .before .before .before .before .before .before .before .before .loop-test .taken)
-    (badCode-at _ _ _ ∙ sym (c .before .before .before .before .before .before .is-bad .ensures) ∙ c .before .before .before .before .before .if1 .left) (c .before .before .before .scan .ensures)
-    (c .level-at .ensures .0) (c .level-at .ensures .1) (c .level-at .ensures .2)
+    let z = c .before .before .before .before .before .before .before .before .before .before .before .before .before .before .before .pre .sizes in
+    let next = c .level-at .ensures in
+    run-more _ _ _ _ _ _ _ _ _ _ _ _ _ z (c .before .before .before .before .before .before .before .before .before .loop .inv) _ _ _ _ (c .before .before .before .before .before .before .before .before .loop-test .taken)
+    (badCode-at _ _ _ ∙ sym (c .before .before .before .before .before .before .is-bad .ensures) ∙ c .before .before .before .before .before .if1 .left) (c .before .before .before .scan .ensures) (next .0) (next .1) (next .2)
 
 same-length-2 : tie.Need-same-length-2 Inv-loop μ-loop
 same-length-2 c = c .before .loop .inv .long ∙ c .before .before .before .before .visit .kept .0
 
 returns-2 : tie.Need-returns-2 Inv-loop μ-loop
 returns-2 c =
-    run-over _ _ _ _ _ _ _ _ _ _ _ _ _ (c .before .before .before .before .before .before .before .pre .sizes) (c .before .loop .inv) _
-    (start-rest _ _ _ _ _ _ _ (c .before .before .before .before .before .before .before .pre) _ (c .before .before .before .before .visit .ensures)) (c .loop-test .left)
+    let o = c .before .before .before .before .before .before .before .pre in
+    let v = c .before .before .before .before .visit .ensures in
+    run-over _ _ _ _ _ _ _ _ _ _ _ _ _ (o .sizes) (c .before .loop .inv) _ (start-rest _ _ _ _ _ _ _ o _ v) (c .loop-test .left)
 
 pub run-spec : {M : Type 1} → statement M
 run-spec =

@@ -2,17 +2,19 @@
 use mathlib.Core.Path.{sym, _∙_}
 use native.Mathlib.Omega.{arith}
 use lib.Seq.{length-take-le, length-front}
-use Prim.Native.Nat.{_*_}
+use Prim.Native.Nat.{_-_, _*_}
+use borrow.Rule.Slice.PartMut.{same-len-mid}
+use Rattle.search_spec.specs.Words.{wordsFor}
 use Rattle.search_spec.specs.Read.{search-small, search-run-ok, search-settle-ok, search-whole}
-use Rattle.search.proofs.Cleared.{part-length, cleared-part, cleared-front}
+use Rattle.search.proofs.Cleared.{cleared-part, cleared-front}
 use Rattle.search.proofs.search.Statement.{statement}
 use Rattle.search.proofs.search.Tie as tie
 
 mul-n : tie.Need-mul-n
 mul-n c = omega (arith, search-small _ _ _ _ _ (c .before .before .pre))
 
-mul-all : tie.Need-mul-all
-mul-all c = omega (arith, search-small _ _ _ _ _ (c .before .before .pre))
+mul-words : tie.Need-mul-words
+mul-words c = omega (arith, search-small _ _ _ _ _ (c .before .before .pre))
 
 mul-clear : tie.Need-mul-clear
 mul-clear c = omega (arith, search-small _ _ _ _ _ (c .before .before .pre))
@@ -35,7 +37,7 @@ run-requires c κs =
     let a = s .args in
     let l = c .before .before .before .clear in
     search-run-ok _ _ _ _ _ (s .pre) _ (cleared-part (a .p * a .q) _ (a .work .now) _ (omega arith) (s .pre .words) (l .ensures))
-    (part-length (a .p * a .q) (2 * (a .p * a .q)) (a .work .now) (l .last .0) (l .kept .0))
+    (same-len-mid (a .p * a .q) (wordsFor (a .p * a .q) - a .p * a .q) (a .work .now) (l .last .0) (l .kept .0))
 
 settle-requires : tie.Need-settle-requires
 settle-requires c κs =
@@ -49,7 +51,7 @@ slice-relend-prefix-clear c =
     let l = c .before .before .before .before .before .before .before .before .before .before .before .before .before .clear in
     let r = c .before .before .before .before .before .before .before .before .before .run in
     let f = c .before .before .before .before .settle in
-    let m = part-length (a .p * a .q) (2 * (a .p * a .q)) (a .work .now) (l .last .0) (l .kept .0) in
+    let m = same-len-mid (a .p * a .q) (wordsFor (a .p * a .q) - a .p * a .q) (a .work .now) (l .last .0) (l .kept .0) in
     let k = r .kept .1 .1 .1 .1 .1 .1 .0 in
     let j = f .kept .1 .0 in
     omega (arith, s .pre .words, j, k, m)
@@ -61,7 +63,7 @@ slice-aggregate-clear c =
     let l = c .before .before .before .before .before .before .before .before .before .before .before .before .before .before .clear in
     let r = c .before .before .before .before .before .before .before .before .before .before .run in
     let f = c .before .before .before .before .before .settle in
-    let m = part-length (a .p * a .q) (2 * (a .p * a .q)) (a .work .now) (l .last .0) (l .kept .0) in
+    let m = same-len-mid (a .p * a .q) (wordsFor (a .p * a .q) - a .p * a .q) (a .work .now) (l .last .0) (l .kept .0) in
     let k = r .kept .1 .1 .1 .1 .1 .1 .0 in
     let j = f .kept .1 .0 in
     sym (length-take-le _ _ (omega (arith, s .pre .words, j, k, m)))
@@ -76,10 +78,10 @@ same-length c =
     let l = c .before .before .before .before .before .before .before .before .before .before .before .before .before .before .before .before .before .clear in
     let r = c .before .before .before .before .before .before .before .before .before .before .before .before .before .run in
     let f = c .before .before .before .before .before .before .before .before .settle in
-    let m = part-length (a .p * a .q) (2 * (a .p * a .q)) (a .work .now) (l .last .0) (l .kept .0) in
+    let m = same-len-mid (a .p * a .q) (wordsFor (a .p * a .q) - a .p * a .q) (a .work .now) (l .last .0) (l .kept .0) in
     let k = r .kept .1 .1 .1 .1 .1 .1 .0 in
     let j = f .kept .1 .0 in
-    length-front (f .last .1 .0) (c .before .before .clear2 .last .0) (2 * (a .p * a .q)) (c .before .before .clear2 .kept .0) ∙ j ∙ k ∙ m
+    length-front (f .last .1 .0) (c .before .before .clear2 .last .0) (wordsFor (a .p * a .q)) (c .before .before .clear2 .kept .0) ∙ j ∙ k ∙ m
 
 same-length-2 : tie.Need-same-length-2
 same-length-2 c = c .before .before .before .before .before .before .before .before .settle .kept .1 .1 .1 .1 .0
@@ -91,19 +93,19 @@ returns c =
     let l = c .before .before .before .before .before .before .before .before .before .before .before .before .before .before .before .before .before .clear in
     let r = c .before .before .before .before .before .before .before .before .before .before .before .before .before .run in
     let f = c .before .before .before .before .before .before .before .before .settle in
-    let m = part-length (a .p * a .q) (2 * (a .p * a .q)) (a .work .now) (l .last .0) (l .kept .0) in
+    let m = same-len-mid (a .p * a .q) (wordsFor (a .p * a .q) - a .p * a .q) (a .work .now) (l .last .0) (l .kept .0) in
     let k = r .kept .1 .1 .1 .1 .1 .1 .0 in
     let j = f .kept .1 .0 in
     search-whole _ _ _ _ _ (s .pre) _ _ _ _ _ _ _ (r .ensures .0) _ _ _ _ _
     (cleared-part (a .p * a .q) _ (a .work .now) _ (omega arith) (s .pre .words) (l .ensures)) (r .ensures .1) (f .ensures .2) (f .ensures .0, f .ensures .1)
-    (cleared-front (2 * (a .p * a .q)) (f .last .1 .0) _ (omega (arith, s .pre .words, j, k, m)) (c .before .before .clear2 .ensures))
+    (cleared-front (wordsFor (a .p * a .q)) (f .last .1 .0) _ (omega (arith, s .pre .words, j, k, m)) (c .before .before .clear2 .ensures))
 
 pub search-spec : {M : Type 1} → statement M
 search-spec =
     tie.close
     (tie.spec
     mul-n
-    mul-all
+    mul-words
     mul-clear
     sub-clear
     part-clear-start

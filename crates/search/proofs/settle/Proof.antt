@@ -1,7 +1,7 @@
 -- `search::settle`: the answer at the first bad entry, or without one.
 use mathlib.Core.Path.{refl}
 use native.Mathlib.Omega.{arith}
-use Rattle.search_spec.specs.Read.{settle-bad, settle-clear}
+use Rattle.search_spec.specs.Read.{settle-bad, settle-clear, settle-rest}
 use Rattle.search.proofs.settle.Statement.{statement}
 use Rattle.search.proofs.settle.Tie as tie
 
@@ -29,8 +29,10 @@ same-length-2 c = c .before .before .before .before .write-trace .kept .1 .1 .1 
 returns : tie.Need-returns
 returns c =
     let w = c .before .before .before .before .write-trace .ensures in
-    let r = settle-bad _ _ _ _ _ _ _ _ _ _ (c .before .before .before .before .before .before .before .before .before .if1 .taken) (c .before .before .before .before .before .before .before .node-at .ensures) (w .0) in
-    (r .0, r .1, w .1)
+    let l = c .before .before .before .before .before .before .before .before .before .if1 .taken in
+    let o = c .before .before .before .before .before .before .before .before .before .before .before .before .before .pre .1 in
+    let r = settle-bad _ _ _ _ _ _ _ _ _ _ l (c .before .before .before .before .before .before .before .node-at .ensures) (w .0) in
+    (r .0, r .1, settle-rest _ _ _ _ (o .back l) (w .1))
 
 returns-2 : tie.Need-returns-2
 returns-2 c = let r = settle-clear _ _ _ _ _ _ _ _ (c .if1 .left) in (r .0, r .1, refl)

@@ -1,8 +1,8 @@
--- `trace_back::write_back`: the events are read back, and they are copied to the trace list.
+-- `trace_back::write_events`: the events are read back, and they are copied to the trace list.
 use mathlib.Core.Path.{refl}
 use Rattle.search_spec.specs.Read.{write-whole}
-use Rattle.trace_back.proofs.write_back.Statement.{statement}
-use Rattle.trace_back.proofs.write_back.Tie as tie
+use Rattle.trace_back.proofs.write_events.Statement.{statement}
+use Rattle.trace_back.proofs.write_events.Tie as tie
 
 read-back-requires : tie.Need-read-back-requires
 read-back-requires c κs = (c .before .before .before .before .pre .0, refl)
@@ -16,5 +16,5 @@ same-length c = c .before .before .put-front .kept .1 .1 .0
 returns : tie.Need-returns
 returns c = write-whole _ _ _ _ _ _ _ _ (c .before .before .before .before .before .read-back .ensures) (c .before .before .put-front .ensures)
 
-pub write-back-spec : {M : Type 1} → statement M
-write-back-spec = tie.close (tie.spec read-back-requires put-front-requires same-length returns)
+pub write-events-spec : {M : Type 1} → statement M
+write-events-spec = tie.close (tie.spec read-back-requires put-front-requires same-length returns)
