@@ -46,8 +46,8 @@ fn level_at(level: Level, head: usize, tail: usize) -> Level
     }
 }
 
-// x / q, for x below 1,024 and q up to 32, as a product. Each entry of the queue is one step behind the last, so that
-// the search waits for its quotient; it does not wait for 65,536 / q, which is the same for all.
+// x / q, for x below 1,024 and q up to 32, as a product. Where each entry is the first that leads to the next, the
+// search waits for x / q at every entry; nothing waits for 65,536 / q, which is the same for all.
 fn quotient(x: usize, q: usize) -> usize
     requires { ⌜ (x < 1024) × (1 ≤ q) × (q ≤ 32) ⌝ }
     ensures { λ r. ⌜ r ≡ x / q ⌝ }
