@@ -14,8 +14,10 @@ _Static_assert(sizeof(struct bench_said) == 4 && offsetof(struct bench_said, val
 _Static_assert(sizeof(struct bench_run) == 10 && offsetof(struct bench_run, traces) == 4, "a record");
 _Static_assert(offsetof(struct bench_run, ended) == 5 && offsetof(struct bench_run, node) == 6, "a record");
 _Static_assert(offsetof(struct bench_run, depth) == 8, "a record");
-_Static_assert(sizeof(struct bench_stepped) == 14 && offsetof(struct bench_stepped, run) == 4, "an answer and its record");
-_Static_assert(sizeof(struct bench_compared) == 12 && offsetof(struct bench_compared, event) == 6, "a comparison's answer");
+_Static_assert(sizeof(struct bench_stepped) == 14 && offsetof(struct bench_stepped, run) == 4,
+               "an answer and its record");
+_Static_assert(sizeof(struct bench_compared) == 12 && offsetof(struct bench_compared, event) == 6,
+               "a comparison's answer");
 _Static_assert(offsetof(struct bench_compared, probe) == 8, "a comparison's answer");
 
 /* A reference of two nodes and a device of three, with two events. */
@@ -43,15 +45,16 @@ static void print_said(const char *what, struct bench_said said) {
 }
 
 static void print_run(const struct bench_run *run) {
-    printf("  record: k %d h %d traces %d ended %d node %d depth %d\n", run->k, run->h, run->traces, run->ended, run->node,
-           run->depth);
+    printf("  record: k %d h %d traces %d ended %d node %d depth %d\n", run->k, run->h, run->traces, run->ended,
+           run->node, run->depth);
 }
 
 /* The probes of a node, in a list of so many places of which every one holds 9 before. */
 static void print_probes(uint8_t node, size_t length) {
     uint16_t out[4] = {9, 9, 9, 9};
     struct bench_listed listed = bench_list(reference, node, out, length);
-    printf("probes of node %d in %d places: refusal %d count %d, list", node, (int)length, listed.refusal, listed.count);
+    printf("probes of node %d in %d places: refusal %d count %d, list", node, (int)length, listed.refusal,
+           listed.count);
     for (int place = 0; place < 4; place++) {
         printf(" %d", out[place]);
     }
@@ -104,7 +107,8 @@ static void print_suite(uint8_t traces, size_t places) {
 }
 
 /* A comparison with lists of so many places. */
-static void print_comparison(const char *what, const struct bench_sheet *other, uint8_t traces, size_t words, size_t places) {
+static void print_comparison(const char *what, const struct bench_sheet *other, uint8_t traces, size_t words,
+                             size_t places) {
     uint16_t work[20];
     uint8_t trace[8];
     memset(work, 7, sizeof work);

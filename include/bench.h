@@ -1,14 +1,14 @@
-/* The dialogue bench: sheets, probes, tests and comparisons. The functions are those of the proved library libedge.a, which
- * `rt staticlib edge` writes below target/staticlib; it needs nothing but the C library.
+/* The dialogue bench: sheets, probes, tests and comparisons. The functions are those of the proved library libedge.a,
+ * which `rt staticlib edge` writes below target/staticlib; it needs nothing but the C library.
  *
- * An event is a number below E, a node a number below N. A set of events is a 16-bit number in which event i adds 2 to the
- * power i. Every content of what is lent or handed over is answered, so no call has a condition on it. A call keeps nothing of
- * what it is lent, alters nothing unless its comment says so, and may run in several threads at once.
+ * An event is a number below E, a node a number below N. A set of events is a 16-bit number in which event i adds 2 to
+ * the power i. Every content of what is lent or handed over is answered, so no call has a condition on it. A call keeps
+ * nothing of what it is lent, alters nothing unless its comment says so, and may run in several threads at once.
  *
- * A list is lent as a pointer, which is not null even if the list is empty, and a number of places. A flag is a byte: 0 is
- * false, every other value is true. Each call checks the sheets that it is handed again, the reference first, and answers
- * their refusals, 3 or 5 to 8, before its own. A call that is refused alters nothing, and every other part of its answer is
- * 0; only bench_step gives the record back as it came.
+ * A list is lent as a pointer, which is not null even if the list is empty, and a number of places. A flag is a byte: 0
+ * is false, every other value is true. Each call checks the sheets that it is handed again, the reference first, and
+ * answers their refusals, 3 or 5 to 8, before its own. A call that is refused alters nothing, and every other part of
+ * its answer is 0; only bench_step gives the record back as it came.
  */
 #ifndef BENCH_H
 #define BENCH_H
@@ -23,8 +23,8 @@ extern "C" {
 /* The most events, nodes and sets of a node, and a successor place that has no successor. */
 enum { BENCH_EVENTS = 12, BENCH_NODES = 32, BENCH_SETS = 16, BENCH_NONE = 255 };
 
-/* The refusals of a sheet. The first that applies is given, in the order of the numbers, each looked for in the whole sheet;
- * only 4 and 5 are found together, by position, in one walk from the front. */
+/* The refusals of a sheet. The first that applies is given, in the order of the numbers, each looked for in the whole
+ * sheet; only 4 and 5 are found together, by position, in one walk from the front. */
 enum {
     BENCH_ACCEPTED = 0,     /* no refusal */
     BENCH_BAD_LENGTH = 1,   /* fewer than 7 bytes, or the length field plus 4 is not the number of bytes */
@@ -34,14 +34,15 @@ enum {
     BENCH_BAD_COUNT = 5,    /* the number of sets of a node is not 1 to 16 */
     BENCH_BAD_NEXT = 6,     /* a successor is neither 255 nor below N */
     BENCH_BAD_SETS = 7,     /* the sets of a node are not strictly ascending, one has an event without successor, or one
-                               includes another; of a kept sheet also: an unused place holds something else than it should */
+                               includes another; of a kept sheet also: an unused place holds something else than it
+                               should */
     BENCH_NOT_REACHED = 8   /* a node is not reached from node 0 */
 };
 
 /* The refusals of the other calls. */
 enum {
-    BENCH_BAD_NODE = 9,      /* a node that is not below N; also a record whose node is not on the sheet, whose depth exceeds
-                                its k, or whose k is above 1,023 */
+    BENCH_BAD_NODE = 9,      /* a node that is not below N; also a record whose node is not on the sheet, whose depth
+                                exceeds its k, or whose k is above 1,023 */
     BENCH_SHORT_PROBES = 10, /* a probe list shorter than the probes; also a list of verdicts shorter than the tests */
     BENCH_OTHER_EVENTS = 11, /* the two sheets have different E */
     BENCH_SHORT_WORK = 12,   /* a work list below 2 p q words, for p nodes of the reference and q of the device */
@@ -52,8 +53,8 @@ enum {
     BENCH_NOT_OFFERED = 17   /* an event that is not offered */
 };
 
-/* What is kept of one node: its successor on each event, 255 for none; its minimal acceptances, strictly ascending; how many
- * of these it has. Unused successors hold 255. Unused sets, and the c of an unused node, hold 0. */
+/* What is kept of one node: its successor on each event, 255 for none; its minimal acceptances, strictly ascending; how
+ * many of these it has. Unused successors hold 255. Unused sets, and the c of an unused node, hold 0. */
 struct bench_row {
     uint8_t succ[BENCH_EVENTS];
     uint16_t sets[BENCH_SETS];
@@ -73,12 +74,12 @@ struct bench_read_sheet {
     struct bench_sheet sheet;
 };
 
-/* Reads a sheet. Lent: `length` bytes from `bytes` on, which is not null even if there are none. Answered: 0 and the sheet
- * that the bytes spell, or the refusal, 1 to 8, and a sheet of zeros. */
+/* Reads a sheet. Lent: `length` bytes from `bytes` on, which is not null even if there are none. Answered: 0 and the
+ * sheet that the bytes spell, or the refusal, 1 to 8, and a sheet of zeros. */
 struct bench_read_sheet bench_read(const uint8_t *bytes, size_t length);
 
-/* Checks a kept sheet with any content. Handed over: a copy of the sheet. Answered: 0, or the refusal, 3 or 5 to 8. Each
- * sheet that bench_read accepts is answered with 0; one of zeros, which it answers where it refuses, with 3. */
+/* Checks a kept sheet with any content. Handed over: a copy of the sheet. Answered: 0, or the refusal, 3 or 5 to 8.
+ * Each sheet that bench_read accepts is answered with 0; one of zeros, which it answers where it refuses, with 3. */
 uint8_t bench_check(struct bench_sheet sheet);
 
 /* What a probe list answers: the refusal, 0 for none, and how many probes there are. */
@@ -87,18 +88,18 @@ struct bench_listed {
     uint16_t count;
 };
 
-/* Lists the probes of a node: the sets of events that meet every acceptance of the node and have no smaller set inside that
- * does, ascending by number. Handed over: a copy of the sheet and the node. Lent: `length` words from `out` on. Answered: 0
- * and the number of probes, which then stand at the front of the list, and the rest of the list is as it was; or the refusal
- * (the sheet's; 9; 10), and the whole list is as it was. A node that may stop has no probe. */
+/* Lists the probes of a node: the sets of events that meet every acceptance of the node and have no smaller set inside
+ * that does, ascending by number. Handed over: a copy of the sheet and the node. Lent: `length` words from `out` on.
+ * Answered: 0 and the number of probes, which then stand at the front of the list, and the rest of the list is as it
+ * was; or the refusal (the sheet's; 9; 10), and the whole list is as it was. A node that may stop has no probe. */
 struct bench_listed bench_list(struct bench_sheet sheet, uint8_t node, uint16_t *out, size_t length);
 
 /* The highest test number, and the lowest report that says "blocked". */
 enum { BENCH_LAST_TEST = 1023, BENCH_BLOCKED = 256 };
 
-/* A run's record: the test's number k, the choice number h, whether it is trace-only, whether it has ended (two flags), the
- * node reached on the reference and how many events were accepted on the way. It belongs to the bench. A flag that stays keeps
- * its byte; an opening and an ending set one with 1. */
+/* A run's record: the test's number k, the choice number h, whether it is trace-only, whether it has ended (two flags),
+ * the node reached on the reference and how many events were accepted on the way. It belongs to the bench. A flag that
+ * stays keeps its byte; an opening and an ending set one with 1. */
 struct bench_run {
     uint16_t k;
     uint16_t h;
@@ -133,23 +134,24 @@ struct bench_stepped {
     struct bench_run run;
 };
 
-/* Opens test k with the choice number h, trace-only if the flag `traces` is set. Handed over: a copy of the reference's sheet.
- * Answered: BENCH_GOING with the first offer, and the record of the run; or the refusal (the sheet's; 14) and a record of
- * zeros. */
+/* Opens test k with the choice number h, trace-only if the flag `traces` is set. Handed over: a copy of the reference's
+ * sheet. Answered: BENCH_GOING with the first offer, and the record of the run; or the refusal (the sheet's; 14) and a
+ * record of zeros. */
 struct bench_stepped bench_open(struct bench_sheet sheet, uint16_t k, uint16_t h, uint8_t traces);
 
-/* Answers a report on a run. Handed over: a copy of the reference's sheet, the record, and what the device did with the last
- * offer: 0 to 255 is that event, every other number (BENCH_BLOCKED) says that it did nothing. Answered: how the run goes on or
- * ends, and the record after it; or the refusal (the sheet's; 16; 9; 15; 17) and the record as it came. */
+/* Answers a report on a run. Handed over: a copy of the reference's sheet, the record, and what the device did with the
+ * last offer: 0 to 255 is that event, every other number (BENCH_BLOCKED) says that it did nothing. Answered: how the
+ * run goes on or ends, and the record after it; or the refusal (the sheet's; 16; 9; 15; 17) and the record as it
+ * came. */
 struct bench_stepped bench_step(struct bench_sheet sheet, struct bench_run run, uint16_t report);
 
-/* The same on the bench's own record. Lent: the record, which is altered to the one after the report; a refusal leaves it as
- * it was. */
+/* The same on the bench's own record. Lent: the record, which is altered to the one after the report; a refusal leaves
+ * it as it was. */
 struct bench_said bench_report(struct bench_run *run, struct bench_sheet sheet, uint16_t report);
 
-/* The verdict on a device for test k, trace-only if the flag `traces` is set. Handed over: copies of both sheets. Answered:
- * BENCH_PASSES, or BENCH_FAILS if some run of the test against the device can end failed for some h; or the refusal (the
- * reference's; the device's; 11; 14). */
+/* The verdict on a device for test k, trace-only if the flag `traces` is set. Handed over: copies of both sheets.
+ * Answered: BENCH_PASSES, or BENCH_FAILS if some run of the test against the device can end failed for some h; or the
+ * refusal (the reference's; the device's; 11; 14). */
 struct bench_said bench_judge(struct bench_sheet reference, struct bench_sheet device, uint16_t k, uint8_t traces);
 
 /* What the call on all tests answers: the refusal, 0 for none, and how many tests were judged, 0 if it is refused. */
@@ -158,10 +160,11 @@ struct bench_suited {
     uint16_t count;
 };
 
-/* The verdicts on a device for tests 0 to p q - 1, trace-only if the flag `traces` is set. Together they decide whether the device
- * refines the reference, for lists of events of every length. Handed over: copies of both sheets. Lent: a list of `length` places.
- * Answered: p q; place k of the list then holds BENCH_PASSES or BENCH_FAILS for test k, and the rest of the list is as it was; or the
- * refusal (the reference's; the device's; 11; 10, a list below p q places), and the whole list is as it was. */
+/* The verdicts on a device for tests 0 to p q - 1, trace-only if the flag `traces` is set. Together they decide whether
+ * the device refines the reference, for lists of events of every length. Handed over: copies of both sheets. Lent: a
+ * list of `length` places. Answered: p q; place k of the list then holds BENCH_PASSES or BENCH_FAILS for test k, and
+ * the rest of the list is as it was; or the refusal (the reference's; the device's; 11; 10, a list below p q places),
+ * and the whole list is as it was. */
 struct bench_suited bench_judge_all(struct bench_sheet reference, struct bench_sheet device, uint8_t traces, uint8_t *out, size_t length);
 
 /* The kinds of a comparison's answer. */
@@ -169,13 +172,13 @@ enum {
     BENCH_NOT_COMPARED = 0,     /* refused; `refusal` has the number */
     BENCH_REFINES = 1,          /* the device refines the reference */
     BENCH_VIOLATES_STRAY = 2,   /* after the trace the device does `event`, which the reference does not */
-    BENCH_VIOLATES_REFUSAL = 3  /* after the trace the device may refuse the whole of `probe`, which the reference may not: its
-                                   `acceptance` has no event of it */
+    BENCH_VIOLATES_REFUSAL = 3  /* after the trace the device may refuse the whole of `probe`, which the reference may
+                                   not: its `acceptance` has no event of it */
 };
 
-/* What a comparison answers: the refusal, 0 for none; the kind; the length d of the shortest common trace to a violation; how
- * many different pairs of nodes are reached by common traces shorter than d, or of all reached pairs if it refines; and what
- * is named. Parts that a kind has not are 0. */
+/* What a comparison answers: the refusal, 0 for none; the kind; the length d of the shortest common trace to a
+ * violation; how many different pairs of nodes are reached by common traces shorter than d, or of all reached pairs if
+ * it refines; and what is named. Parts that a kind has not are 0. */
 struct bench_compared {
     uint8_t refusal;
     uint8_t kind;
@@ -186,12 +189,13 @@ struct bench_compared {
     uint16_t acceptance;
 };
 
-/* Compares a device of q nodes with a reference of p, by traces alone if the flag `traces` is set. Handed over: copies of both
- * sheets. Lent: `words` words from `work` on, of which 2 p q are needed, and `places` bytes from `trace` on, of which p q - 1
- * are needed; 2,048 words and 1,023 bytes are enough for any two sheets. Answered: whether the device refines the reference,
- * or the nearest violation; then 2 p q words of the work list are 0 and its later words as they were, and the d events of the
- * trace, the least of its length by event number, stand at the front of the trace list and its rest is as it was. Or the
- * refusal (the reference's; the device's; 11; 12; 13), and both lists are as they were. */
+/* Compares a device of q nodes with a reference of p, by traces alone if the flag `traces` is set. Handed over: copies
+ * of both sheets. Lent: `words` words from `work` on, of which 2 p q are needed, and `places` bytes from `trace` on, of
+ * which p q - 1 are needed; 2,048 words and 1,023 bytes are enough for any two sheets. Answered: whether the device
+ * refines the reference, or the nearest violation; then 2 p q words of the work list are 0 and its later words as they
+ * were, and the d events of the trace, the least of its length by event number, stand at the front of the trace list
+ * and its rest is as it was. Or the refusal (the reference's; the device's; 11; 12; 13), and both lists are as they
+ * were. */
 struct bench_compared bench_compare(struct bench_sheet reference, struct bench_sheet device, uint8_t traces, uint16_t *work,
                                     size_t words, uint8_t *trace, size_t places);
 

@@ -1,70 +1,16 @@
 #!/bin/sh
-# Runs the program `compare` and holds what it prints to 01's section "The program `compare`": every kind of line, the split of the
-# input, the cut at 4,096 bytes, and input that arrives in pieces.
+# Runs the program `compare` and holds what it prints to 01's section "The program `compare`": every kind of line, the
+# split of the input, the cut at 4,096 bytes, and input that arrives in pieces.
 set -u
 cd "$(dirname "$0")/.." || exit 1
-program=target/bin/compare
-[ -x "$program" ] || {
-    echo "compare.sh: $program is not built" >&2
-    exit 1
-}
-scratch=$(mktemp -d) || exit 1
-trap 'rm -rf "$scratch"' EXIT
-runs=0
-failed=0
-
-# bytes HEX..: these bytes
-bytes() {
-    for byte in "$@"; do
-        printf "\\$(printf '%03o' "0x$byte")"
-    done
-}
-
-# repeat COUNT TEXT: the text so many times
-repeat() {
-    awk -v count="$1" -v text="$2" 'BEGIN { for (i = 0; i < count; i++) printf "%s", text }'
-}
-
-# zeros COUNT: so many bytes 0
-zeros() {
-    dd if=/dev/zero bs=1 count="$1" 2> /dev/null
-}
-
-# held NAME LINE..: what the program printed is these lines, each ended by a newline
-held() {
-    name=$1
-    shift
-    runs=$((runs + 1))
-    for line in "$@"; do printf '%s\n' "$line"; done > "$scratch/wanted"
-    cmp -s "$scratch/wanted" "$scratch/printed" || {
-        echo "compare.sh: $name" >&2
-        diff "$scratch/wanted" "$scratch/printed" >&2
-        failed=$((failed + 1))
-    }
-}
-
-# input HEX.. and prints NAME LINE..: the program, given these bytes, prints these lines
-input() {
-    bytes "$@" > "$scratch/input"
-}
-prints() {
-    "$program" < "$scratch/input" > "$scratch/printed"
-    held "$@"
-}
-
-# 01's example
-reference='00 00 00 0F 01 02 02 01 01 02 00 01 00 02 00 00 01 00 03'
-device='00 00 00 12 01 02 03 01 01 01 00 03 02 02 01 00 03 00 FF 01 00 01'
-# 01's cases: one node looping on event 0 of two, or on event 1; one event: looping with acceptance 0, with acceptance 1, stopped
-only_zero='00 00 00 08 01 02 01 00 FF 01 00 01'
-only_one='00 00 00 08 01 02 01 FF 00 01 00 02'
-may_loop='00 00 00 07 01 01 01 00 01 00 00'
-must_loop='00 00 00 07 01 01 01 00 01 00 01'
-stopped='00 00 00 07 01 01 01 FF 01 00 00'
+. tests/shared
+built compare
+begins
 one='reference 1 nodes 1 events'
 
 input $reference $device
-prints "01's example" 'reference 2 nodes 2 events' 'device 3 nodes 2 events' 'violates after 5 cleared 5' 'trace 0 0 0 0 0' 'refused 2 by 1'
+prints "01's example" 'reference 2 nodes 2 events' 'device 3 nodes 2 events' \
+    'violates after 5 cleared 5' 'trace 0 0 0 0 0' 'refused 2 by 1'
 
 # refines
 input $may_loop $stopped
@@ -74,66 +20,37 @@ prints 'a sheet against itself' 'reference 2 nodes 2 events' 'device 2 nodes 2 e
 
 # a violation at the start: an empty trace
 input $only_zero $only_one
-prints 'a stray at the start' 'reference 1 nodes 2 events' 'device 1 nodes 2 events' 'violates after 0 cleared 0' 'trace' 'stray 1'
+prints 'a stray at the start' 'reference 1 nodes 2 events' 'device 1 nodes 2 events' \
+    'violates after 0 cleared 0' 'trace' 'stray 1'
 input $must_loop $stopped
 prints 'a refusal at the start' "$one" 'device 1 nodes 1 events' 'violates after 0 cleared 0' 'trace' 'refused 1 by 0'
 
 # a stray after a trace
 input 00 00 00 0D 01 02 02 01 FF 01 00 01 00 FF 01 00 01 00 00 00 0D 01 02 02 01 FF 01 00 01 FF 00 01 00 02
-prints 'a stray after a trace' 'reference 2 nodes 2 events' 'device 2 nodes 2 events' 'violates after 1 cleared 1' 'trace 0' 'stray 1'
+prints 'a stray after a trace' 'reference 2 nodes 2 events' 'device 2 nodes 2 events' \
+    'violates after 1 cleared 1' 'trace 0' 'stray 1'
 
 # numbers of more than one digit: 12 events; event 11 leads to a node that may stop, where the device does event 10
 none='FF FF FF FF FF FF FF FF FF FF'
 input 00 00 00 21 01 0C 02 $none FF 01 01 08 00 $none FF FF 01 00 00 \
     00 00 00 21 01 0C 02 $none FF 01 01 08 00 $none 01 FF 01 04 00
-prints 'events of two digits' 'reference 2 nodes 12 events' 'device 2 nodes 12 events' 'violates after 1 cleared 1' 'trace 11' 'stray 10'
+prints 'events of two digits' 'reference 2 nodes 12 events' 'device 2 nodes 12 events' \
+    'violates after 1 cleared 1' 'trace 11' 'stray 10'
 input 00 00 00 12 01 0C 01 $none 00 00 01 08 00 00 00 00 12 01 0C 01 $none 00 00 01 04 00
-prints 'sets of four digits' 'reference 1 nodes 12 events' 'device 1 nodes 12 events' 'violates after 0 cleared 0' 'trace' 'refused 2048 by 1024'
+prints 'sets of four digits' 'reference 1 nodes 12 events' 'device 1 nodes 12 events' \
+    'violates after 0 cleared 0' 'trace' 'refused 2048 by 1024'
 
-# 32 nodes in a circle on event 0, with event 1 back to the start from all but the last, against 31 with event 1 only at the last: the two
-# last nodes meet after 991 events
-ring() { # NODES ONE_BUT_LAST ONE_LAST: each node goes to the next on event 0, and on event 1 as said
-    v=1
-    while [ "$v" -lt "$1" ]; do
-        bytes "$(printf '%02X' "$v")" "$2" 01 00 01
-        v=$((v + 1))
-    done
-    bytes 00 "$3" 01 00 01
-}
-{
-    bytes 00 00 00 A3 01 02 20
-    ring 32 00 FF
-    bytes 00 00 00 9E 01 02 1F
-    ring 31 FF 00
-} > "$scratch/input"
-prints 'a long trace' 'reference 32 nodes 2 events' 'device 31 nodes 2 events' 'violates after 991 cleared 991' "trace$(repeat 991 ' 0')" 'stray 1'
+# a violation after 991 events
+late_sheets > "$scratch/input"
+prints 'a long trace' 'reference 32 nodes 2 events' 'device 31 nodes 2 events' \
+    'violates after 991 cleared 991' "trace$(repeat 991 ' 0')" 'stray 1'
 
-# 32 nodes in a circle on both events, against 32 that stay on event 1: all 1,024 pairs are reached
-walk() { # NODES: each node goes to the next on event 0, and stays on event 1
-    v=0
-    while [ "$v" -lt "$1" ]; do
-        bytes "$(printf '%02X' $(((v + 1) % $1)))" "$(printf '%02X' "$v")" 01 00 01
-        v=$((v + 1))
-    done
-}
-both() { # NODES: each node goes to the next on both events
-    v=0
-    while [ "$v" -lt "$1" ]; do
-        next=$(printf '%02X' $(((v + 1) % $1)))
-        bytes "$next" "$next" 01 00 01
-        v=$((v + 1))
-    done
-}
-{
-    bytes 00 00 00 A3 01 02 20
-    both 32
-    bytes 00 00 00 A3 01 02 20
-    walk 32
-} > "$scratch/input"
+# all 1,024 pairs
+full_sheets > "$scratch/input"
 prints 'all pairs' 'reference 32 nodes 2 events' 'device 32 nodes 2 events' 'refines cleared 1024'
 
 # each refusal of a sheet, as the reference and as the device; a bad reference hides the device
-refused() { # NUMBER HEX..: these bytes are refused with the number
+refused_either() { # NUMBER HEX..: these bytes are refused with the number, as the reference and as the device
     number=$1
     shift
     input "$@" $stopped
@@ -143,20 +60,20 @@ refused() { # NUMBER HEX..: these bytes are refused with the number
     input $may_loop "$@"
     prints "device refused $number: $*" "$one" "device refused $number"
 }
-refused 1 00 00 00 02 01 01
-refused 2 00 00 00 07 02 01 01 00 01 00 00
-refused 2 00 00 00 07 00 00 00 00 00 00 00
-refused 3 00 00 00 07 01 00 01 00 01 00 00
-refused 3 00 00 00 07 01 0D 01 00 01 00 00
-refused 3 00 00 00 07 01 01 00 00 01 00 00
-refused 3 00 00 00 07 01 01 21 00 01 00 00
-refused 4 00 00 00 05 01 01 01 00 01
-refused 4 00 00 00 08 01 01 01 00 01 00 00 00
-refused 5 00 00 00 05 01 01 01 00 00
-refused 5 00 00 00 05 01 01 01 00 11
-refused 6 00 00 00 07 01 01 01 01 01 00 01
-refused 7 00 00 00 07 01 01 01 FF 01 00 01
-refused 8 00 00 00 0B 01 01 02 00 01 00 01 00 01 00 01
+refused_either 1 00 00 00 02 01 01
+refused_either 2 00 00 00 07 02 01 01 00 01 00 00
+refused_either 2 00 00 00 07 00 00 00 00 00 00 00
+refused_either 3 00 00 00 07 01 00 01 00 01 00 00
+refused_either 3 00 00 00 07 01 0D 01 00 01 00 00
+refused_either 3 00 00 00 07 01 01 00 00 01 00 00
+refused_either 3 00 00 00 07 01 01 21 00 01 00 00
+refused_either 4 00 00 00 05 01 01 01 00 01
+refused_either 4 00 00 00 08 01 01 01 00 01 00 00 00
+refused_either 5 00 00 00 05 01 01 01 00 00
+refused_either 5 00 00 00 05 01 01 01 00 11
+refused_either 6 00 00 00 07 01 01 01 01 01 00 01
+refused_either 7 00 00 00 07 01 01 01 FF 01 00 01
+refused_either 8 00 00 00 0B 01 01 02 00 01 00 01 00 01 00 01
 
 # unequal E
 input $may_loop $only_one
@@ -189,7 +106,8 @@ prints 'a second sheet cut off' "$one" 'device refused 1'
 input $may_loop $stopped 00
 prints 'a byte after the second sheet' "$one" 'device refused 1'
 
-# over 4,096 bytes: later ones count as absent. A first sheet that ends with the last byte read (its version is 0), and one byte later
+# over 4,096 bytes: later ones count as absent. A first sheet that ends with the last byte read (its version is 0), and
+# one byte later
 { bytes 00 00 0F FC; zeros 4996; } > "$scratch/input"
 prints 'a first sheet of 4,096 bytes' 'reference refused 2'
 { bytes 00 00 0F FD; zeros 4996; } > "$scratch/input"
@@ -214,7 +132,8 @@ prints 'many bytes after the second sheet' 'reference 2 nodes 2 events' 'device 
     sleep 1
     bytes 01
 } | "$program" > "$scratch/printed"
-held 'in pieces' 'reference 2 nodes 2 events' 'device 3 nodes 2 events' 'violates after 5 cleared 5' 'trace 0 0 0 0 0' 'refused 2 by 1'
+held 'in pieces' 'reference 2 nodes 2 events' 'device 3 nodes 2 events' \
+    'violates after 5 cleared 5' 'trace 0 0 0 0 0' 'refused 2 by 1'
 {
     bytes 00 00 0F FC
     sleep 1
@@ -224,5 +143,4 @@ held 'in pieces' 'reference 2 nodes 2 events' 'device 3 nodes 2 events' 'violate
 } | "$program" > "$scratch/printed"
 held 'in pieces, over 4,096 bytes' 'reference refused 2'
 
-echo "compare.sh: $runs runs, $failed failed"
-[ "$failed" -eq 0 ]
+ends

@@ -1,106 +1,82 @@
 #!/bin/sh
-# Runs the program `live` and holds what it prints to 01's section "Test k and a live run" and to the header of crates/live/src/main.rt:
-# every kind of line, bad words, files that cannot be read, trace-only runs, and input that is empty, cut off, long or in pieces.
+# Runs the program `live` and holds what it prints to 01's section "Test k and a live run" and to the header of
+# crates/live/src/main.rt: every kind of line, bad words, files that cannot be read, trace-only runs, and input that is
+# empty, cut off, long or in pieces.
 set -u
 cd "$(dirname "$0")/.." || exit 1
-program=$PWD/target/bin/live
-[ -x "$program" ] || {
-    echo "live.sh: $program is not built" >&2
-    exit 1
-}
-scratch=$(mktemp -d) || exit 1
-trap 'rm -rf "$scratch"' EXIT
-runs=0
-failed=0
-
-# bytes HEX..: these bytes
-bytes() {
-    for byte in "$@"; do
-        printf "\\$(printf '%03o' "0x$byte")"
-    done
-}
-
-# held NAME LINE..: what the program printed is these lines, each ended by a newline
-held() {
-    name=$1
-    shift
-    runs=$((runs + 1))
-    for line in "$@"; do printf '%s\n' "$line"; done > "$scratch/wanted"
-    cmp -s "$scratch/wanted" "$scratch/printed" || {
-        echo "live.sh: $name" >&2
-        diff "$scratch/wanted" "$scratch/printed" >&2
-        failed=$((failed + 1))
-    }
-}
+. tests/shared
+built live
+begins
 
 # started WORD..: runs the program with these words on the lines of $scratch/input
 started() {
     "$program" "$@" < "$scratch/input" > "$scratch/printed" 2> "$scratch/said"
 }
 
-# lines LINE..: these lines are the input
-lines() {
-    for line in "$@"; do printf '%s\n' "$line"; done > "$scratch/input"
+# reports LINE..: these lines are the input
+reports() {
+    lines "$@" > "$scratch/input"
 }
 
-# quiet and told: nothing, or one line with these words, stands on standard error
+# quiet NAME: nothing stands on standard error
 quiet() {
     [ ! -s "$scratch/said" ] || {
-        echo "live.sh: $1: standard error has:" >&2
+        fails "$1: standard error has:"
         cat "$scratch/said" >&2
-        failed=$((failed + 1))
-    }
-}
-told() {
-    [ "$(wc -l < "$scratch/said")" -eq 1 ] && grep -q "$2" "$scratch/said" || {
-        echo "live.sh: $1: standard error has:" >&2
-        cat "$scratch/said" >&2
-        failed=$((failed + 1))
     }
 }
 
-# 01's reference; one node looping on only event 0 of two; of one event: looping and may stop, looping, without successor
-bytes 00 00 00 0F 01 02 02 01 01 02 00 01 00 02 00 00 01 00 03 > "$scratch/reference"
-bytes 00 00 00 08 01 02 01 00 FF 01 00 01 > "$scratch/only_zero"
-bytes 00 00 00 07 01 01 01 00 01 00 00 > "$scratch/may_loop"
-bytes 00 00 00 07 01 01 01 FF 01 00 00 > "$scratch/stopped"
+# told NAME WORDS: one line with these words stands on standard error
+told() {
+    [ "$(wc -l < "$scratch/said")" -eq 1 ] && grep -q "$2" "$scratch/said" || {
+        fails "$1: standard error has:"
+        cat "$scratch/said" >&2
+    }
+}
+
+# 01's reference and cases
+bytes $reference > "$scratch/reference"
+bytes $only_zero > "$scratch/only_zero"
+bytes $may_loop > "$scratch/may_loop"
+bytes $stopped > "$scratch/stopped"
 # twelve events, all of them initials, acceptance 2,055 (events 0, 1, 2 and 11)
 bytes 00 00 00 12 01 0C 01 00 00 00 00 00 00 00 00 00 00 00 00 01 08 07 > "$scratch/twelve"
-# five events, of which 2, 3 and 4 are initials, with the two acceptances 12 (2 and 3) and 16 (4): the probes are 20 and 24
+# five events, of which 2, 3 and 4 are initials, with the two acceptances 12 (2 and 3) and 16 (4):
+# the probes are 20 and 24
 bytes 00 00 00 0D 01 05 01 FF FF 00 00 00 02 00 0C 00 10 > "$scratch/five"
 R=$scratch/reference
 
 # ---- test 1 on 01's reference: node 0 has probe 3, node 1 probes 1 and 2
-lines 'event 0' 'event 0'
+reports 'event 0' 'event 0'
 started "$R" 1 0
 held 'passed at depth k' 'offer 0 1' 'offer 0' 'passed'
 quiet 'passed at depth k'
-lines 'event 1' 'event 1'
+reports 'event 1' 'event 1'
 started "$R" 1 1
 held 'the second probe' 'offer 0 1' 'offer 1' 'passed'
-lines 'event 1' 'event 0'
+reports 'event 1' 'event 0'
 started "$R" 1 65534
 held 'h 65,534' 'offer 0 1' 'offer 0' 'passed'
 started "$R" 1 65535
 held 'h 65,535, and then an event that is not offered' 'offer 0 1' 'offer 1' 'report refused 17' 'input ended'
-lines 'event 0' 'blocked'
+reports 'event 0' 'blocked'
 started "$R" 1 0
 held 'refused' 'offer 0 1' 'offer 0' 'refused 1 ( 0 )'
-lines 'blocked'
+reports 'blocked'
 started "$R" 1 0
 held 'blocked below depth k' 'offer 0 1' 'refused 3 ( 0 1 )'
-lines 'event 1'
+reports 'event 1'
 started "$scratch/only_zero" 0 0
 held 'a stray' 'offer 0 1' 'stray 1'
-lines 'blocked'
+reports 'blocked'
 started "$scratch/may_loop" 0 0
 held 'an empty offer, and a node that may stop' 'offer' 'passed'
 started "$scratch/stopped" 0 0
 held 'no initial' 'offer 0' 'passed'
-lines 'event 0'
+reports 'event 0'
 started "$scratch/stopped" 0 0
 held 'a stray where there is no initial' 'offer 0' 'stray 0'
-lines 'blocked'
+reports 'blocked'
 started "$scratch/twelve" 1 0
 held 'a set of twelve events' 'offer 0 1 2 3 4 5 6 7 8 9 10 11' 'refused 4095 ( 0 1 2 3 4 5 6 7 8 9 10 11 )'
 started "$scratch/twelve" 0 3
@@ -111,18 +87,20 @@ started "$scratch/five" 0 1
 held 'the other probe' 'offer 0 1 3 4' 'refused 27 ( 0 1 3 4 )'
 
 # what follows an ending is not read
-lines 'event 0' 'event 0' 'event 0' 'blocked'
+reports 'event 0' 'event 0' 'event 0' 'blocked'
 started "$R" 1 0
 held 'after the end' 'offer 0 1' 'offer 0' 'passed'
 
 # ---- lines that are no report: the offer stands
-lines 'event 2' 'event 255' 'event 256' 'event 999' 'event 0000' 'event' 'event ' 'event  0' ' event 0' 'event 0 ' 'event -0' 'event x' 'Event 0' 'block' \
-    'blocked ' 'Blocked' '' '0' 'traces' 'event 0'
+reports 'event 2' 'event 255' 'event 256' 'event 999' 'event 0000' 'event' 'event ' 'event  0' ' event 0' 'event 0 ' \
+    'event -0' 'event x' 'Event 0' 'block' 'blocked ' 'Blocked' '' '0' 'traces' 'event 0'
 started "$R" 0 0
-held 'no reports' 'offer 0 1' 'report refused 15' 'report refused 15' 'report refused 15' 'report refused 15' 'report refused 15' 'report refused 15' 'report refused 15' \
-    'report refused 15' 'report refused 15' 'report refused 15' 'report refused 15' 'report refused 15' 'report refused 15' 'report refused 15' \
-    'report refused 15' 'report refused 15' 'report refused 15' 'report refused 15' 'report refused 15' 'passed'
-lines 'event 000'
+held 'no reports' 'offer 0 1' \
+    'report refused 15' 'report refused 15' 'report refused 15' 'report refused 15' 'report refused 15' \
+    'report refused 15' 'report refused 15' 'report refused 15' 'report refused 15' 'report refused 15' \
+    'report refused 15' 'report refused 15' 'report refused 15' 'report refused 15' 'report refused 15' \
+    'report refused 15' 'report refused 15' 'report refused 15' 'report refused 15' 'passed'
+reports 'event 000'
 started "$R" 0 0
 held 'leading zeros' 'offer 0 1' 'passed'
 printf 'event 0\r\nblocked\r\nblocked\n' > "$scratch/input"
@@ -134,7 +112,9 @@ held 'bytes that are no text' 'offer 0 1' 'report refused 15' 'report refused 15
 
 # lines of 63 to 65 bytes and of many: one refusal each
 long() { # COUNT: `event 0` and so many bytes more
-    awk -v count="$1" 'BEGIN { printf "event 0"; for (i = 0; i < count; i++) printf " "; printf "\n" }'
+    printf 'event 0'
+    repeat "$1" ' '
+    echo
 }
 {
     long 56
@@ -147,7 +127,7 @@ started "$R" 0 0
 held 'long lines' 'offer 0 1' 'report refused 15' 'report refused 15' 'report refused 15' 'report refused 15' 'passed'
 # after 1,000,000 bytes a line counts as ended: the rest of it is another line
 {
-    awk 'BEGIN { for (i = 0; i < 1000000; i++) printf "x" }'
+    repeat 1000000 x
     printf 'event 0\n'
 } > "$scratch/input"
 started "$R" 0 0
@@ -177,30 +157,21 @@ held 'no standard input' 'offer 0 1' 'input ended'
 held 'in pieces' 'offer 0 1' 'offer 0' 'refused 1 ( 0 )'
 
 # ---- trace-only: all events at each depth, never refused
-lines 'event 0' 'event 1'
+reports 'event 0' 'event 1'
 started "$R" 1 0 traces
 held 'traces' 'offer 0 1' 'offer 0 1' 'passed'
-lines 'event 0' 'blocked'
+reports 'event 0' 'blocked'
 started "$R" 1 0 traces
 held 'traces, blocked' 'offer 0 1' 'offer 0 1' 'passed'
-lines 'event 0' 'event 1'
+reports 'event 0' 'event 1'
 started "$scratch/only_zero" 3 0 traces
 held 'traces, a stray' 'offer 0 1' 'offer 0 1' 'stray 1'
 
 # ---- k 1,023 and 1,024
-awk 'BEGIN { for (i = 0; i < 1030; i++) print "event 0" }' > "$scratch/input"
+repeat 1030 'event 0\n' > "$scratch/input"
 started "$R" 1023 0
-{
-    awk 'BEGIN { for (i = 0; i < 1023; i++) print "offer 0 1" }'
-    printf 'offer 0\npassed\n'
-} > "$scratch/wanted"
-runs=$((runs + 1))
-cmp -s "$scratch/wanted" "$scratch/printed" || {
-    echo "live.sh: k 1,023" >&2
-    diff "$scratch/wanted" "$scratch/printed" >&2
-    failed=$((failed + 1))
-}
-lines 'event 0'
+held 'k 1,023' "$(repeat 1023 'offer 0 1\n')" 'offer 0' 'passed'
+reports 'event 0'
 started "$R" 1024 0
 held 'k 1,024' 'test refused 14'
 
@@ -232,14 +203,14 @@ bad "$R" 1x 0
 bad "$R" ' 1' 0
 bad "$R" 1 0x0
 bad "$R" 1 0 "$(long 100)"
-bad "$R" "$(awk 'BEGIN { for (i = 0; i < 100; i++) printf "1" }')" 0
+bad "$R" "$(repeat 100 1)" 0
 # four digits with zeros before them
 : > "$scratch/input"
 started "$R" 00001 00000
 held 'zeros before a number' 'offer 0 1' 'input ended'
 
 # ---- the reference's own refusals come before 14
-refused() { # NUMBER HEX..: these bytes are refused with the number
+refused_first() { # NUMBER HEX..: these bytes are refused with the number, before the words are
     number=$1
     shift
     bytes "$@" > "$scratch/bad"
@@ -249,22 +220,23 @@ refused() { # NUMBER HEX..: these bytes are refused with the number
     held "refused $number before 14: $*" "reference refused $number"
     quiet "refused $number: $*"
 }
-refused 1
-refused 1 00 00 00 02 01 01
-refused 1 00 00 00 07 01 01 01 00 01 00 00 00
-refused 2 00 00 00 07 02 01 01 00 01 00 00
-refused 3 00 00 00 07 01 0D 01 00 01 00 00
-refused 4 00 00 00 05 01 01 01 00 01
-refused 5 00 00 00 05 01 01 01 00 00
-refused 6 00 00 00 07 01 01 01 01 01 00 01
-refused 7 00 00 00 07 01 01 01 FF 01 00 01
-refused 8 00 00 00 0B 01 01 02 00 01 00 01 00 01 00 01
+refused_first 1
+refused_first 1 00 00 00 02 01 01
+refused_first 1 00 00 00 07 01 01 01 00 01 00 00 00
+refused_first 2 00 00 00 07 02 01 01 00 01 00 00
+refused_first 3 00 00 00 07 01 0D 01 00 01 00 00
+refused_first 4 00 00 00 05 01 01 01 00 01
+refused_first 5 00 00 00 05 01 01 01 00 00
+refused_first 6 00 00 00 07 01 01 01 01 01 00 01
+refused_first 7 00 00 00 07 01 01 01 FF 01 00 01
+refused_first 8 00 00 00 0B 01 01 02 00 01 00 01 00 01 00 01
 
-# of a longer file the first 4,096 bytes are the reference: one as long as its field says (its version is 0), and one that is not
-{ bytes 00 00 0F FC; dd if=/dev/zero bs=1 count=4996 2> /dev/null; } > "$scratch/bad"
+# of a longer file the first 4,096 bytes are the reference: one as long as its field says (its version is 0), and one
+# that is not
+{ bytes 00 00 0F FC; zeros 4996; } > "$scratch/bad"
 started "$scratch/bad" 1 0
 held 'a file of 5,000 bytes, a sheet of 4,096' 'reference refused 2'
-{ bytes 00 00 0F FD; dd if=/dev/zero bs=1 count=4996 2> /dev/null; } > "$scratch/bad"
+{ bytes 00 00 0F FD; zeros 4996; } > "$scratch/bad"
 started "$scratch/bad" 1 0
 held 'a file of 5,000 bytes, a sheet of 4,097' 'reference refused 1'
 
@@ -281,7 +253,7 @@ told 'a folder' 'live: Is a directory'
 started '' 1 0
 held 'an empty name'
 told 'an empty name' 'live: '
-started "$(awk 'BEGIN { for (i = 0; i < 5000; i++) printf "x" }')" 1 0
+started "$(repeat 5000 x)" 1 0
 held 'a name that is too long'
 told 'a name that is too long' 'live: File name too long'
 
@@ -289,10 +261,7 @@ told 'a name that is too long' 'live: File name too long'
 yes | head -n 1000001 > "$scratch/input"
 started "$R" 0 0
 runs=$((runs + 1))
-[ "$(wc -l < "$scratch/printed")" -eq 1000002 ] && [ "$(tail -n 1 "$scratch/printed")" = 'lines ended' ] && [ "$(grep -c 'report refused 15' "$scratch/printed")" -eq 1000000 ] || {
-    echo 'live.sh: 1,000,000 lines' >&2
-    failed=$((failed + 1))
-}
+[ "$(wc -l < "$scratch/printed")" -eq 1000002 ] && [ "$(tail -n 1 "$scratch/printed")" = 'lines ended' ] &&
+    [ "$(grep -c 'report refused 15' "$scratch/printed")" -eq 1000000 ] || fails '1,000,000 lines'
 
-echo "live.sh: $runs runs, $failed failed"
-[ "$failed" -eq 0 ]
+ends

@@ -2,10 +2,9 @@
 # The model's own tests: the cases of the papers, and its definitions held against literal ones.
 set -eu
 cd "$(dirname "$0")/.."
+. tests/shared
 
-# cargo writes only here, whoever runs it.
-export CARGO_HOME="$PWD/target/cargo" CARGO_TARGET_DIR="$PWD/model/target"
-mkdir -p "$CARGO_HOME"
+cargo_here
 
 for package in model model/against; do
     if cargo fmt --version > /dev/null 2>&1; then

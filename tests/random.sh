@@ -4,20 +4,16 @@
 #     tests/random.sh [SEED [COUNT [FIRST]]]
 set -eu
 cd "$(dirname "$0")/.."
+. tests/shared
 
 sh tests/archive
 mkdir -p target/random
 
 echo "random: rt check compare"
-rt check compare > target/random/compare.out 2>&1 || {
-    cat target/random/compare.out
-    exit 1
-}
+logged target/random/compare.out rt check compare
 
 echo "random: building the comparison"
-# cargo writes only here, whoever runs it.
-export CARGO_HOME="$PWD/target/cargo" CARGO_TARGET_DIR="$PWD/model/target"
-mkdir -p "$CARGO_HOME"
+cargo_here
 cargo build --release --offline --locked --quiet --manifest-path model/against/Cargo.toml
 
 status=0

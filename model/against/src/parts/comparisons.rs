@@ -156,7 +156,8 @@ fn try_compare(
         let place = ours_work.iter().zip(&work_model).position(|(a, b)| a != b);
         let event = ours_list.iter().zip(&list_model).position(|(a, b)| a != b);
         format!(
-            "compare {traces} with {words} words and {places} places of {} against {}: model {model:?}, library {ours:?}, work at {place:?}, trace at {event:?}",
+            "compare {traces} with {words} words and {places} places of {} against {}: \
+             model {model:?}, library {ours:?}, work at {place:?}, trace at {event:?}",
             shown_sheet(device),
             shown_sheet(reference)
         )
