@@ -9,12 +9,12 @@ use lib.Dec.{eqb}
 use borrow.Author.Tests.{eqb-false, eq-eqb, ne-eqb, not-true}
 use Rattle.base.specs.Truth.{and-l, and-r, not-i}
 
--- how many
+-- how many numbers below n pass the test f
 unfoldable pub count : (ℕ → Bool) → ℕ → ℕ
 count f zero = 0
 count f (suc n) = count f n + cond (f n) 1 0
 
--- no more than there are
+-- no more numbers below n pass a test than there are
 pub count-le : (f : ℕ → Bool) (n : ℕ) → count f n ≤ n
 unfolding count
 count-le f zero = omega arith
@@ -24,7 +24,7 @@ count-le f (suc n) = go (f n) (count-le f n)
     go true h = omega arith
     go false h = omega arith
 
--- all of them exactly if each passes the test
+-- as many numbers pass as there are below n exactly if each of them passes
 pub count-all→ : (f : ℕ → Bool) (n : ℕ) → count f n ≡ n → (i : ℕ) → i < n → f i ≡ true
 unfolding count
 count-all→ f zero z i l = absurd (omega arith)
@@ -40,7 +40,7 @@ unfolding count
 count-all← f zero h = refl
 count-all← f (suc n) h = rw (h n (omega arith), count-all← f n (λ i l. h i (omega arith))) (omega arith)
 
--- none of them
+-- where no number below n passes the test, the count is 0
 pub count-none : (f : ℕ → Bool) (n : ℕ) → ((i : ℕ) → i < n → f i ≡ false) → count f n ≡ 0
 unfolding count
 count-none f zero h = refl
@@ -51,7 +51,7 @@ unfolding count
 count-same f g zero h = refl
 count-same f g (suc n) h = rw (h n (omega arith), count-same f g n (λ i l. h i (omega arith)))
 
--- the test, failed at c besides
+-- the test f, which fails at c besides
 abbrev pub without : ℕ → (ℕ → Bool) → ℕ → Bool
 without c f i = f i && not (eqb i c)
 

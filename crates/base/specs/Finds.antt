@@ -1,5 +1,5 @@
--- A test and the fault that it looks for. The fault is said with "there is" and "for every", the test can be run; it passes
--- exactly if there is no such fault.
+-- A test and the fault that it looks for. The fault is said with "there is" and "for every", the test can be run; it
+-- passes exactly if there is no such fault.
 use mathlib.Core.Path.{_≡_}
 use mathlib.Core.Logic.{_⊎_, inl, inr, _≢_}
 use mathlib.Core.Bool.{Bool, true, false, not, _&&_, _||_}
@@ -10,16 +10,16 @@ use borrow.Author.Tests.{ltb-true, ltb-false, leb-true, leb-false, eqb-true, eqb
 use Rattle.base.specs.Truth.{dec, clash, and-l, and-r, and-i, or-e, or-l, or-r, not-i}
 use Rattle.base.specs.Range.{all, all→, not-all}
 
--- the test passes exactly if there is no fault
+-- the test `ok` passes exactly if there is no fault F
 pub record Finds (ok : Bool) (F : Type 0) : Type 0 where
   pub clear : ok ≡ true → ¬ F
   pub fault : ok ≡ false → F
 
--- the same fault in other words
+-- a test that finds a fault finds the same fault in other words
 pub finds-as : {ok : Bool} {F G : Type 0} → Finds ok F → (F → G) → (G → F) → Finds ok G
 finds-as h f g = record { clear = λ t x. h .clear t (g x); fault = λ t. f (h .fault t) }
 
--- a number that is too great, too small, or not the one
+-- tests that find a number that is too great, too small, or not the one
 pub finds-le : (a b : ℕ) → Finds (leb a b) (b < a)
 finds-le a b = record { clear = λ t x. omega (arith, leb-true a b t); fault = leb-false a b }
 
@@ -29,7 +29,7 @@ finds-lt a b = record { clear = λ t x. omega (arith, ltb-true a b t); fault = l
 pub finds-eq : (a b : ℕ) → Finds (eqb a b) (a ≢ b)
 finds-eq a b = record { clear = λ t x. x (eqb-true a b t); fault = eqb-false a b }
 
--- of two tests in turn, a fault of either
+-- two tests in turn find a fault of either
 pub finds-and : {a b : Bool} {F G : Type 0} → Finds a F → Finds b G → Finds (a && b) (F ⊎ G)
 finds-and {a} {b} {F} {G} h k = record { clear = none; fault = λ t. pick t (dec a) }
   where
@@ -41,7 +41,7 @@ finds-and {a} {b} {F} {G} h k = record { clear = none; fault = λ t. pick t (dec
     pick t (inl p) = inr (k .fault (not-i (λ q. clash (and-i p q) t)))
     pick t (inr p) = inl (h .fault p)
 
--- of two tests of which one is enough, a fault of both
+-- two tests of which one is enough find a fault of both
 pub finds-or : {a b : Bool} {F G : Type 0} → Finds a F → Finds b G → Finds (a || b) (F × G)
 finds-or {a} {b} {F} {G} h k = record { clear = λ t. none (or-e a b t); fault = both }
   where
@@ -52,7 +52,7 @@ finds-or {a} {b} {F} {G} h k = record { clear = λ t. none (or-e a b t); fault =
     both : (a || b) ≡ false → F × G
     both t = (h .fault (not-i (λ p. clash (or-l b p) t)), k .fault (not-i (λ p. clash (or-r a p) t)))
 
--- of a test of every number below a bound, a fault at one of them
+-- a test of every number below a bound finds a fault at one of them
 pub finds-all : {f : ℕ → Bool} {F : ℕ → Type 0} (n : ℕ) → ((i : ℕ) → i < n → Finds (f i) (F i)) → Finds (all f n) ((i : ℕ) × (i < n) × F i)
 finds-all {f} {F} n h = record { clear = none; fault = some }
   where
@@ -62,6 +62,6 @@ finds-all {f} {F} n h = record { clear = none; fault = some }
     some : all f n ≡ false → (i : ℕ) × (i < n) × F i
     some t = let w = not-all f n t in (w .0, w .1, h (w .0) (w .1) .fault (w .2))
 
--- a test that must fail
+-- a test that must fail finds what makes it pass
 pub finds-not : {ok : Bool} {F : Type 0} → (ok ≡ true → F) → (ok ≡ false → ¬ F) → Finds (not ok) F
 finds-not {ok} h k = record { clear = λ t. k (not-true ok t); fault = λ t. h (not-false ok t) }

@@ -11,25 +11,25 @@ abbrev pub atFront : List ℕ → List ℕ → List ℕ
 atFront out ps = ps ++ drop (length ps) out
 
 module _ (out ps : List ℕ) where
-  -- where they have room, the list keeps its length
+  -- where ps have room in the list, it keeps its length
   pub atFront-length : length ps ≤ length out → length (atFront out ps) ≡ length out
   atFront-length l = simp (length-append, length-drop) (omega (arith, l))
 
-  -- they stand at their places
+  -- what is written over the front stands at its places
   pub atFront-before : (x d : ℕ) → x < length ps → getD (atFront out ps) x d ≡ getD ps x d
   atFront-before x d l = List·getD-append ps (drop (length ps) out) d x l
 
-  -- behind them the list is as it was
+  -- behind what is written over the front, the list is as it was
   pub atFront-behind : (x d : ℕ) → length ps ≤ x → getD (atFront out ps) x d ≡ getD out x d
   atFront-behind x d l =
       let e : x ≡ length ps + (x - length ps) = omega arith in
       rw e (getD-append-add ps (drop (length ps) out) (x - length ps) d ∙ getD-drop (length ps) out (x - length ps) d)
 
   module _ {n : ℕ} (e : length ps ≡ n) where
-    -- as many as they are, from the front
+    -- the front of the list, of as many places as were written, is what was written
     pub atFront-taken : take n (atFront out ps) ≡ ps
     atFront-taken = take-at ps (drop (length ps) out) n e
 
-    -- as loops and inner calls have it, which count what they write
+    -- the list after ps were written, by their number n, as loops and inner calls have it, which count what they write
     pub atFront-count : atFront out ps ≡ ps ++ drop n out
     atFront-count = ap (λ (k : ℕ). ps ++ drop k out) e

@@ -1,5 +1,5 @@
--- The numbers below n that pass a test, in a list: what stands in it, and where. A loop that counts the numbers up makes it from the
--- front.
+-- The numbers below n that pass a test, in a list: what stands in it, and where. A loop that counts the numbers up
+-- makes it from the front.
 use mathlib.Core.Path.{_≡_, _∙_}
 use mathlib.Core.Logic.{_⊎_, inl, inr}
 use mathlib.Core.Bool.{Bool, true, false, cond}
@@ -22,7 +22,7 @@ unfoldable pub select : (ℕ → Bool) → ℕ → List ℕ
 select p n = gather p (λ x. x) n
 
 module _ (p : ℕ → Bool) (f : ℕ → ℕ) where
-  -- one number more
+  -- one number more adds what f gives for it if it passes, and nothing if it fails
   pub gather-yes : (n : ℕ) → p n ≡ true → gather p f (suc n) ≡ gather p f n ++ (f n ∷ [])
   unfolding gather
   gather-yes n e = rw e
@@ -40,7 +40,7 @@ module _ (p : ℕ → Bool) (f : ℕ → ℕ) where
   unfolding gather
   gather-mono n m h = le-ind (λ (k : ℕ). length (gather p f n) ≤ length (gather p f k)) (le-refl _) (λ k (u : n ≤ k) e. le-trans e (simp length-append (omega arith))) m h
 
-  -- it is no longer than the numbers are many
+  -- the list is no longer than the numbers are many
   pub gather-short : (n : ℕ) → length (gather p f n) ≤ n
   unfolding gather
   gather-short zero = le-refl 0
@@ -59,7 +59,7 @@ module _ (p : ℕ → Bool) (f : ℕ → ℕ) where
       go (inl e) ih = rw e
       go (inr k) ih = gather-no y (h y (omega arith) (omega arith)) ∙ ih (omega arith)
 
-  -- what passes has its place after what those below it give
+  -- what f gives for a number that passes has its place after what the numbers below it give
   pub gather-room : (z n : ℕ) → z < n → p z ≡ true → length (gather p f z) < length (gather p f n)
   gather-room z n l t = omega (arith, length-yes z t, gather-mono (suc z) n l)
 

@@ -50,7 +50,7 @@ unfolding all
 all← f zero h = refl
 all← f (suc n) h = and-i (all← f n (λ i l. h i (omega arith))) (h n (omega arith))
 
--- tests that agree below the bound
+-- tests that agree below the bound pass alike for some and for all of the numbers
 module _ (f g : ℕ → Bool) where
   pub any-ext : (n : ℕ) → ((i : ℕ) → i < n → f i ≡ g i) → any f n ≡ any g n
   unfolding any
@@ -105,7 +105,7 @@ first≤ f (suc n) = go (f 0) (first≤ (λ i. f (suc i)) n)
     go true h = omega arith
     go false h = omega arith
 
--- below it the test fails
+-- below the first number that passes, the test fails
 pub first-before : (f : ℕ → Bool) (n k : ℕ) → k < first f n → f k ≡ false
 unfolding first
 first-before f zero k l = absurd (omega arith)
@@ -116,7 +116,7 @@ first-before f (suc n) k l = go k (f 0) refl l (first-before (λ i. f (suc i)) n
     go zero false e l ih = e
     go (suc k) false e l ih = ih k (omega arith)
 
--- at it the test passes, if it is below the bound
+-- at the first number that passes, if it is below the bound, the test passes
 pub first-at : (f : ℕ → Bool) (n : ℕ) → first f n < n → f (first f n) ≡ true
 unfolding first
 first-at f zero l = absurd (omega arith)
@@ -126,7 +126,7 @@ first-at f (suc n) l = go (f 0) refl l (first-at (λ i. f (suc i)) n)
     go true e l ih = e
     go false e l ih = ih (omega arith)
 
--- what passes below the bound is not before it
+-- a number that passes is not before the first that does
 pub first-le : (f : ℕ → Bool) (n k : ℕ) → f k ≡ true → first f n ≤ k
 first-le f n k t = go (lt-or-ge k (first f n))
   where
@@ -134,7 +134,7 @@ first-le f n k t = go (lt-or-ge k (first f n))
     go (inl l) = absurd (clash t (first-before f n k l))
     go (inr l) = l
 
--- how a loop that counts up finds it
+-- how a loop that counts up finds the first number that passes
 pub first-is : (f : ℕ → Bool) (n i : ℕ) → i < n → ((k : ℕ) → k < i → f k ≡ false) → f i ≡ true → first f n ≡ i
 first-is f n i l h t = go (lt-or-ge (first f n) i) (first-le f n i t)
   where

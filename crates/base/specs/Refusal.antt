@@ -32,6 +32,11 @@ pub orElse-some : (k r : ℕ) → 0 < k → orElse k r ≡ k
 orElse-some zero r h = absurd (omega arith)
 orElse-some (suc k) r h = refl
 
+-- three parts in turn, taken together as one likes
+pub orElse-assoc : (k l r : ℕ) → orElse k (orElse l r) ≡ orElse (orElse k l) r
+orElse-assoc zero l r = refl
+orElse-assoc (suc k) l r = refl
+
 -- a refusal's number comes from its own rule, if none after it gives the same
 pub unless-hit : {ok : Bool} {F : Type 0} (k r : ℕ) → Finds ok F → r ≢ k → (unless ok k r ≡ k) ↔ F
 unless-hit {ok} {F} k r h n = (go ok refl, back ok refl)
@@ -44,7 +49,7 @@ unless-hit {ok} {F} k r h n = (go ok refl, back ok refl)
     back true t x = absurd (h .clear t x)
     back false t x = refl
 
--- any other number comes from what follows, if the rule is kept
+-- of a rule and what follows, another number than the rule's comes from what follows, if the rule is kept
 pub unless-pass : {ok : Bool} {F : Type 0} (k r m : ℕ) → Finds ok F → k ≢ m → (unless ok k r ≡ m) ↔ ((¬ F) × (r ≡ m))
 unless-pass {ok} {F} k r m h n = (go ok refl, back ok refl)
   where
@@ -56,11 +61,11 @@ unless-pass {ok} {F} k r m h n = (go ok refl, back ok refl)
     back true t x = x .1
     back false t x = absurd (x .0 (h .fault t))
 
--- the last rule: none is given exactly if it is kept
+-- the last rule gives no refusal exactly if it is kept
 pub unless-none : {ok : Bool} {F : Type 0} (k : ℕ) → Finds ok F → k ≢ 0 → (unless ok k 0 ≡ 0) ↔ (¬ F)
 unless-none k h n = let w = unless-pass k 0 0 h n in ((λ x. w .0 x .0), λ y. w .1 (y, refl))
 
--- a number that neither gives
+-- a number that neither a rule nor what follows gives
 pub unless-other : {k r m : ℕ} (ok : Bool) → k ≢ m → r ≢ m → unless ok k r ≢ m
 unless-other true p q = q
 unless-other false p q = p

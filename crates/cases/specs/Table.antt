@@ -1,6 +1,6 @@
--- The P cases of 01 as one table: each row is a call or a whole run, its answer is a list of numbers, and one equation has them
--- all. The rows `adding` are for 02, K5, the rows `lending` for K7. Sheets come as bytes, through the definition of reading. The
--- rows compute through the definitions that the contracts cite, the probe lists among them.
+-- The P cases of 01 as one table: each row is a call or a whole run, its answer is a list of numbers, and one equation
+-- has them all. The rows `adding` are for 02, K5, the rows `lending` for K7. Sheets come as bytes, through the
+-- definition of reading. The rows compute through the definitions that the contracts cite, the probe lists among them.
 use mathlib.Core.Path.{_≡_, refl}
 use mathlib.Core.Bool.{Bool, true, false}
 use mathlib.Core.List.{List, [], _∷_, _++_, map}
@@ -25,16 +25,17 @@ use Rattle.sheet_spec.specs.Rules.{rangesOk, countOk, countsOk, successorsOk, r
 use Rattle.sheet_spec.specs.Reading.{readSheet, answer, bytesFault, headFault, lengthField, layoutFault, nextAt, startOf, succOf, setsOf, rowAt, rowOf, sheetOf, graphFault}
 use Rattle.probes_spec.specs.Probes.{hits, isProbe, probes}
 use Rattle.probes_spec.specs.FirstMissed.{missing, orNext, firstMissing, firstMissed}
-use Rattle.refinement_spec.specs.PairTests.{strays, hasStray, firstStray, covers, hasRefusal, violates, violating}
+use Rattle.refinement_spec.specs.ViolatingPairs.{strays, hasStray, firstStray, covers, hasRefusal, violates, violating}
 use Rattle.tests_spec.specs.declared.Run.{Run}
 use Rattle.tests_spec.specs.declared.Report.{Report}
 use Rattle.tests_spec.specs.declared.Report.the-variants.{Event, Blocked}
 use Rattle.tests_spec.specs.declared.Stepped.{Stepped}
 use Rattle.tests_spec.specs.Flags.{flag, flagOf}
 use Rattle.tests_spec.specs.Runs.{allEvents, outside, probesAt, chosen, offerOf, newRun, openFault, openOf, recordOk, eventFault, reportFault, movedBy, endedRun, answerOf, stepOf}
-use Rattle.tests_spec.specs.Verdicts.{failsFrom, verdictFault, verdictOf}
-use Rattle.tests_spec.specs.Numbers.{Said, said, judged}
-use Rattle.comparison_spec.specs.Comparison.{pairs, nearest, nearestTrace, clearedOf, lastRow, refusalNamed, named, comparisonOf, compareFault, outcomeOf, traceAfter, workAfter}
+use Rattle.verdicts_spec.specs.Verdicts.{failsFrom, verdictFault, verdictOf}
+use Rattle.tests_spec.specs.Numbers.{Said, said}
+use Rattle.verdicts_spec.specs.Numbers.{judged}
+use Rattle.comparison_spec.specs.Comparison.{pairCount, nearest, nearestTrace, clearedOf, lastRow, refusalNamed, named, comparisonOf, compareFault, outcomeOf, traceAfter, workAfter}
 use Rattle.comparison_spec.specs.Numbers.{Compared, compared}
 use Rattle.sheet_spec.specs.Examples.{caseSheets, exampleReference, exampleDevice, onlyZero, onlyOne, mayLoop, mustLoop, stopped, sheet}
 
@@ -50,38 +51,39 @@ pub data Case : Type 0 where
   verdict : List ℕ → List ℕ → ℕ → Bool → Case
   -- a run of test k with choice number h, trace-only or not, through these reports
   running : List ℕ → ℕ → ℕ → Bool → List Report → Case
-  -- the comparison of a reference with a device, with a work list of 28 words that hold 7 and a trace list of 8 places that hold 9
+  -- the comparison of a reference with a device, with a work list of 28 words that hold 7 and a trace list of 8 places
+  -- that hold 9
   comparing : List ℕ → List ℕ → Bool → Case
-  -- the refusal of a comparison with a work list of so many words, which hold 7, and a trace list of so many places; and what the
-  -- work list then holds (02, K7)
+  -- the refusal of a comparison with a work list of so many words, which hold 7, and a trace list of so many places;
+  -- and what the work list then holds (02, K7)
   lending : List ℕ → List ℕ → ℕ → ℕ → Case
 
--- the refusal, E and N
+-- the numbers of a reading: the refusal, E and N
 unfoldable pub readNumbers : ReadSheet → List ℕ
 readNumbers a = a .refusal ∷ a .sheet .e ∷ a .sheet .n ∷ []
 
--- the refusal, the kind and the value of an answer
+-- the numbers of an answer: the refusal, the kind and the value
 unfoldable pub numbers : Said → List ℕ
 numbers a = a .refusal ∷ a .kind ∷ a .value ∷ []
 
--- a record: k, h, the flag of trace-only, the flag of ended, node and depth
+-- the numbers of a record: k, h, the flag of trace-only, the flag of ended, node and depth
 unfoldable pub recordNumbers : Run → List ℕ
-recordNumbers r = r .k ∷ r .h ∷ r .traces ∷ r .ended ∷ r .node ∷ r .depth ∷ []
+recordNumbers r = r .k ∷ r .h ∷ r .«trace_only» ∷ r .ended ∷ r .node ∷ r .depth ∷ []
 
 -- the numbers of a run's answers, one after the other, and the record in the end
 unfoldable pub answersOf : Sheet → Stepped → List Report → List ℕ
 answersOf s z [] = numbers (said (z .answer)) ++ recordNumbers (z .run)
 answersOf s z (x ∷ xs) = numbers (said (z .answer)) ++ answersOf s (stepOf s (z .run) x) xs
 
--- the refusal, the kind, d, cleared, the event, the probe and the acceptance of a comparison's answer
+-- the numbers of a comparison's answer: the refusal, the kind, d, cleared, the event, the probe and the acceptance
 unfoldable pub comparedNumbers : Compared → List ℕ
 comparedNumbers a = a .refusal ∷ a .kind ∷ a .d ∷ a .cleared ∷ a .event ∷ a .probe ∷ a .acceptance ∷ []
 
--- the work list lent to a comparison
+-- the work list lent to a comparison: 28 words that hold 7
 unfoldable pub work : List ℕ
 work = replicate 28 7
 
--- and its trace list
+-- the trace list lent to a comparison: 8 places that hold 9
 unfoldable pub trace : List ℕ
 trace = replicate 8 9
 
@@ -90,13 +92,13 @@ unfoldable pub numbersOf : Case → List ℕ
 numbersOf (reading b) = readNumbers (readSheet b)
 numbersOf (listing l) = probes l 3
 numbersOf (adding x) = upTo (insert x) 12
-numbersOf (verdict P Q k to) = numbers (judged (verdictOf (sheet P) (sheet Q) k to))
-numbersOf (running P k h to reports) = answersOf (sheet P) (openOf (sheet P) k h to) reports
-numbersOf (comparing P Q to) = comparedNumbers (compared (outcomeOf to (sheet P) (sheet Q) work trace)) ++ (traceAfter to (sheet P) (sheet Q) work trace ++ workAfter (sheet P) (sheet Q) work trace)
+numbersOf (verdict P Q k traceOnly) = numbers (judged (verdictOf traceOnly (sheet P) (sheet Q) k))
+numbersOf (running P k h traceOnly reports) = answersOf (sheet P) (openOf traceOnly (sheet P) k h) reports
+numbersOf (comparing P Q traceOnly) = comparedNumbers (compared (outcomeOf traceOnly (sheet P) (sheet Q) work trace)) ++ (traceAfter traceOnly (sheet P) (sheet Q) work trace ++ workAfter (sheet P) (sheet Q) work trace)
 numbersOf (lending P Q words places) =
     compareFault (sheet P) (sheet Q) (replicate words 7) (replicate places 9) ∷ workAfter (sheet P) (sheet Q) (replicate words 7) (replicate places 9)
 
--- the rows
+-- the rows of the table
 unfoldable pub table : List Case
 table =
     reading exampleReference ∷ reading exampleDevice ∷ reading onlyZero ∷ reading onlyOne ∷ reading mayLoop ∷ reading mustLoop ∷ reading stopped
@@ -159,15 +161,16 @@ table =
     -- any case sheet against itself refines (`outcome-self` says so of every accepted sheet)
     ∷ map (λ b. comparing b b false) caseSheets
 
--- a comparison's numbers, the trace list, and the work list with its first words 0
+-- what a row of a comparison answers: its numbers, the trace list, and the work list with its first words 0
 unfoldable pub lists : List ℕ → List ℕ → ℕ → List ℕ
 lists numbers traced zeros = numbers ++ (traced ++ (replicate zeros 0 ++ replicate (28 - zeros) 7))
 
--- a refusal, and a work list with so many words that are 0 and then so many as they were
+-- what a row of a lent list answers: a refusal, and a work list with so many words that are 0 and then so many as they
+-- were
 unfoldable pub lent : ℕ → ℕ → ℕ → List ℕ
 lent refusal zeros left = refusal ∷ (replicate zeros 0 ++ replicate left 7)
 
--- what they answer
+-- what the rows of the table answer
 unfoldable pub answers : List (List ℕ)
 answers =
     (0 ∷ 2 ∷ 2 ∷ [])
@@ -244,5 +247,5 @@ answers =
 
 -- every row answers what 01 and 02 say
 pub cases-hold : map numbersOf table ≡ answers
-unfolding numbersOf table answers lists lent caseSheets workAfter readNumbers numbers recordNumbers answersOf comparedNumbers work trace sheet exampleReference exampleDevice onlyZero onlyOne mayLoop mustLoop stopped readSheet answer bytesFault headFault lengthField layoutFault nextAt startOf succOf setsOf rowAt rowOf sheetOf graphFault rangesOk countOk countsOk successorsOk rowSuccessorsOk successorOk setsOk rowSetsOk setOk ascends noneInside blank unusedOk blanksOk reachedOk sheetFault successor acceptance acceptances initials mayStop step bit has inside meets insert setOf walk nearer leads meetsIn distance later choice leastFrom leastTrace cleared code pairNext product onCodes pairDistance pairTrace pairCleared all any first count upTo hits isProbe gather select probes missing orNext firstMissing firstMissed strays hasStray firstStray covers hasRefusal violates violating allEvents outside probesAt chosen flag flagOf offerOf newRun openFault openOf recordOk eventFault reportFault movedBy endedRun answerOf stepOf failsFrom verdictFault verdictOf said judged pairs nearest nearestTrace clearedOf lastRow refusalNamed named comparisonOf compareFault outcomeOf traceAfter compared
+unfolding numbersOf table answers lists lent caseSheets workAfter readNumbers numbers recordNumbers answersOf comparedNumbers work trace sheet exampleReference exampleDevice onlyZero onlyOne mayLoop mustLoop stopped readSheet answer bytesFault headFault lengthField layoutFault nextAt startOf succOf setsOf rowAt rowOf sheetOf graphFault rangesOk countOk countsOk successorsOk rowSuccessorsOk successorOk setsOk rowSetsOk setOk ascends noneInside blank unusedOk blanksOk reachedOk sheetFault successor acceptance acceptances initials mayStop step bit has inside meets insert setOf walk nearer leads meetsIn distance later choice leastFrom leastTrace cleared code pairNext product onCodes pairDistance pairTrace pairCleared all any first count upTo hits isProbe gather select probes missing orNext firstMissing firstMissed strays hasStray firstStray covers hasRefusal violates violating allEvents outside probesAt chosen flag flagOf offerOf newRun recordOk openFault openOf endedRun eventFault reportFault movedBy answerOf stepOf failsFrom verdictFault verdictOf nearest said judged pairCount nearestTrace clearedOf lastRow refusalNamed named comparisonOf compareFault outcomeOf traceAfter compared
 cases-hold = refl

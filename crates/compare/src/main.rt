@@ -2,7 +2,7 @@
 fn main() {
     let mut space = io::buffer();
     let n = io::read_full(libc::STDIN_FILENO, &mut space);
-    let text = lines::compare_text(&space[..n]);
+    let text = compare_lines::compare_text(&space[..n]);
     let bytes = text.bytes;
     let len = text.len;
     io::write_all(libc::STDOUT_FILENO, &bytes[..len]);

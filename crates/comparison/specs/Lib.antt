@@ -1,2 +1,5 @@
+pub mod ViolatingTable
 pub mod Agree
 pub mod Tables
+pub mod FaultOn
+pub mod Told

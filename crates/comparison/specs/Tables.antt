@@ -1,5 +1,6 @@
--- From the tables to the definitions: the graph that a sheet's table draws is the sheet's, the table of violating pairs holds what
--- the definition says, and so a search over them gives the answer and leaves the lists as they are defined.
+-- For the proofs of this crate; nothing to believe.
+-- From the tables to the definitions: the graph that a sheet's table draws is the sheet's, the table of violating pairs
+-- holds what the definition says, and so a search over them gives the answer and leaves the lists as they are defined.
 use mathlib.Core.Path.{_≡_, sym, ap, _∙_, fun-ext}
 use mathlib.Core.Logic.{_⊎_, inl, inr, _≢_}
 use mathlib.Core.Bool.{Bool}
@@ -20,20 +21,20 @@ use Rattle.sheet_spec.specs.declared.Sheet.{Sheet}
 use Rattle.sheet_spec.specs.Kept.{row, successor, step, graph}
 use Rattle.sheet_spec.specs.Rules.{sheetFault}
 use Rattle.sheet_spec.specs.Sound.{Sound, check-sound, nodes-most}
-use Rattle.refinement_spec.specs.PairTests.{violating}
+use Rattle.refinement_spec.specs.ViolatingPairs.{violating}
 use Rattle.comparison_spec.specs.declared.Outcome.{Outcome}
 use Rattle.comparison_spec.specs.declared.Outcome.the-variants.{Denied}
-use Rattle.comparison_spec.specs.Comparison.{pairs, nearest, nearestTrace, clearedOf, lastRow, comparisonOf, compareFault, traceAfter}
+use Rattle.comparison_spec.specs.Comparison.{pairCount, nearest, nearestTrace, clearedOf, lastRow, comparisonOf, compareFault, traceAfter}
 use Rattle.comparison_spec.specs.Numbers.{compared}
 use Rattle.comparison_spec.specs.CallLaws.{compare-0, denied-outcome, denied-trace, denied-work, given-outcome, given-trace, given-no-trace, given-work}
-use Rattle.search_spec.specs.declared.Found.{Found}
-use Rattle.search_spec.specs.Tables.{tableNext, tableGraph, badIn}
-use Rattle.search_spec.specs.Found.{foundOf, Searched, traceFound, workFound}
-use Rattle.search_spec.specs.Read.{SearchOk}
-use Rattle.rows.specs.Tables.{flatAt, flat-holds}
-use Rattle.bad_pairs.specs.Table.{badTable, table-holds}
-use Rattle.outcomes.specs.Told.{told, Fits}
-use Rattle.comparison_faults.specs.FaultOn.{faultOn, fault-is}
+use Rattle.search_theory.specs.declared.Found.{Found}
+use Rattle.search_theory.specs.Tables.{tableNext, tableGraph, badIn}
+use Rattle.search_theory.specs.Found.{foundOf, Searched, traceFound, workFound}
+use Rattle.search_theory.specs.Read.{SearchOk}
+use Rattle.sheet_rows.specs.Tables.{flatAt, flat-holds}
+use Rattle.comparison.specs.ViolatingTable.{violatingTable, table-holds}
+use Rattle.comparison.specs.Told.{told, Fits}
+use Rattle.comparison.specs.FaultOn.{faultOn, fault-is}
 use Rattle.comparison_spec.specs.Contract.{Compares}
 use Rattle.comparison.specs.Agree.{Agree, distance-same, trace-same}
 
@@ -54,7 +55,7 @@ flat-graph s n e = ap (λ (f : ℕ → ℕ → ℕ). record { events = s .e; siz
     at v i (inr h) k = rw (le-ltb v (s .n) h)
 
 -- the table of violating pairs agrees with the definition at the pairs of nodes
-pub bad-agree : (traceOnly : Bool) (P Q : Sheet) → Agree (graph P) (graph Q) (badIn (badTable traceOnly P Q) (Q .n)) (violating traceOnly P Q)
+pub bad-agree : (traceOnly : Bool) (P Q : Sheet) → Agree (graph P) (graph Q) (badIn (violatingTable traceOnly P Q) (Q .n)) (violating traceOnly P Q)
 unfolding badIn
 bad-agree traceOnly P Q n m h k = table-holds traceOnly P Q n m h k
 
@@ -67,7 +68,7 @@ cleared-le r d k = count-le _ (r .size * d .size)
 module _ (traceOnly : Bool) (P Q : Sheet) (op : Sound P) (oq : Sound Q) where
   -- the test of pairs that the table holds
   abbrev table : ℕ → ℕ → Bool
-  table = badIn (badTable traceOnly P Q) (Q .n)
+  table = badIn (violatingTable traceOnly P Q) (Q .n)
 
   same-distance : pairDistance (graph P) (graph Q) table ≡ nearest traceOnly P Q
   unfolding nearest
@@ -79,7 +80,7 @@ module _ (traceOnly : Bool) (P Q : Sheet) (op : Sound P) (oq : Sound Q) where
 
   -- the answer that follows from what is found is the definition's
   pub found-told : told P Q (foundOf (graph P) (graph Q) table) ≡ comparisonOf traceOnly P Q
-  unfolding told foundOf comparisonOf clearedOf lastRow pairs
+  unfolding told foundOf comparisonOf clearedOf lastRow pairCount
   found-told = go (lt-or-ge (nearest traceOnly P Q) (P .n * Q .n))
     where
       go : (nearest traceOnly P Q < P .n * Q .n) ⊎ (P .n * Q .n ≤ nearest traceOnly P Q) → told P Q (foundOf (graph P) (graph Q) table) ≡ comparisonOf traceOnly P Q
@@ -98,9 +99,9 @@ module _ (traceOnly : Bool) (P Q : Sheet) (op : Sound P) (oq : Sound Q) where
           (omega (arith, nodes-most op oq), w .in-r, w .in-d, omega (arith, nodes-most op oq, cleared-le (graph P) (graph Q) (pairDistance (graph P) (graph Q) table)))
       go (inr l) = rw (le-ltb (pairDistance (graph P) (graph Q) table) (P .n * Q .n) l) (omega (arith, nodes-most op oq, cleared-le (graph P) (graph Q) (P .n * Q .n)))
 
-  -- .. and so is the trace list
+  -- the trace list that follows from what is found is the definition's
   after-trace : (work trace : List ℕ) → compareFault P Q work trace ≡ 0 → traceFound (graph P) (graph Q) table trace ≡ traceAfter traceOnly P Q work trace
-  unfolding traceFound pairs
+  unfolding traceFound pairCount
   after-trace work trace z = go (lt-or-ge (nearest traceOnly P Q) (P .n * Q .n))
     where
       go : (nearest traceOnly P Q < P .n * Q .n) ⊎ (P .n * Q .n ≤ nearest traceOnly P Q) → traceFound (graph P) (graph Q) table trace ≡ traceAfter traceOnly P Q work trace
@@ -112,7 +113,7 @@ module _ (traceOnly : Bool) (P Q : Sheet) (op : Sound P) (oq : Sound Q) where
 -- ---- the call
 
 module _ (P Q : Sheet) (work trace : List ℕ) where
-  -- a call that is refused
+  -- a call that is refused meets its contract
   pub compares-denied : (traceOnly : Bool) (k : ℕ) → k ≡ faultOn P Q (length work) (length trace) → k ≢ 0 → Compares traceOnly P Q work trace work trace (Denied k)
   compares-denied traceOnly k e n =
       let f = e ∙ fault-is P Q work trace in
@@ -120,7 +121,7 @@ module _ (P Q : Sheet) (work trace : List ℕ) where
       let a = ap Denied f ∙ sym (denied-outcome P Q work trace traceOnly m) in
       record { answer = a; numbers = ap compared a; traced = sym (denied-trace P Q work trace traceOnly m); zeroed = sym (denied-work P Q work trace traceOnly m) }
 
-  -- one that is not
+  -- a call that the code does not refuse is not refused
   pub passed : (k : ℕ) → k ≡ faultOn P Q (length work) (length trace) → k ≡ 0 → compareFault P Q work trace ≡ 0
   passed k e z = sym (fault-is P Q work trace) ∙ sym e ∙ z
 
@@ -144,7 +145,7 @@ module _ (P Q : Sheet) (work trace : List ℕ) where
     module _ {p q e : ℕ} (ep : p ≡ P .n) (eq : q ≡ Q .n) (ee : e ≡ P .e) where
       -- the search may be called
       pub search-fits : SearchOk p q e work trace
-      unfolding pairs
+      unfolding pairCount
       search-fits =
           let w = compare-0 P Q work trace .0 z in
           rw (ep, eq, ee)
@@ -158,10 +159,10 @@ module _ (P Q : Sheet) (work trace : List ℕ) where
             places = omega (arith, w .1);
           })
 
-      -- and what it answers and leaves is the comparison's
+      -- what the search answers and leaves is the comparison's
       module _ (traceOnly : Bool) {a b : List ℕ} {bad : List Bool} {work′ trace′ : List ℕ} {found : Found} (ea : a ≡ upTo (flatAt (P .rows)) 384)
-          (eb : b ≡ upTo (flatAt (Q .rows)) 384) (et : bad ≡ badTable traceOnly P Q) (s : Searched a b p q e bad work trace work′ trace′ found) where
-        searched : Searched (upTo (flatAt (P .rows)) 384) (upTo (flatAt (Q .rows)) 384) (P .n) (Q .n) (P .e) (badTable traceOnly P Q) work trace work′ trace′ found
+          (eb : b ≡ upTo (flatAt (Q .rows)) 384) (et : bad ≡ violatingTable traceOnly P Q) (s : Searched a b p q e bad work trace work′ trace′ found) where
+        searched : Searched (upTo (flatAt (P .rows)) 384) (upTo (flatAt (Q .rows)) 384) (P .n) (Q .n) (P .e) (violatingTable traceOnly P Q) work trace work′ trace′ found
         searched = rw (ea, eb, et, ep, eq, ee) at s
 
         graph-P : tableGraph (upTo (flatAt (P .rows)) 384) (P .n) (P .e) ≡ graph P
@@ -183,5 +184,5 @@ module _ (P Q : Sheet) (work trace : List ℕ) where
               answer = x;
               numbers = ap compared x;
               traced = (rw (graph-P, graph-Q) at (searched .traced)) ∙ after-trace traceOnly P Q sound-P sound-Q work trace z;
-              zeroed = (unfold workFound pairs in (searched .zeroed ∙ sym (given-work P Q work trace traceOnly z)));
+              zeroed = (unfold workFound pairCount in (searched .zeroed ∙ sym (given-work P Q work trace traceOnly z)));
             }

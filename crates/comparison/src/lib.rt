@@ -1,14 +1,19 @@
-// The comparison of two sheets (01, "A comparison"). `compare` takes any two sheets and any two lists: it answers "refines", a
-// violation with what is named, or the number of the refusal, and says what the lists then hold. The successors and the violating
-// pairs are laid out in flat tables once, and a search over these finds the nearest violating pair.
+// The comparison of two sheets (01, "A comparison"). `compare` takes any two sheets and any two lists: it answers
+// "refines", a violation with what is named, or the number of the refusal, and says what the lists then hold. The
+// successors and the violating pairs are laid out in flat tables once, and a search over these finds the nearest
+// violating pair.
+mod faults;
+mod named;
+mod violating;
+
 ghost use mathlib.Core.Path.{_≡_};
 ghost use Rattle.comparison_spec.specs.Comparison.{compareFault};
 ghost use Rattle.comparison_spec.specs.Contract.{Compares};
 use comparison_spec::Outcome;
 use sheet_spec::Sheet;
 
-// The answer to a call that is not refused.
-fn judge(
+// Compares two sheets in a call that is not refused.
+fn compare_accepted(
     reference: Sheet,
     device: Sheet,
     trace_only: bool,
@@ -16,18 +21,19 @@ fn judge(
     trace: &mut [u8],
 ) -> Outcome
     requires { ⌜ compareFault reference device (now work) (now trace) ≡ 0 ⌝ }
-    ensures { λ r. ⌜ Compares «trace_only» reference device (now (work .entry)) (now (trace .entry)) (now (work .exit)) (now (trace .exit)) r ⌝ }
+    ensures { λ r. ⌜ Compares «trace_only» reference device (now (work .entry)) (now (trace .entry))
+        (now (work .exit)) (now (trace .exit)) r ⌝ }
 {
     let e = base::wide(reference.e);
     let p = base::wide(reference.n);
     let q = base::wide(device.n);
     let mine = reference.rows;
     let theirs = device.rows;
-    let a = rows::flat(mine);
-    let b = rows::flat(theirs);
-    let bad = bad_pairs::table(reference, device, trace_only);
+    let a = sheet_rows::flat(mine);
+    let b = sheet_rows::flat(theirs);
+    let bad = violating::table(reference, device, trace_only);
     let found = search::search(&a, &b, p, q, e, &bad, work, trace);
-    outcomes::tell(reference, device, found)
+    named::tell(reference, device, found)
 }
 
 // Compares a device's sheet with a reference's, `trace_only` with traces alone. The work list is to have 2 p q words,
@@ -39,11 +45,12 @@ pub fn compare(
     work: &mut [u16],
     trace: &mut [u8],
 ) -> Outcome
-    ensures { λ r. ⌜ Compares «trace_only» reference device (now (work .entry)) (now (trace .entry)) (now (work .exit)) (now (trace .exit)) r ⌝ }
+    ensures { λ r. ⌜ Compares «trace_only» reference device (now (work .entry)) (now (trace .entry))
+        (now (work .exit)) (now (trace .exit)) r ⌝ }
 {
-    let fault = comparison_faults::fault_on(reference, device, work.len(), trace.len());
+    let fault = faults::fault_on(reference, device, work.len(), trace.len());
     if fault != 0 {
         return Outcome::Denied(fault);
     }
-    judge(reference, device, trace_only, work, trace)
+    compare_accepted(reference, device, trace_only, work, trace)
 }

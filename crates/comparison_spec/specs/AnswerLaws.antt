@@ -11,18 +11,18 @@ use Rattle.sheet_spec.specs.Rules.{sheetFault}
 use Rattle.sheet_spec.specs.Sound.{Sound, check-sound}
 use Rattle.comparison_spec.specs.declared.Outcome.{Outcome}
 use Rattle.comparison_spec.specs.declared.Outcome.the-variants.{Refines}
-use Rattle.comparison_spec.specs.Comparison.{pairs, nearest, nearestTrace, clearedOf, compareFault, outcomeOf, traceAfter}
+use Rattle.comparison_spec.specs.Comparison.{pairCount, nearest, nearestTrace, clearedOf, compareFault, outcomeOf, traceAfter}
 use Rattle.comparison_spec.specs.Meaning.{Describes}
 use Rattle.comparison_spec.specs.ComparisonLaws.{trace-length}
 use Rattle.comparison_spec.specs.OutcomeLaws.{traceOf, comparison-describes, describes-only, comparison-self}
 use Rattle.comparison_spec.specs.CallLaws.{compare-fits, given-outcome, given-trace}
 
 -- a sheet that is not refused, compared with itself with lists that are long enough, refines
-pub outcome-self : (to : Bool) (s : Sheet) → sheetFault s ≡ 0 → (work trace : List ℕ) → 2 * pairs s s ≤ length work → pairs s s - 1 ≤ length trace
-    → outcomeOf to s s work trace ≡ Refines (clearedOf to s s)
-outcome-self to s h work trace l k = given-outcome s s work trace to (compare-fits s s work trace h h refl l k) ∙ comparison-self (check-sound s h) to
+pub outcome-self : (traceOnly : Bool) (s : Sheet) → sheetFault s ≡ 0 → (work trace : List ℕ) → 2 * pairCount s s ≤ length work → pairCount s s - 1 ≤ length trace
+    → outcomeOf traceOnly s s work trace ≡ Refines (clearedOf traceOnly s s)
+outcome-self traceOnly s h work trace l k = given-outcome s s work trace traceOnly (compare-fits s s work trace h h refl l k) ∙ comparison-self (check-sound s h) traceOnly
 
-module _ (to : Bool) (P Q : Sheet) (accP : sheetFault P ≡ 0) (accQ : sheetFault Q ≡ 0) (same : P .e ≡ Q .e) (work trace : List ℕ) (z : compareFault P Q work trace ≡ 0) where
+module _ (traceOnly : Bool) (P Q : Sheet) (accP : sheetFault P ≡ 0) (accQ : sheetFault Q ≡ 0) (same : P .e ≡ Q .e) (work trace : List ℕ) (z : compareFault P Q work trace ≡ 0) where
   op : Sound P
   op = check-sound P accP
 
@@ -30,30 +30,30 @@ module _ (to : Bool) (P Q : Sheet) (accP : sheetFault P ≡ 0) (accQ : sheetFaul
   oq = check-sound Q accQ
 
   -- the front of the trace list at exit is the trace
-  front : nearest to P Q < pairs P Q → take (nearest to P Q) (traceAfter to P Q work trace) ≡ nearestTrace to P Q
-  front l = rw (given-trace P Q work trace to z l) (atFront-taken trace (nearestTrace to P Q) (trace-length op oq same to))
+  front : nearest traceOnly P Q < pairCount P Q → take (nearest traceOnly P Q) (traceAfter traceOnly P Q work trace) ≡ nearestTrace traceOnly P Q
+  front l = rw (given-trace P Q work trace traceOnly z l) (atFront-taken trace (nearestTrace traceOnly P Q) (trace-length op oq same traceOnly))
 
   -- the answer, with the trace, is what 01 describes
-  pub outcome-describes : Describes to P Q (outcomeOf to P Q work trace) (traceOf to P Q)
-  outcome-describes = rw (given-outcome P Q work trace to z) (comparison-describes op oq same to)
+  pub outcome-describes : Describes traceOnly P Q (outcomeOf traceOnly P Q work trace) (traceOf traceOnly P Q)
+  outcome-describes = rw (given-outcome P Q work trace traceOnly z) (comparison-describes op oq same traceOnly)
 
   -- whatever 01 describes is that answer; and its trace, where there is a violation, is the front of the trace list
-  pub outcome-only : (o : Outcome) (t : List ℕ) → Describes to P Q o t → o ≡ outcomeOf to P Q work trace
-  outcome-only o t d = describes-only op oq same to o t d .0 ∙ sym (given-outcome P Q work trace to z)
+  pub outcome-only : (o : Outcome) (t : List ℕ) → Describes traceOnly P Q o t → o ≡ outcomeOf traceOnly P Q work trace
+  outcome-only o t d = describes-only op oq same traceOnly o t d .0 ∙ sym (given-outcome P Q work trace traceOnly z)
 
-  pub trace-unique : (o : Outcome) (t : List ℕ) → Describes to P Q o t → nearest to P Q < pairs P Q → t ≡ take (nearest to P Q) (traceAfter to P Q work trace)
+  pub trace-unique : (o : Outcome) (t : List ℕ) → Describes traceOnly P Q o t → nearest traceOnly P Q < pairCount P Q → t ≡ take (nearest traceOnly P Q) (traceAfter traceOnly P Q work trace)
   unfolding traceOf
   trace-unique o t d l =
-      describes-only op oq same to o t d .1
-      ∙ rw (lt-ltb (nearest to P Q) (pairs P Q) l) (sym (front l))
+      describes-only op oq same traceOnly o t d .1
+      ∙ rw (lt-ltb (nearest traceOnly P Q) (pairCount P Q) l) (sym (front l))
 
--- "every answer, trace and cleared count is the one that the larger list gave" (02, K7): two calls that are not refused answer alike,
--- however long their lists are and whatever they hold
-module _ (to : Bool) (P Q : Sheet) (accP : sheetFault P ≡ 0) (accQ : sheetFault Q ≡ 0) (same : P .e ≡ Q .e) (work trace larger other : List ℕ)
+-- "every answer, trace and cleared count is the one that the larger list gave" (02, K7): two calls that are not refused
+-- answer alike, however long their lists are and whatever they hold
+module _ (traceOnly : Bool) (P Q : Sheet) (accP : sheetFault P ≡ 0) (accQ : sheetFault Q ≡ 0) (same : P .e ≡ Q .e) (work trace larger other : List ℕ)
     (z : compareFault P Q work trace ≡ 0) (z′ : compareFault P Q larger other ≡ 0) where
-  pub same-answer : outcomeOf to P Q work trace ≡ outcomeOf to P Q larger other
-  same-answer = given-outcome P Q work trace to z ∙ sym (given-outcome P Q larger other to z′)
+  pub same-answer : outcomeOf traceOnly P Q work trace ≡ outcomeOf traceOnly P Q larger other
+  same-answer = given-outcome P Q work trace traceOnly z ∙ sym (given-outcome P Q larger other traceOnly z′)
 
-  -- and the fronts of their trace lists are one trace
-  pub same-trace : nearest to P Q < pairs P Q → take (nearest to P Q) (traceAfter to P Q work trace) ≡ take (nearest to P Q) (traceAfter to P Q larger other)
-  same-trace l = front to P Q accP accQ same work trace z l ∙ sym (front to P Q accP accQ same larger other z′ l)
+  -- the fronts of the trace lists of two calls that are not refused are one trace
+  pub same-trace : nearest traceOnly P Q < pairCount P Q → take (nearest traceOnly P Q) (traceAfter traceOnly P Q work trace) ≡ take (nearest traceOnly P Q) (traceAfter traceOnly P Q larger other)
+  same-trace l = front traceOnly P Q accP accQ same work trace z l ∙ sym (front traceOnly P Q accP accQ same larger other z′ l)

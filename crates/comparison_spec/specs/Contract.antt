@@ -1,4 +1,5 @@
--- The contract of a comparison: its answer, 01's numbers of the answer, and the two lent lists at exit, each an equation.
+-- The contract of a comparison: its answer, 01's numbers of the answer, and the two lent lists at exit, each an
+-- equation.
 use mathlib.Core.Path.{_≡_}
 use mathlib.Core.Bool.{Bool}
 use mathlib.Core.List.{List}

@@ -1,5 +1,5 @@
--- What 01 says of a comparison's answer, with "for every" and "there is" and no test in it. OutcomeLaws says that the answer
--- of the definition is so described, and that nothing else is.
+-- What 01 says of a comparison's answer, with "for every" and "there is" and no test in it. OutcomeLaws says that the
+-- answer of the definition is so described, and that nothing else is.
 use mathlib.Core.Path.{_≡_}
 use mathlib.Core.Bool.{Bool}
 use mathlib.Core.List.{List, []}
@@ -20,7 +20,7 @@ use Rattle.comparison_spec.specs.declared.Outcome.the-variants.{Refines,
 abbrev pub ReachedBefore : Sheet → Sheet → ℕ → ℕ → ℕ → Type 0
 ReachedBefore P Q d n m = (t : List ℕ) × (length t < d) × After P t n × After Q t m
 
--- some common trace, of whatever length, does
+-- some common trace, of whatever length, leads to the pair (n, m)
 abbrev pub ReachedEver : Sheet → Sheet → ℕ → ℕ → Type 0
 ReachedEver P Q n m = (t : List ℕ) × After P t n × After Q t m
 
@@ -45,19 +45,20 @@ pub record SmallestStray (P Q : Sheet) (t : List ℕ) (i : ℕ) : Type 0 where
 abbrev pub Misses : Row → ℕ → ℕ → Type 0
 Misses q X A = (j : ℕ) × (j < q .c) × (acceptance q j ≡ A) × Apart X A
 
--- X is the first probe (the least by number, as the list ascends) of the reference's row that some acceptance of the device's row
--- misses, A the lowest such acceptance
+-- X is the first probe (the least by number, as the list ascends) of the reference's row that some acceptance of the
+-- device's row misses, A the lowest such acceptance
 pub record FirstRefusedAt (r q : Row) (X A : ℕ) : Type 0 where
   pub probe : Probe (acceptances r) X
   pub misses : Misses q X A
   pub first : (Y B : ℕ) → Probe (acceptances r) Y → Misses q Y B → X ≤ Y
   pub lowest : (B : ℕ) → Misses q X B → A ≤ B
 
--- .. of the nodes reached by t
+-- X is the first probe of the reference's node after t that the device's node after t misses, A the lowest such
+-- acceptance
 abbrev pub FirstRefused : Sheet → Sheet → List ℕ → ℕ → ℕ → Type 0
 FirstRefused P Q t X A = (v : ℕ) × (w : ℕ) × After P t v × After Q t w × FirstRefusedAt (row P v) (row Q w) X A
 
--- the answer, and the trace beside it, are what 01 says of the two sheets
+-- what 01 says of the two sheets: this answer, and this trace beside it
 pub data Describes (traceOnly : Bool) (P Q : Sheet) : Outcome → List ℕ → Type 0 where
   refines : (cleared : ℕ) → RefinesIn traceOnly P Q → Number P Q (ReachedEver P Q) cleared → Describes traceOnly P Q (Refines cleared) []
   stray : (d cleared i : ℕ) (t : List ℕ) → Nearest traceOnly P Q d t → Number P Q (ReachedBefore P Q d) cleared → SmallestStray P Q t i

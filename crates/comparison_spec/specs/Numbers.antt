@@ -6,7 +6,8 @@ use lib.Dec.{eqb}
 use Rattle.comparison_spec.specs.declared.Outcome.{Outcome}
 use Rattle.comparison_spec.specs.declared.Outcome.the-variants.{Refines, Stray, Refusal, Denied}
 
--- the refusal's number, 0 for none; which case it is (0 a refusal of the call, 1 refines, 2 a stray, 3 a refusal); d; cleared; what is named
+-- the numbers of an answer: the refusal's, 0 for none; which case it is (0 a refusal of the call, 1 refines, 2 a stray,
+-- 3 a refusal); d; cleared; what is named
 pub record Compared : Type 0 where
   pub refusal : ℕ
   pub kind : ℕ
@@ -16,14 +17,14 @@ pub record Compared : Type 0 where
   pub probe : ℕ
   pub acceptance : ℕ
 
--- the numbers of an answer
+-- the numbers of a comparison's answer
 unfoldable pub compared : Outcome → Compared
 compared (Refines c) = record { refusal = 0; kind = 1; d = 0; cleared = c; event = 0; probe = 0; acceptance = 0 }
 compared (Stray d c i) = record { refusal = 0; kind = 2; d = d; cleared = c; event = i; probe = 0; acceptance = 0 }
 compared (Refusal d c X A) = record { refusal = 0; kind = 3; d = d; cleared = c; event = 0; probe = X; acceptance = A }
 compared (Denied k) = record { refusal = k; kind = 0; d = 0; cleared = 0; event = 0; probe = 0; acceptance = 0 }
 
--- the answer that has these numbers
+-- the answer that has the given numbers
 unfoldable pub comparedFrom : Compared → Outcome
 comparedFrom n = cond (eqb (n .kind) 0) (Denied (n .refusal)) (cond (eqb (n .kind) 1) (Refines (n .cleared))
     (cond (eqb (n .kind) 2) (Stray (n .d) (n .cleared) (n .event)) (Refusal (n .d) (n .cleared) (n .probe) (n .acceptance))))

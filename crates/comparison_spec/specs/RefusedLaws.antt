@@ -1,5 +1,6 @@
--- What is named at a refusal, in words: the first missed probe in the list, with the first acceptance that misses it, is the least
--- probe that is missed, with the lowest acceptance that misses it; for nodes of sheets that are not refused, whose acceptances ascend.
+-- What is named at a refusal, in words: the first missed probe in the list, with the first acceptance that misses it,
+-- is the least probe that is missed, with the lowest acceptance that misses it; for nodes of sheets that are not
+-- refused, whose acceptances ascend.
 use mathlib.Core.Path.{_≡_, refl, sym, _∙_}
 use mathlib.Core.Logic.{_⊎_, inl, inr}
 use mathlib.Core.List.{List}
@@ -18,11 +19,11 @@ use Rattle.probes_spec.specs.FirstMissed.{MissedFirst}
 use Rattle.comparison_spec.specs.Meaning.{Misses, FirstRefusedAt}
 
 module _ (r q : Row) (e : ℕ) (narrow : Narrow (acceptances r) e) (up : (j k : ℕ) → j < k → k < q .c → acceptance q j < acceptance q k) where
-  -- the list, and that it ascends
+  -- the list of probes of the reference's row
   ps : List ℕ
   ps = probes (acceptances r) e
 
-  -- places in order hold sets in order
+  -- the list of probes ascends: places in order hold sets in order
   ordered : (x y : ℕ) → x ≤ y → y < length ps → getD ps x 0 ≤ getD ps y 0
   unfolding ps
   ordered x y l h = go (eq-or-lt-of-le l)
@@ -38,7 +39,7 @@ module _ (r q : Row) (e : ℕ) (narrow : Narrow (acceptances r) e) (up : (j k : 
       go (inl p) = rw p (omega arith)
       go (inr p) = omega (arith, up j k p h)
 
-  -- from the list to the words
+  -- what is first in the list of probes is first in the words
   pub refused→ : (X A : ℕ) → MissedFirst (probes (acceptances r) e) (acceptances q) X A → FirstRefusedAt r q X A
   unfolding ps
   refused→ X A m = record { probe = probe; misses = (m .spot, spot-in, spot-is, m .misses); first = first; lowest = lowest }
@@ -69,7 +70,7 @@ module _ (r q : Row) (e : ℕ) (narrow : Narrow (acceptances r) e) (up : (j k : 
           go (inl h) = absurd (m .lower j h (rw (acceptances-at q j l, p) a))
           go (inr h) = omega (arith, rising (m .spot) j h l, spot-is, p)
 
-  -- and back
+  -- what is first in the words is first in the list of probes
   pub refused← : (X A : ℕ) → FirstRefusedAt r q X A → MissedFirst (probes (acceptances r) e) (acceptances q) X A
   refused← X A f = record {
     place = z .0;

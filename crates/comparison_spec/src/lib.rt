@@ -1,5 +1,5 @@
-// The comparison of two sheets (01, "A comparison"): the nearest violation. The crate has the type of its answer; its specs say
-// what the answer and the two lent lists are, and what they mean. It has no function.
+// The comparison of two sheets (01, "A comparison"): the nearest violation. The crate has the type of its answer; its
+// specs say what the answer and the two lent lists are, and what they mean. It has no function.
 
 // What a comparison answers.
 pub enum Outcome {

@@ -1,5 +1,6 @@
--- What crosses the edge for a probe list, a report, an answer, a verdict, all verdicts and a comparison: numbers alone. Every number of a report has a
--- reading, and so has every byte of a flag (`flag` of tests_spec), so that every content of what is handed over is answered.
+-- What crosses the edge for a probe list, a report, an answer, a verdict, all verdicts and a comparison: numbers alone.
+-- Every number of a report has a reading, and so has every byte of a flag (`flag` of tests_spec), so that every content
+-- of what is handed over is answered.
 use mathlib.Core.Path.{_≡_}
 use mathlib.Core.Bool.{cond}
 use Prim.Native.Nat.{ℕ, _≤_, _<_}
@@ -21,15 +22,15 @@ use Rattle.edge.specs.declared.BenchCompared.{BenchCompared}
 unfoldable pub listedFlat : ℕ × ℕ → BenchListed
 listedFlat a = record { refusal = a .0; count = a .1 }
 
--- the numbers of an answer
+-- the numbers of an answer to an opening or a report, or of a verdict
 unfoldable pub saidFlat : Said → BenchSaid
 saidFlat a = record { refusal = a .refusal; kind = a .kind; value = a .value }
 
--- a report: 0 to 255 is that event, any other number is "blocked"
+-- the report that a number is: 0 to 255 is that event, any other number is "blocked"
 unfoldable pub reportFlat : ℕ → Report
 reportFlat x = cond (ltb x 256) (Event x) Blocked
 
--- an answer in numbers, and its record
+-- an answer in numbers, and the record beside it
 abbrev pub steppedFlat : Stepped → BenchStepped
 steppedFlat z = record { answer = saidFlat (said (z .answer)); run = z .run }
 
@@ -42,12 +43,12 @@ unfoldable pub comparedFlat : Compared → BenchCompared
 comparedFlat a =
     record { refusal = a .refusal; kind = a .kind; d = a .d; cleared = a .cleared; event = a .event; probe = a .probe; acceptance = a .acceptance }
 
--- below 256 it is that event
+-- a number below 256 is the report of that event
 pub report-event : (x : ℕ) → x < 256 → reportFlat x ≡ Event x
 unfolding reportFlat
 report-event x l = rw (lt-ltb x 256 l)
 
--- from 256 on it is "blocked"
+-- a number from 256 on is the report "blocked"
 pub report-blocked : (x : ℕ) → 256 ≤ x → reportFlat x ≡ Blocked
 unfolding reportFlat
 report-blocked x l = rw (le-ltb x 256 l)

@@ -1,15 +1,16 @@
-// The edge: what C and Rust call, each function under the prefix `bench_`. None has a `requires`: every content of what is
-// lent or handed over is answered. Slices arrive as a pointer and a length, a run's record that is lent as a pointer, structs
-// by value; all in the layout of C (include/bench.h). Each result is equated with the definition of the call, in 01's numbers
-// for each case of its answer.
+// The edge: what C and Rust call, each function under the prefix `bench_`. None has a `requires`: every content of what
+// is lent or handed over is answered. Slices arrive as a pointer and a length, a run's record that is lent as a
+// pointer, structs by value; all in the layout of C (include/bench.h). Each result is equated with the definition of
+// the call, in 01's numbers for each case of its answer.
 ghost use mathlib.Core.Path.{_≡_};
 ghost use Rattle.sheet_spec.specs.Rules.{sheetFault};
 ghost use Rattle.sheet_spec.specs.Reading.{readSheet};
 ghost use Rattle.probes_spec.specs.Listing.{listedNumbers, listedOf, listAfter};
 ghost use Rattle.tests_spec.specs.Flags.{flag};
 ghost use Rattle.tests_spec.specs.Runs.{openOf, stepOf};
-ghost use Rattle.tests_spec.specs.Verdicts.{verdictOf};
-ghost use Rattle.tests_spec.specs.Numbers.{said, judged};
+ghost use Rattle.verdicts_spec.specs.Verdicts.{verdictOf};
+ghost use Rattle.tests_spec.specs.Numbers.{said};
+ghost use Rattle.verdicts_spec.specs.Numbers.{judged};
 ghost use Rattle.verdicts_spec.specs.Suites.{suiteOf, verdictsAfter};
 ghost use Rattle.verdicts_spec.specs.Numbers.{suited};
 ghost use Rattle.comparison_spec.specs.declared.Outcome.the-variants.{Denied};
@@ -24,8 +25,8 @@ use tests_spec::Answer;
 use tests_spec::Report;
 use tests_spec::Run;
 use tests_spec::Stepped;
-use tests_spec::Verdict;
 use verdicts_spec::Suite;
+use verdicts_spec::Verdict;
 
 // ---- sheets
 
@@ -70,10 +71,12 @@ fn listed_flat(a: Listed) -> BenchListed
     }
 }
 
-// Writes the probes of a node to the front of the lent list and answers how many there are; or the number of the refusal.
+// Writes the probes of a node to the front of the lent list and answers how many there are; or the number of the
+// refusal.
 #[no_mangle]
 pub extern "C" fn bench_list(sheet: Sheet, node: u8, out: &mut [u16]) -> BenchListed
-    ensures { λ r. ⌜ (r ≡ listedFlat (listedNumbers (listedOf sheet node (now (out .entry))))) × (now (out .exit) ≡ listAfter sheet node (now (out .entry))) ⌝ }
+    ensures { λ r. ⌜ (r ≡ listedFlat (listedNumbers (listedOf sheet node (now (out .entry)))))
+        × (now (out .exit) ≡ listAfter sheet node (now (out .entry))) ⌝ }
 {
     let answer = probes::list(sheet, node, out);
     listed_flat(answer)
@@ -96,7 +99,7 @@ pub struct BenchStepped {
     pub run: Run,
 }
 
-// The numbers of an answer.
+// The numbers of an answer to an opening or a report.
 fn said_flat(a: Answer) -> BenchSaid
     ensures { λ r. ⌜ r ≡ saidFlat (said a) ⌝ }
 {
@@ -152,7 +155,7 @@ fn judged_flat(a: Verdict) -> BenchSaid
     }
 }
 
-// The report that a number is.
+// The report that a number is: below 256 that event, else "blocked".
 fn report_flat(x: u16) -> Report
     ensures { λ r. ⌜ r ≡ reportFlat x ⌝ }
 {
@@ -162,7 +165,7 @@ fn report_flat(x: u16) -> Report
     Report::Blocked
 }
 
-// An answer in numbers, and its record.
+// An answer in numbers, and the record beside it.
 fn stepped_flat(z: Stepped) -> BenchStepped
     ensures { λ x. ⌜ x ≡ steppedFlat z ⌝ }
 {
@@ -175,13 +178,13 @@ fn stepped_flat(z: Stepped) -> BenchStepped
     }
 }
 
-// Opens test `k` with the choice number `h`, trace-only if `traces` is not 0: the first offer and the record; or the number of the
-// refusal and a record of zeros.
+// Opens test `k` with the choice number `h`, trace-only if `trace_only` is not 0: the first offer and the record; or
+// the number of the refusal and a record of zeros.
 #[no_mangle]
-pub extern "C" fn bench_open(sheet: Sheet, k: u16, h: u16, traces: u8) -> BenchStepped
-    ensures { λ r. ⌜ r ≡ steppedFlat (openOf sheet k h (flag traces)) ⌝ }
+pub extern "C" fn bench_open(sheet: Sheet, k: u16, h: u16, trace_only: u8) -> BenchStepped
+    ensures { λ r. ⌜ r ≡ steppedFlat (openOf (flag «trace_only») sheet k h) ⌝ }
 {
-    let stepped = tests::open_test(sheet, k, h, traces != 0);
+    let stepped = tests::open_test(sheet, k, h, trace_only != 0);
     stepped_flat(stepped)
 }
 
@@ -198,7 +201,8 @@ pub extern "C" fn bench_step(sheet: Sheet, run: Run, report: u16) -> BenchSteppe
 // Answers a report on the record that the bench holds, and stores the record after it there.
 #[no_mangle]
 pub extern "C" fn bench_report(run: &mut Run, sheet: Sheet, report: u16) -> BenchSaid
-    ensures { λ r. ⌜ (r ≡ saidFlat (said (stepOf sheet (now (run .entry)) (reportFlat report) .answer))) × (now (run .exit) ≡ stepOf sheet (now (run .entry)) (reportFlat report) .run) ⌝ }
+    ensures { λ r. ⌜ (r ≡ saidFlat (said (stepOf sheet (now (run .entry)) (reportFlat report) .answer)))
+        × (now (run .exit) ≡ stepOf sheet (now (run .entry)) (reportFlat report) .run) ⌝ }
 {
     let code = report_flat(report);
     let answer = tests::take_report(run, sheet, code);
@@ -207,10 +211,10 @@ pub extern "C" fn bench_report(run: &mut Run, sheet: Sheet, report: u16) -> Benc
 
 // The verdict on a device for test `k`, or the number of the refusal.
 #[no_mangle]
-pub extern "C" fn bench_judge(reference: Sheet, device: Sheet, k: u16, traces: u8) -> BenchSaid
-    ensures { λ r. ⌜ r ≡ saidFlat (judged (verdictOf reference device k (flag traces))) ⌝ }
+pub extern "C" fn bench_judge(reference: Sheet, device: Sheet, k: u16, trace_only: u8) -> BenchSaid
+    ensures { λ r. ⌜ r ≡ saidFlat (judged (verdictOf (flag «trace_only») reference device k)) ⌝ }
 {
-    let verdict = verdicts::judge(reference, device, k, traces != 0);
+    let verdict = verdicts::judge(reference, device, k, trace_only != 0);
     judged_flat(verdict)
 }
 
@@ -237,18 +241,19 @@ fn suited_flat(a: Suite) -> BenchSuited
     }
 }
 
-// Judges tests 0 to p q - 1, trace-only if `traces` is not 0: writes 1 for "passes" or 2 for "fails" for each to the front of the lent
-// list and answers how many there are; or the number of the refusal, and the list is as it was.
+// Judges tests 0 to p q - 1, trace-only if `trace_only` is not 0: writes 1 for "passes" or 2 for "fails" for each to
+// the front of the lent list and answers how many there are; or the number of the refusal, and the list is as it was.
 #[no_mangle]
 pub extern "C" fn bench_judge_all(
     reference: Sheet,
     device: Sheet,
-    traces: u8,
+    trace_only: u8,
     out: &mut [u8],
 ) -> BenchSuited
-    ensures { λ r. ⌜ (r ≡ suitedFlat (suited (suiteOf reference device (now (out .entry))))) × (now (out .exit) ≡ verdictsAfter (flag traces) reference device (now (out .entry))) ⌝ }
+    ensures { λ r. ⌜ (r ≡ suitedFlat (suited (suiteOf reference device (now (out .entry)))))
+        × (now (out .exit) ≡ verdictsAfter (flag «trace_only») reference device (now (out .entry))) ⌝ }
 {
-    let answer = verdicts::judge_all(reference, device, traces != 0, out);
+    let answer = verdicts::judge_all(reference, device, trace_only != 0, out);
     suited_flat(answer)
 }
 
@@ -317,18 +322,21 @@ fn compared_flat(o: Outcome) -> BenchCompared
     }
 }
 
-// Compares a device's sheet with a reference's, with traces alone if `traces` is not 0: the answer, the work list's words set to 0 and
-// the trace at the front of its list; or the number of the refusal, and both lists are as they were.
+// Compares a device's sheet with a reference's, with traces alone if `trace_only` is not 0: the answer, the work list's
+// words set to 0 and the trace at the front of its list; or the number of the refusal, and both lists are as they were.
 #[no_mangle]
 pub extern "C" fn bench_compare(
     reference: Sheet,
     device: Sheet,
-    traces: u8,
+    trace_only: u8,
     work: &mut [u16],
     trace: &mut [u8],
 ) -> BenchCompared
-    ensures { λ r. ⌜ (r ≡ comparedFlat (compared (outcomeOf (flag traces) reference device (now (work .entry)) (now (trace .entry))))) × (now (trace .exit) ≡ traceAfter (flag traces) reference device (now (work .entry)) (now (trace .entry))) × (now (work .exit) ≡ workAfter reference device (now (work .entry)) (now (trace .entry))) ⌝ }
+    ensures { λ r. ⌜ (r ≡ comparedFlat
+        (compared (outcomeOf (flag «trace_only») reference device (now (work .entry)) (now (trace .entry)))))
+        × (now (trace .exit) ≡ traceAfter (flag «trace_only») reference device (now (work .entry)) (now (trace .entry)))
+        × (now (work .exit) ≡ workAfter reference device (now (work .entry)) (now (trace .entry))) ⌝ }
 {
-    let outcome = comparison::compare(reference, device, traces != 0, work, trace);
+    let outcome = comparison::compare(reference, device, trace_only != 0, work, trace);
     compared_flat(outcome)
 }

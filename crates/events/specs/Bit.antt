@@ -1,5 +1,5 @@
--- Sets of events as numbers: event i is in X if binary digit i of X is 1. A digit is a number, 0 or 1, so that inclusion
--- is an order, a union a maximum and an intersection a minimum of digits.
+-- Sets of events as numbers: event i is in X if binary digit i of X is 1. A digit is a number, 0 or 1, so that
+-- inclusion is an order, a union a maximum and an intersection a minimum of digits.
 use mathlib.Core.Path.{_≡_, refl, sym, ap, ap₂, _∙_}
 use mathlib.Core.Logic.{_≢_, _⊎_, inl, inr}
 use Prim.Native.Nat.{ℕ, zero, suc, _+_, _-_, _*_, _/_, _%_, _^_, _≤_, _<_, min, max}
@@ -166,7 +166,7 @@ bit-or (suc i) X Y = bit·suc (bitOr X Y) i ∙ ap (λ (x : ℕ). bit x i) half 
     half : bitOr X Y / 2 ≡ bitOr (X / 2) (Y / 2)
     half = omega (arith, or-step X Y)
 
--- X and event i, which is not in X: the event is there ..
+-- a sum puts event i into X, if it is not there
 pub bit-put : (i X : ℕ) → bit X i ≡ 0 → bit (X + 2 ^ i) i ≡ 1
 bit-put zero X h = bit·zero (X + 1) ∙ omega (arith, bit·zero X)
 bit-put (suc i) X h = bit·suc (X + 2 ^ suc i) i ∙ ap (λ (x : ℕ). bit x i) half ∙ bit-put i (X / 2) (sym (bit·suc X i) ∙ h)
@@ -174,7 +174,7 @@ bit-put (suc i) X h = bit·suc (X + 2 ^ suc i) i ∙ ap (λ (x : ℕ). bit x i) 
     half : (X + 2 ^ suc i) / 2 ≡ X / 2 + 2 ^ i
     half = omega arith
 
--- .. and every other is as it was
+-- a sum that puts event i into X leaves every other event as it was
 pub bit-put-other : (i j X : ℕ) → bit X i ≡ 0 → i ≢ j → bit (X + 2 ^ i) j ≡ bit X j
 bit-put-other zero zero X h n = absurd (n refl)
 bit-put-other zero (suc j) X h n = bit·suc (X + 1) j ∙ ap (λ (x : ℕ). bit x j) half ∙ sym (bit·suc X j)
@@ -191,7 +191,7 @@ bit-put-other (suc i) (suc j) X h n =
     half : (X + 2 ^ suc i) / 2 ≡ X / 2 + 2 ^ i
     half = omega arith
 
--- one more event, above the others
+-- a sum puts into X one more event, above the others
 pub bit-top : (n X : ℕ) → X < 2 ^ n → bit (X + 2 ^ n) n ≡ 1
 bit-top n X h = bit-put n X (bit-high n n X h (omega arith))
 

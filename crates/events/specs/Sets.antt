@@ -20,7 +20,7 @@ has X i = eqb (bit X i) 1
 unfoldable pub inside : ℕ → ℕ → Bool
 inside X Y = eqb (bitAnd X Y) X
 
--- some event is in both
+-- some event is in both X and Y
 unfoldable pub meets : ℕ → ℕ → Bool
 meets X Y = not (eqb (bitAnd X Y) 0)
 
@@ -57,7 +57,7 @@ pub inside← : (X Y : ℕ) → Within X Y → inside X Y ≡ true
 unfolding inside
 inside← X Y h = eq-eqb (bitAnd X Y) X (within-and X Y h)
 
--- what is not inside has an event that is not in the other ..
+-- where the test says that X is not inside Y, it is not included in Y
 pub inside-not : (X Y : ℕ) → inside X Y ≡ false → Within X Y → ⊥
 unfolding inside
 inside-not X Y t h = eqb-false (bitAnd X Y) X t (within-and X Y h)
@@ -66,7 +66,7 @@ lt-pow : (x : ℕ) → x < 2 ^ x
 lt-pow zero = omega arith
 lt-pow (suc x) = omega (arith, lt-pow x)
 
--- .. which can be found
+-- where X is not inside Y, an event of X that is not in Y can be found
 pub inside-missing : (X Y : ℕ) → inside X Y ≡ false → (i : ℕ) × (bit X i ≡ 1) × (bit Y i ≡ 0)
 inside-missing X Y t = pick (dec (any f X))
   where
@@ -126,7 +126,7 @@ insert-other X i j n = go (ltb i 16)
     go true = omega (arith, bit-or j X (2 ^ i), bit-other i j n)
     go false = refl
 
--- the two facts fix the result
+-- a set that has event i, and every other event as X has it, is X with event i added
 pub insert-only : (X i Y : ℕ) → i < 16 → bit Y i ≡ 1 → ((j : ℕ) → i ≢ j → bit Y j ≡ bit X j) → Y ≡ insert X i
 insert-only X i Y l p h = bits-ext Y (insert X i) (λ j. go j (ℕ-discrete i j))
   where
@@ -134,15 +134,15 @@ insert-only X i Y l p h = bits-ext Y (insert X i) (λ j. go j (ℕ-discrete i j)
     go j (yes e) = rw (← e) (p ∙ sym (insert-same X i l))
     go j (no n) = h j n ∙ sym (insert-other X i j n)
 
--- an event that is there already changes nothing ..
+-- adding an event that is there already changes nothing
 pub insert-there : (X i : ℕ) → i < 16 → bit X i ≡ 1 → insert X i ≡ X
 insert-there X i l p = sym (insert-only X i X l p (λ j n. refl))
 
--- .. and one that is not there is added by a sum
+-- an event that is not there is added by a sum
 pub insert-new : (X i : ℕ) → i < 16 → bit X i ≡ 0 → insert X i ≡ X + 2 ^ i
 insert-new X i l p = sym (insert-only X i (X + 2 ^ i) l (bit-put i X p) (λ j n. bit-put-other i j X p n))
 
--- so that one sum adds an event, there already or not: its bit, 2 ^ i, is added where its digit is 0, and nothing where it is 1
+-- one sum adds an event, there already or not: its bit, 2 ^ i, is added where its digit is 0, and nothing where it is 1
 pub insert-sum : (X i : ℕ) → i < 16 → X + (1 - bit X i) * 2 ^ i ≡ insert X i
 insert-sum X i l = go (ℕ-discrete (bit X i) 1)
   where
@@ -150,7 +150,7 @@ insert-sum X i l = go (ℕ-discrete (bit X i) 1)
     go (yes e) = rw e (omega (arith, insert-there X i l e))
     go (no n) = let z : bit X i ≡ 0 = omega (arith, n, bit≤1 X i) in rw z (omega (arith, insert-new X i l z))
 
--- a set of 16 bits stays one
+-- a set of 16 bits stays one when an event is added
 pub insert-small : (X i : ℕ) → X < 65536 → i < 16 → insert X i < 65536
 insert-small X i h l = narrow 16 (insert X i) (λ j b. go j b (ℕ-discrete i j) (lt-or-ge j 16))
   where

@@ -1,8 +1,8 @@
-// Sets of events as 16-bit numbers, in which event i adds 2 to the power i: membership, inclusion, meeting, adding one event.
+// Sets of events as 16-bit numbers, in which event i adds 2 to the power i: membership, inclusion, adding one event.
 // Each takes every argument, except that `with_event` takes events below 16 only; no event from 16 on is in a set.
 ghost use mathlib.Core.Path.{_≡_};
 ghost use Prim.Native.Nat.{_<_};
-ghost use Rattle.events.specs.Sets.{has, inside, meets, insert};
+ghost use Rattle.events.specs.Sets.{has, inside, insert};
 
 // Whether the event is in the set.
 pub fn contains(set: u16, event: usize) -> bool
@@ -20,13 +20,6 @@ pub fn is_inside(x: u16, y: u16) -> bool
     ensures { λ r. ⌜ r ≡ inside x y ⌝ }
 {
     x & y == x
-}
-
-// Whether some event is in both sets.
-pub fn is_meeting(x: u16, y: u16) -> bool
-    ensures { λ r. ⌜ r ≡ meets x y ⌝ }
-{
-    x & y != 0
 }
 
 // The set with the event added, there already or not: its bit is added where it is 0, on one path.

@@ -1,9 +1,10 @@
 // The program `live`, a live run of test k at the bench (01, "Test k and a live run"):
 //   live REF K H [traces]
-// REF names a file with the reference's bytes, of which no more than 4,096 are kept; later bytes count as absent. K and H are numbers in
-// base ten, and `traces` makes the run trace-only. Other counts of words are refused with 14 before the file is opened. It prints the
-// first offer, or a refusal; then it reads one report a line from standard input, `event e` or `blocked`, and prints the answer to
-// each, until the run ends. A line that is no report is refused with 15, and the offer stands.
+// REF names a file with the reference's bytes, of which no more than 4,096 are kept; later bytes count as absent. K and
+// H are numbers in base ten, and `traces` makes the run trace-only. Other counts of words are refused with 14 before
+// the file is opened. It prints the first offer, or a refusal; then it reads one report a line from standard input,
+// `event e` or `blocked`, and prints the answer to each, until the run ends. A line that is no report is refused with
+// 15, and the offer stands.
 use libc::STDIN_FILENO;
 use libc::STDOUT_FILENO;
 use live_lines_spec::Asked;
@@ -11,7 +12,7 @@ use sheet_spec::Sheet;
 use tests_spec::Answer;
 use tests_spec::Run;
 
-// After so many lines the program ends.
+// The program ends after so many lines.
 const LINES: u32 = 1000000;
 
 // So many bytes of one line are read, or of the file; what follows in a longer line counts as another line.
@@ -19,8 +20,8 @@ const LONGEST: u32 = 1000000;
 
 // ---- reading
 
-// What was read into a list: how many bytes it holds, and what came after them: the byte that was waited for, 256 for the end of the
-// input, or 257 for a read that failed.
+// What was read into a list: how many bytes it holds, and what came after them: the byte that was waited for, 256 for
+// the end of the input, or 257 for a read that failed.
 struct Got {
     len: usize,
     end: u16,
@@ -31,7 +32,7 @@ fn short(x: u8) -> u16 {
     x as u16
 }
 
-// The next byte; 256 at the end of the input, 257 where the read fails.
+// The next byte of a file; 256 at the end of the input, 257 where the read fails.
 fn read_byte(fd: i32) -> u16 {
     let mut one = [0u8; 1];
     let view: &mut [u8] = &mut one;
@@ -133,12 +134,12 @@ fn say_stop(many: bool) {
 // ---- the run
 
 // The run after a line, and whether it goes on.
-struct Turn {
+struct Heard {
     going: bool,
     run: Run,
 }
 
-// Whether the run has begun.
+// Whether a run has begun, by the answer to its opening.
 fn has_begun(a: Answer) -> bool {
     match a {
         Answer::Going(set) => true,
@@ -168,30 +169,30 @@ fn has_ended(got: Got) -> bool {
     got.end > 255
 }
 
-// One turn: hears a line, steps the run and writes the answer.
-fn take_turn(sheet: Sheet, run: Run, line: &[u8]) -> Turn {
+// One round of a run: hears a line, steps the run and writes the answer.
+fn take_line(sheet: Sheet, run: Run, line: &[u8]) -> Heard {
     let stepped = tests::step(sheet, run, live_words::heard(line));
     let a = stepped.answer;
     let after = stepped.run;
     say_answer(a);
-    Turn {
+    Heard {
         going: goes_on(a),
         run: after,
     }
 }
 
 // Reads a line and answers it; of a longer line the first 64 bytes are kept, which are no report.
-fn next_line(sheet: Sheet, run: Run) -> Turn {
+fn next_line(sheet: Sheet, run: Run) -> Heard {
     let mut line = [0u8; 64];
     let got = read_to(STDIN_FILENO, 10, &mut line);
     if has_ended(got) {
         say_stop(false);
-        return Turn {
+        return Heard {
             going: false,
             run: run,
         };
     }
-    take_turn(sheet, run, text::front(&line, got.len))
+    take_line(sheet, run, text::front(&line, got.len))
 }
 
 // Answers line after line until the run ends.
@@ -209,11 +210,12 @@ fn answer_lines(sheet: Sheet, first: Run) {
     say_stop(true);
 }
 
-// Opens the test that is asked for, and answers its lines. Bytes that are refused give a sheet of zeros, which opens no test.
+// Opens the test that is asked for, and answers its lines. Bytes that are refused give a sheet of zeros, which opens no
+// test.
 fn run_test(bytes: &[u8], asked: Asked) {
     let reference = sheet::read(bytes);
     let s = reference.sheet;
-    let opened = tests::open_test(s, asked.k, asked.h, asked.traces);
+    let opened = tests::open_test(s, asked.k, asked.h, asked.trace_only);
     let a = opened.answer;
     let run = opened.run;
     say_opening(reference.refusal, a);

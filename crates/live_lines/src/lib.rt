@@ -1,6 +1,8 @@
-// The lines that `live` prints: the answer to an opening, the answers to reports, and the line where a run has not ended.
+// The lines that `live` prints: the answer to an opening, the answers to reports, and the line where a run has not
+// ended.
 ghost use Rattle.text_spec.specs.Adds.{Adds, Holds};
-ghost use Rattle.live_lines_spec.specs.Answers.{offerLine, refusedSetLine, lineWith, answerLine, openingLine, endedLine};
+ghost use Rattle.live_lines_spec.specs.Answers.{offerLine, refusedSetLine, lineWith};
+ghost use Rattle.live_lines_spec.specs.Answers.{answerLine, openingLine, endedLine};
 use tests_spec::Answer;
 
 // Puts the line of an offer.

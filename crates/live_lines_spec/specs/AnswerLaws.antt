@@ -26,37 +26,37 @@ use Rattle.live_lines_spec.specs.Answers.{offerLine, refusedSetLine, lin
 
 -- ---- openings
 
--- a reference that is refused
+-- the opening of a reference that is refused prints its refusal
 pub opening-reference : (fault : ℕ) (a : Answer) → fault ≢ 0 → openingLine fault a ≡ numberLine (ascii "reference refused ") fault
 unfolding openingLine
 opening-reference fault a n = rw (ne-eqb fault 0 n)
 
 module _ (s : Sheet) (z : sheetFault s ≡ 0) (k h : ℕ) (traceOnly : Bool) where
-  -- an accepted one, and k above 1,023
-  pub opening-14 : 1023 < k → openingLine (sheetFault s) (openOf s k h traceOnly .answer) ≡ numberLine (ascii "test refused ") 14
+  -- the opening of an accepted reference with k above 1,023 prints the refusal 14
+  pub opening-14 : 1023 < k → openingLine (sheetFault s) (openOf traceOnly s k h .answer) ≡ numberLine (ascii "test refused ") 14
   unfolding openingLine lineWith
   opening-14 l =
       let d = open-refused s k h traceOnly 14 .1 (open-14 s k .1 (z, l), λ e. omega arith) in
       rw (eq-eqb (sheetFault s) 0 z, d)
 
-  -- a test that there is
-  pub opening-offer : k ≤ 1023 → (x : ℕ) × (openOf s k h traceOnly .answer ≡ Going x) × (openingLine (sheetFault s) (openOf s k h traceOnly .answer) ≡ offerLine x)
+  -- the opening of an accepted reference with k up to 1,023 prints the first offer
+  pub opening-offer : k ≤ 1023 → (x : ℕ) × (openOf traceOnly s k h .answer ≡ Going x) × (openingLine (sheetFault s) (openOf traceOnly s k h .answer) ≡ offerLine x)
   unfolding openingLine lineWith
   opening-offer l = go (open-answers s k h traceOnly)
     where
-      go : ((x : ℕ) × (openOf s k h traceOnly .answer ≡ Going x)) ⊎ ((m : ℕ) × (m ≢ 0) × (openOf s k h traceOnly .answer ≡ Denied m))
-          → (x : ℕ) × (openOf s k h traceOnly .answer ≡ Going x) × (openingLine (sheetFault s) (openOf s k h traceOnly .answer) ≡ offerLine x)
+      go : ((x : ℕ) × (openOf traceOnly s k h .answer ≡ Going x)) ⊎ ((m : ℕ) × (m ≢ 0) × (openOf traceOnly s k h .answer ≡ Denied m))
+          → (x : ℕ) × (openOf traceOnly s k h .answer ≡ Going x) × (openingLine (sheetFault s) (openOf traceOnly s k h .answer) ≡ offerLine x)
       go (inl (x, e)) = (x, e, rw (eq-eqb (sheetFault s) 0 z, e))
       go (inr (m, n, e)) =
           let w = open-refused s k h traceOnly m .0 e in
           absurd (w .1 (sym (w .0) ∙ open-0 s k .1 (z, λ g. omega arith)))
 
--- words that ask for no test
+-- words that ask for no test print the refusal 14
 pub opening-words : (s : Sheet) → sheetFault s ≡ 0 → (k h : List ℕ) (there : Bool) (word : List ℕ) → wordsOk k h there word ≡ false → (n : ℕ) (traceOnly : Bool)
-    → openingLine (sheetFault s) (openOf s (askedOf k h there word .k) n traceOnly .answer) ≡ numberLine (ascii "test refused ") 14
+    → openingLine (sheetFault s) (openOf traceOnly s (askedOf k h there word .k) n .answer) ≡ numberLine (ascii "test refused ") 14
 opening-words s z k h there word t n traceOnly = opening-14 s z (askedOf k h there word .k) n traceOnly (omega (arith, words-bad k h there word t))
 
--- the refusal of bytes is that of the reference; bytes that are accepted give a sheet that is
+-- the opening line of accepted bytes is that of the sheet that they spell
 pub opening-read : (b : List ℕ) (a : Answer) → bytesFault b ≡ 0 → openingLine (readSheet b .refusal) a ≡ openingLine (sheetFault (readSheet b .sheet)) a
 unfolding readSheet answer
 opening-read b a z = rw (eq-eqb (bytesFault b) 0 z, z, read-accepted b z)
@@ -92,7 +92,7 @@ with-length words w (Refused x) h r = refused-length x h
 with-length words w Passed h r = omega arith
 with-length words w (Denied m) h r = omega (arith, number-length words 2 m (omega arith))
 
--- 100 bytes are enough for each
+-- 100 bytes are enough for each line
 pub answer-length : (a : Answer) → said a .value < 65536 → said a .refusal < 256 → length (answerLine a) ≤ 100
 unfolding answerLine
 answer-length a h r = with-length (ascii "report refused ") (omega arith) a h r

@@ -8,11 +8,11 @@ use Rattle.text_spec.specs.Sets.{members, setWords}
 use Rattle.tests_spec.specs.declared.Answer.{Answer}
 use Rattle.tests_spec.specs.declared.Answer.the-variants.{Going, Stray, Refused, Passed, Denied}
 
--- `offer e e e`: the events of the set offered; an empty set is `offer` alone
+-- the line of an offer, `offer e e e`: the events of the set offered; an empty set is `offer` alone
 unfoldable pub offerLine : ℕ → List ℕ
 offerLine x = ascii "offer" ++ (members x ++ ascii "\n")
 
--- `refused x ( e e )`: the set offered, as a number and its events
+-- the line of a run that failed as refused, `refused x ( e e )`: the set offered, as a number and its events
 unfoldable pub refusedSetLine : ℕ → List ℕ
 refusedSetLine x = ascii "refused " ++ (setWords x ++ ascii "\n")
 
@@ -24,11 +24,11 @@ lineWith words (Refused x) = refusedSetLine x
 lineWith words Passed = ascii "passed\n"
 lineWith words (Denied m) = numberLine words m
 
--- the answer to a report
+-- the line of the answer to a report
 unfoldable pub answerLine : Answer → List ℕ
 answerLine a = lineWith (ascii "report refused ") a
 
--- the answer to an opening, where `fault` is the reference's own refusal, 0 for none
+-- the line of the answer to an opening, where `fault` is the reference's own refusal, 0 for none
 unfoldable pub openingLine : ℕ → Answer → List ℕ
 openingLine fault a = cond (eqb fault 0) (lineWith (ascii "test refused ") a) (numberLine (ascii "reference refused ") fault)
 

@@ -1,5 +1,5 @@
--- Lines that are reports and lines that are not, words that are numbers and words that are not, and every kind of line that is
--- printed.
+-- Lines that are reports and lines that are not, words that are numbers and words that are not, and every kind of line
+-- that is printed.
 use mathlib.Core.Path.{_≡_, refl}
 use mathlib.Core.Bool.{true, false}
 use mathlib.Core.List.{List, [], _∷_, _++_, map}
@@ -17,14 +17,14 @@ use Rattle.live_lines_spec.specs.Numbers.{isDigit, digitAt, allDigits, f
 use Rattle.live_lines_spec.specs.Words.{agreeAt, sameText, eventNamed, heard, lastOk, wordsOk, askedOf}
 use Rattle.live_lines_spec.specs.Answers.{offerLine, refusedSetLine, lineWith, answerLine, openingLine, endedLine}
 
--- reports
+-- lines that are reports
 pub reports-hold : map heard (ascii "blocked" ∷ ascii "event 0" ∷ ascii "event 11" ∷ ascii "event 007" ∷ ascii "event 254" ∷ [])
     ≡ (Blocked ∷ Event 0 ∷ Event 11 ∷ Event 7 ∷ Event 254 ∷ [])
 unfolding heard sameText agreeAt eventNamed numberIn fewDigits allDigits digitAt isDigit valueFrom all
 reports-hold = refl
 
--- lines that are none: no text, half a word, a blank too many or too few, a carriage return, a large letter, no digit (the codes beside
--- the digits among them), a sign, and numbers that are too large or have too many digits
+-- lines that are no reports: no text, half a word, a blank too many or too few, a carriage return, a large letter, no
+-- digit (the codes beside the digits among them), a sign, and numbers that are too large or have too many digits
 unfoldable pub noReports : List (List ℕ)
 noReports =
     ascii "" ∷ ascii "block" ∷ ascii "blocked " ∷ ascii "event" ∷ ascii "event " ∷ ascii "event3" ∷ ascii "event  3" ∷ ascii "event 3 " ∷ (ascii "event 3" ++ (13 ∷ []))
@@ -34,7 +34,7 @@ pub others-hold : map heard noReports ≡ map (λ (line : List ℕ). Event 255) 
 unfolding noReports heard sameText agreeAt eventNamed numberIn fewDigits allDigits digitAt isDigit valueFrom all
 others-hold = refl
 
--- words as numbers
+-- words as numbers, and words that are none
 pub words-hold : map numberOf (ascii "0" ∷ ascii "1023" ∷ ascii "01024" ∷ ascii "65535" ∷ ascii "65536" ∷ ascii "000001" ∷ ascii "" ∷ ascii "1a" ∷ ascii "-1" ∷ [])
     ≡ (0 ∷ 1023 ∷ 1024 ∷ 65535 ∷ 65536 ∷ 65536 ∷ 65536 ∷ 65536 ∷ 65536 ∷ [])
 unfolding numberOf numberIn fewDigits allDigits digitAt isDigit valueFrom all
@@ -42,23 +42,23 @@ words-hold = refl
 
 -- tests that are asked for: with two words, with `traces`, with another word, and with an empty one
 pub asked-hold : (askedOf (ascii "5") (ascii "7") false [] ∷ askedOf (ascii "5") (ascii "7") true (ascii "traces") ∷ askedOf (ascii "5") (ascii "7") true (ascii "trace") ∷ askedOf (ascii "5") (ascii "7") true [] ∷ [])
-    ≡ (record { k = 5; h = 7; traces = false } ∷ record { k = 5; h = 7; traces = true } ∷ record { k = 65535; h = 0; traces = false } ∷ record { k = 65535; h = 0; traces = false } ∷ [])
+    ≡ (record { k = 5; h = 7; «trace_only» = false } ∷ record { k = 5; h = 7; «trace_only» = true } ∷ record { k = 65535; h = 0; «trace_only» = false } ∷ record { k = 65535; h = 0; «trace_only» = false } ∷ [])
 unfolding askedOf wordsOk lastOk numberOf numberIn fewDigits allDigits digitAt isDigit valueFrom all sameText agreeAt
 asked-hold = refl
 
--- answers to a report
+-- the lines of answers to a report
 pub answers-hold : map answerLine (Going 19 ∷ Going 0 ∷ Stray 3 ∷ Refused 5 ∷ Passed ∷ Denied 15 ∷ [])
     ≡ (ascii "offer 0 1 4\n" ∷ ascii "offer\n" ∷ ascii "stray 3\n" ∷ ascii "refused 5 ( 0 2 )\n" ∷ ascii "passed\n" ∷ ascii "report refused 15\n" ∷ [])
 unfolding answerLine lineWith offerLine refusedSetLine numberLine setWords members eventsIn select gather eventList decimal decimalIn has bit
 answers-hold = refl
 
--- answers to an opening
+-- the lines of answers to an opening
 pub openings-hold : (openingLine 0 (Going 3) ∷ openingLine 0 (Denied 14) ∷ openingLine 3 (Denied 3) ∷ openingLine 1 (Denied 14) ∷ [])
     ≡ (ascii "offer 0 1\n" ∷ ascii "test refused 14\n" ∷ ascii "reference refused 3\n" ∷ ascii "reference refused 1\n" ∷ [])
 unfolding openingLine lineWith offerLine numberLine members eventsIn select gather eventList decimal decimalIn has bit
 openings-hold = refl
 
--- and where the run has not ended
+-- the lines that are printed where the run has not ended
 pub stops-hold : map endedLine (true ∷ false ∷ []) ≡ (ascii "lines ended\n" ∷ ascii "input ended\n" ∷ [])
 unfolding endedLine
 stops-hold = refl

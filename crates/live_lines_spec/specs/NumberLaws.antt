@@ -24,7 +24,7 @@ unfolding isDigit
 digit← b h = and-i (le-leb 48 b (h .0)) (le-leb b 57 (omega (arith, h .1)))
 
 module _ (most : ℕ) (bytes : List ℕ) where
-  -- the test finds exactly one to `most` digits
+  -- the test `fewDigits` passes exactly for one to `most` digits
   pub digits→ : fewDigits most bytes ≡ true → Digits most bytes
   unfolding fewDigits allDigits digitAt
   digits→ h =
@@ -66,7 +66,7 @@ module _ (most : ℕ) (bytes : List ℕ) where
         go (inl e) = absurd (omega arith)
         go (inr w) = (w .0, sym (w .1 .1))
 
-    -- nothing else is answered than these and top + 1
+    -- no other number is answered than those up to `top`, and top + 1
     pub number-most : numberIn most top bytes ≤ top + 1
     number-most = go number-cases
       where
@@ -74,7 +74,7 @@ module _ (most : ℕ) (bytes : List ℕ) where
         go (inl e) = omega arith
         go (inr w) = omega (arith, w .1 .0, w .1 .1)
 
-    -- too many bytes are none
+    -- too many bytes are no number
     pub number-long : most < length bytes → numberIn most top bytes ≡ top + 1
     number-long l = go number-cases
       where
@@ -82,7 +82,7 @@ module _ (most : ℕ) (bytes : List ℕ) where
         go (inl e) = e
         go (inr w) = absurd (omega (arith, w .0 .few))
 
-    -- and so is a number above `top`
+    -- digits whose value is above `top` are no number
     pub number-large : top < valueFrom 0 bytes → numberIn most top bytes ≡ top + 1
     number-large l = go number-cases
       where

@@ -1,5 +1,5 @@
--- Which lines are reports: `blocked`, and `event ` with one to three digits. Every other line is an event that no sheet has, and is
--- refused with 15. And which words ask for a test: any others are refused with 14.
+-- Which lines are reports: `blocked`, and `event ` with one to three digits. Every other line is an event that no sheet
+-- has, and is refused with 15. And which words ask for a test: any others are refused with 14.
 use mathlib.Core.Path.{_≡_, refl, sym, ap, _∙_}
 use mathlib.Core.Logic.{_⊎_, inl, inr, _≢_}
 use mathlib.Core.Bool.{Bool, true, false, not, _&&_, _||_, true≢false, false≢true, cond}
@@ -27,7 +27,7 @@ use Rattle.live_lines_spec.specs.Numbers.{numberIn, numberOf, Digits}
 use Rattle.live_lines_spec.specs.NumberLaws.{number-from, number-most, number-long, number-large, number-decimal, word-number}
 use Rattle.live_lines_spec.specs.Words.{agreeAt, sameText, eventNamed, heard, lastOk, wordsOk, askedOf}
 
--- the test finds exactly the same text
+-- the test `sameText` passes exactly for the same text
 pub same→ : (a b : List ℕ) → sameText a b ≡ true → a ≡ b
 unfolding sameText agreeAt
 same→ a b h =
@@ -52,7 +52,7 @@ named-after : (rest : List ℕ) → eventNamed (ascii "event " ++ rest) ≡ numb
 unfolding eventNamed
 named-after rest = rw (take-at (ascii "event ") rest 6 refl, same← (ascii "event ") (ascii "event ") refl, drop-at (ascii "event ") rest 6 refl)
 
--- `event ` and what follows it
+-- a line of `event ` and some bytes is the event whose number these are
 pub heard-after : (rest : List ℕ) → heard (ascii "event " ++ rest) ≡ Event (numberIn 3 254 rest)
 unfolding heard
 heard-after rest = rw (event-not-blocked rest) (ap Event (named-after rest))
@@ -67,7 +67,7 @@ heard-event n h = heard-after (decimal n) ∙ ap Event (go (dec (leb n 254)))
         let l = leb-false n 254 t in
         number-large 3 (decimal n) 254 (omega (arith, decimal-value n)) ∙ omega arith
 
--- `blocked` is Blocked
+-- the line `blocked` is the report Blocked
 pub heard-blocked : heard (ascii "blocked") ≡ Blocked
 unfolding heard
 heard-blocked = rw (same← (ascii "blocked") (ascii "blocked") refl)
@@ -80,7 +80,7 @@ eventIn : Report → ℕ
 eventIn (Event i) = i
 eventIn Blocked = 255
 
--- no other line is
+-- no other line than `blocked` is the report Blocked
 pub heard-blocked-only : (line : List ℕ) → heard line ≡ Blocked → line ≡ ascii "blocked"
 unfolding heard isBlocked
 heard-blocked-only line e = go (dec (sameText line (ascii "blocked")))
@@ -89,7 +89,7 @@ heard-blocked-only line e = go (dec (sameText line (ascii "blocked")))
     go (inl t) = same→ line (ascii "blocked") t
     go (inr t) = absurd (false≢true (ap isBlocked (rw t at e)))
 
--- what a line is that names an event below 255
+-- a line that names an event below 255 is `event ` and its digits
 named-only : (line : List ℕ) → eventNamed line < 255 → (rest : List ℕ) × (line ≡ ascii "event " ++ rest) × Digits 3 rest × (valueFrom 0 rest ≡ eventNamed line)
 unfolding eventNamed
 named-only line = go (sameText (take 6 line) (ascii "event ")) refl
@@ -109,7 +109,8 @@ named-most line = go (sameText (take 6 line) (ascii "event "))
     go true = omega (arith, number-most 3 (drop 6 line) 254)
     go false = omega arith
 
--- another event than 255 is heard only in a line that is `event ` and one to three digits, and it is the number that they write
+-- another event than 255 is heard only in a line that is `event ` and one to three digits, and it is the number that
+-- they write
 pub heard-event-only : (line : List ℕ) (n : ℕ) → heard line ≡ Event n → n ≢ 255
     → (rest : List ℕ) × (line ≡ ascii "event " ++ rest) × Digits 3 rest × (valueFrom 0 rest ≡ n)
 unfolding heard isBlocked eventIn
@@ -138,8 +139,8 @@ heard-long line l = rw (not-blocked) (ap Event (go (sameText (take 6 line) (asci
     go true = number-long 3 (drop 6 line) 254 (omega (arith, length-drop 6 line))
     go false = refl
 
--- what is no report is refused with 15, on every accepted sheet and in every run that is not refused itself (by 16 or 9, as "blocked"
--- would be too)
+-- what is no report is refused with 15, on every accepted sheet and in every run that is not refused itself (by 16 or
+-- 9, as "blocked" would be too)
 pub unheard-refused : (s : Sheet) (r : Run) → reportFault s r Blocked ≡ 0 → stepOf s r (Event 255) .answer ≡ Denied 15
 unfolding Beyond
 unheard-refused s r z =
@@ -149,12 +150,12 @@ unheard-refused s r z =
 
 -- ---- the words of a test
 
--- k and h in base ten, with no word after them and with `traces`
-pub asked-test : (k h : ℕ) → k ≤ 65535 → h ≤ 65535 → (word : List ℕ) → askedOf (decimal k) (decimal h) false word ≡ record { k = k; h = h; traces = false }
+-- words that are k and h in base ten ask for that test: with no word after them, and trace-only with `traces`
+pub asked-test : (k h : ℕ) → k ≤ 65535 → h ≤ 65535 → (word : List ℕ) → askedOf (decimal k) (decimal h) false word ≡ record { k = k; h = h; «trace_only» = false }
 unfolding askedOf wordsOk lastOk
 asked-test k h p q word = rw (word-number k p, word-number h q, le-leb k 65535 p, le-leb h 65535 q)
 
-pub asked-traces : (k h : ℕ) → k ≤ 65535 → h ≤ 65535 → askedOf (decimal k) (decimal h) true (ascii "traces") ≡ record { k = k; h = h; traces = true }
+pub asked-traces : (k h : ℕ) → k ≤ 65535 → h ≤ 65535 → askedOf (decimal k) (decimal h) true (ascii "traces") ≡ record { k = k; h = h; «trace_only» = true }
 unfolding askedOf wordsOk lastOk
 asked-traces k h p q = rw (word-number k p, word-number h q, le-leb k 65535 p, le-leb h 65535 q, same← (ascii "traces") (ascii "traces") refl)
 

@@ -35,8 +35,8 @@ lastOk there word = not there || sameText word (ascii "traces")
 unfoldable pub wordsOk : List ℕ → List ℕ → Bool → List ℕ → Bool
 wordsOk k h there word = leb (numberOf k) 65535 && (leb (numberOf h) 65535 && lastOk there word)
 
--- the test that the words ask for; the word `traces` makes it trace-only. Bad words ask for test 65,535, which is none, so that its
--- opening is refused with 14
+-- the test that the words ask for; the word `traces` makes it trace-only. Bad words ask for test 65,535, which is none,
+-- so that its opening is refused with 14
 unfoldable pub askedOf : List ℕ → List ℕ → Bool → List ℕ → Asked
 askedOf k h there word =
-    cond (wordsOk k h there word) (record { k = numberOf k; h = numberOf h; traces = there }) (record { k = 65535; h = 0; traces = false })
+    cond (wordsOk k h there word) (record { k = numberOf k; h = numberOf h; «trace_only» = there }) (record { k = 65535; h = 0; «trace_only» = false })

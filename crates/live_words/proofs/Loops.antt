@@ -15,7 +15,7 @@ use Rattle.text_spec.specs.DecimalLaws.{valueFrom}
 use Rattle.live_lines_spec.specs.Numbers.{isDigit, digitAt, allDigits}
 use Rattle.live_lines_spec.specs.Words.{agreeAt, sameText}
 
--- one byte after another is a digit
+-- the loop over bytes that are to be digits: it stops at one that is none, goes on, and ends
 module _ (w : List ℕ) (i : ℕ) {d : Bool} (e : d ≡ isDigit (getD w i 0)) where
   pub digits-stop : i < length w → d ≡ false → false ≡ allDigits w
   unfolding allDigits digitAt
@@ -48,7 +48,7 @@ pub value-done : (w : List ℕ) (i v : ℕ) → length w ≤ i → valueFrom v (
 unfolding valueFrom
 value-done w i v l h = rw (drop-of-length-le w {i = i} l) at h
 
--- two texts that agree in one byte after another
+-- the loop over two texts that are to agree: their lengths differ; or it stops where a byte differs, goes on, and ends
 module _ (a b : List ℕ) where
   pub same-lengths : (length a ≡ length b → ⊥) → false ≡ sameText a b
   unfolding sameText

@@ -15,7 +15,7 @@ use Rattle.live_lines_spec.specs.NumberLaws.{digits→, number-most}
 use Rattle.live_lines_spec.specs.Words.{sameText, eventNamed, heard, lastOk, wordsOk, askedOf}
 use Rattle.live_lines_spec.specs.WordLaws.{same→}
 
--- no byte, too many, or as many as there may be
+-- the ways out for no byte, for too many, and for as many as there may be
 module _ (most : ℕ) (w : List ℕ) where
   pub few-none : length w ≡ 0 → false ≡ fewDigits most w
   unfolding fewDigits
@@ -46,7 +46,7 @@ module _ (most : ℕ) (w : List ℕ) where
     unfolding numberIn
     in-is e t x l = rw (sym e ∙ t, le-leb (valueFrom 0 w) top (omega (arith, x, l))) x
 
--- a line that begins with `event `
+-- the ways out for a line that is to begin with `event `
 module _ (line : List ℕ) {f : List ℕ} (p : f ≡ take 6 line) {d : Bool} (e : d ≡ sameText f (ascii "event ")) where
   begins : sameText (take 6 line) (ascii "event ") ≡ d
   begins = ap (λ (t : List ℕ). sameText t (ascii "event ")) (sym p) ∙ sym e
@@ -55,7 +55,7 @@ module _ (line : List ℕ) {f : List ℕ} (p : f ≡ take 6 line) {d : Bool} (e 
   unfolding eventNamed
   named-not t = rw (begins ∙ t)
 
-  -- it has six bytes or more
+  -- a line that begins with `event ` has six bytes or more
   pub named-long : d ≡ true → 6 ≤ length line
   named-long t = omega (arith, length-take 6 line, ap length (same→ (take 6 line) (ascii "event ") (begins ∙ t)))
 
@@ -63,11 +63,11 @@ module _ (line : List ℕ) {f : List ℕ} (p : f ≡ take 6 line) {d : Bool} (e 
   unfolding eventNamed
   named-is t q = rw (begins ∙ t) (q ∙ ap (numberIn 3 254) (take-all (length line - 6) (drop 6 line) (omega (arith, length-drop 6 line))))
 
--- what is named fits a byte
+-- the number that a line names fits a byte
 pub named-byte : {n : ℕ} (w : List ℕ) → n ≡ numberIn 3 254 w → n < 256
 named-byte w e = omega (arith, e, number-most 3 w 254)
 
--- the two kinds of report
+-- the ways out for the two kinds of report
 module _ (line : List ℕ) {d : Bool} (e : d ≡ sameText line (ascii "blocked")) where
   pub is-blocked : d ≡ true → Blocked ≡ heard line
   unfolding heard
@@ -77,7 +77,7 @@ module _ (line : List ℕ) {d : Bool} (e : d ≡ sameText line (ascii "blocked")
   unfolding heard
   is-event f q = rw (sym e ∙ f) (ap Event q)
 
--- the last word
+-- the ways out for the last word
 pub last-none : (there : Bool) (word : List ℕ) → there ≡ false → true ≡ lastOk there word
 unfolding lastOk
 last-none there word f = rw f
@@ -86,21 +86,21 @@ pub last-some : {d : Bool} (there : Bool) (word : List ℕ) → there ≡ true �
 unfolding lastOk
 last-some there word t e = rw t e
 
--- the words: one that is bad, or none
+-- the ways out for the words: one that is bad, or none
 module _ (k h : List ℕ) (there : Bool) (word : List ℕ) {a b : ℕ} (p : a ≡ numberOf k) (q : b ≡ numberOf h) where
-  pub asked-k : 65535 < a → record { k = 65535; h = 0; traces = false } ≡ askedOf k h there word
+  pub asked-k : 65535 < a → record { k = 65535; h = 0; «trace_only» = false } ≡ askedOf k h there word
   unfolding askedOf wordsOk
   asked-k l = rw (lt-leb (numberOf k) 65535 (omega (arith, p, l)))
 
-  pub asked-h : a ≤ 65535 → 65535 < b → record { k = 65535; h = 0; traces = false } ≡ askedOf k h there word
+  pub asked-h : a ≤ 65535 → 65535 < b → record { k = 65535; h = 0; «trace_only» = false } ≡ askedOf k h there word
   unfolding askedOf wordsOk
   asked-h m l = rw (le-leb (numberOf k) 65535 (omega (arith, p, m)), lt-leb (numberOf h) 65535 (omega (arith, q, l)))
 
   module _ {d : Bool} (e : d ≡ lastOk there word) where
-    pub asked-last : a ≤ 65535 → b ≤ 65535 → d ≡ false → record { k = 65535; h = 0; traces = false } ≡ askedOf k h there word
+    pub asked-last : a ≤ 65535 → b ≤ 65535 → d ≡ false → record { k = 65535; h = 0; «trace_only» = false } ≡ askedOf k h there word
     unfolding askedOf wordsOk
     asked-last m l f = rw (le-leb (numberOf k) 65535 (omega (arith, p, m)), le-leb (numberOf h) 65535 (omega (arith, q, l)), sym e ∙ f)
 
-    pub asked-all : a ≤ 65535 → b ≤ 65535 → d ≡ true → record { k = a; h = b; traces = there } ≡ askedOf k h there word
+    pub asked-all : a ≤ 65535 → b ≤ 65535 → d ≡ true → record { k = a; h = b; «trace_only» = there } ≡ askedOf k h there word
     unfolding askedOf wordsOk
     asked-all m l t = rw (le-leb (numberOf k) 65535 (omega (arith, p, m)), le-leb (numberOf h) 65535 (omega (arith, q, l)), sym e ∙ t, p, q)

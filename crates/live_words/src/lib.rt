@@ -1,4 +1,5 @@
-// The words and the lines that `live` is given: numbers in base ten, the words that ask for a test, and the reports of a device.
+// The words and the lines that `live` is given: numbers in base ten, the words that ask for a test, and the reports of
+// a device.
 ghost use mathlib.Core.Path.{_≡_};
 ghost use Prim.Native.Nat.{_+_, _-_, _*_, _≤_, _<_};
 ghost use Rattle.text_spec.specs.DecimalLaws.{valueFrom};
@@ -9,7 +10,7 @@ use tests_spec::Report;
 
 // ---- numbers
 
-// Whether a byte is the code of a digit.
+// Whether a byte is the code of a digit, 0 to 9.
 fn is_digit(b: u8) -> bool
     ensures { λ r. ⌜ r ≡ isDigit b ⌝ }
 {
@@ -19,7 +20,7 @@ fn is_digit(b: u8) -> bool
     b <= 57
 }
 
-// Whether every byte is one.
+// Whether every byte is the code of a digit.
 fn all_digits(bytes: &[u8]) -> bool
     ensures { λ r. ⌜ r ≡ allDigits (now (bytes .entry)) ⌝ }
 {
@@ -84,7 +85,7 @@ fn number_in(bytes: &[u8], most: usize, top: u32) -> u32
 }
 
 // The number that a word is, 65,536 where it is none.
-pub fn number_of(bytes: &[u8]) -> u32
+fn number_of(bytes: &[u8]) -> u32
     ensures { λ r. ⌜ r ≡ numberOf (now (bytes .entry)) ⌝ }
 {
     number_in(bytes, 5, 65535)
@@ -146,7 +147,7 @@ pub fn asked_of(k: &[u8], h: &[u8], there: bool, word: &[u8]) -> Asked
     let none = Asked {
         k: 65535,
         h: 0,
-        traces: false,
+        trace_only: false,
     };
     let a = number_of(k);
     let b = number_of(h);
@@ -162,6 +163,6 @@ pub fn asked_of(k: &[u8], h: &[u8], there: bool, word: &[u8]) -> Asked
     Asked {
         k: a as u16,
         h: b as u16,
-        traces: there,
+        trace_only: there,
     }
 }

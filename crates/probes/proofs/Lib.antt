@@ -1,3 +1,3 @@
-pub mod Turns
+pub mod Seen
 pub mod Misses
 pub mod Lists

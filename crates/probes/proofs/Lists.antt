@@ -1,4 +1,5 @@
--- The four ways out of `list`, each joined to the definition; and what it knows of a node when the sheet is not refused.
+-- The four ways out of `list`, each joined to the definition; and what it knows of a node when the sheet is not
+-- refused.
 use mathlib.Core.Path.{_≡_, sym, ap, _∙_}
 use mathlib.Core.Logic.{_≢_}
 use mathlib.Core.List.{List}
@@ -31,26 +32,27 @@ module _ (s : Sheet) (v : ℕ) (out : List ℕ) where
       let m : listFault s v out ≢ 0 = λ z. n (sym e ∙ z) in
       told (Denied k) out (ap Denied (sym e) ∙ sym (listed-denied s v out m)) (sym (after-denied s v out m))
 
-  -- the sheet's own refusal
+  -- the way out with the sheet's own refusal
   pub told-own : (k : ℕ) → k ≡ sheetFault s → k ≢ 0 → Told (Denied k) out
   told-own k e n = denied k (list-sheet s v out (λ z. n (e ∙ z)) ∙ sym e) n
 
-  -- 9
+  -- the way out with 9: the node is not below N
   pub told-9 : sheetFault s ≡ 0 → s .n ≤ v → Told (Denied 9) out
   told-9 h l = denied 9 (list-9 s v out .1 (h, l)) (omega arith)
 
-  -- 10
+  -- the way out with 10: the list is shorter than the probes
   pub told-10 : sheetFault s ≡ 0 → v < s .n → length out < length (nodeProbes s v) → Told (Denied 10) out
   told-10 h l b = denied 10 (list-10 s v out .1 (h, l, b)) (omega arith)
 
-  -- all probes
+  -- the way out with all probes
   pub told-all : sheetFault s ≡ 0 → v < s .n → length (nodeProbes s v) ≤ length out
       → (m : ℕ) (after : List ℕ) → m ≡ length (nodeProbes s v) → after ≡ atFront out (nodeProbes s v) → Told (Count m) after
   told-all h l b m after p q =
       let z : listFault s v out ≡ 0 = list-0 s v out .1 (h, l, b) in
       told (Count m) after (ap Count p ∙ sym (listed-count s v out z)) (q ∙ sym (after-front s v out z))
 
--- a node, its number and its counts as the code widens them
+-- a node, its number and its counts as the code widens them: they are in range, and its probes are those of its row's
+-- sets
 module _ (s : Sheet) (h : sheetFault s ≡ 0) (v w e c : ℕ) (l : v < s .n) (p : w ≡ v) (q : e ≡ s .e) (r : c ≡ row s w .c) (f : SheetForm s) where
   pub node-ranges : (c ≤ 16) × (e ≤ 12)
   node-ranges = let a : row s v .c ≤ 16 = check-sound s h .counts v l .1 in (rw (r, p) a, rw q (check-sound s h .ranges .e-high))

@@ -9,10 +9,10 @@ use borrow.Author.Tests.{eq-eqb, ne-eqb}
 use Rattle.events.specs.Sets.{meets}
 use Rattle.probes_spec.specs.declared.Missed.{Missed}
 use Rattle.probes_spec.specs.declared.Missed.the-variants.{Nothing, Found}
-use Rattle.probes_spec.specs.Shapes.{turns, value, turn, nextFrom}
+use Rattle.probes_spec.specs.Shapes.{candidateCount, candidate, listed, nextFrom}
 use Rattle.probes_spec.specs.FirstMissed.{missing, orNext, firstMissing, firstMissed}
-use Rattle.turns.proofs.Passes.{left-some, left-none}
-use Rattle.probes.proofs.Turns.{Stands, seen, seen-start, seen-next, seen-split, seen-end}
+use Rattle.probes.proofs.candidates.Passes.{left-some, left-none}
+use Rattle.probes.proofs.Seen.{Stands, seen, seen-start, seen-next, seen-split, seen-end}
 
 -- the inner loop, from acceptance k on
 module _ (d : ℕ) (device : List ℕ) (k p : ℕ) where
@@ -33,26 +33,26 @@ unfolding orNext
 orNext-assoc Nothing b c = refl
 orNext-assoc (Found p a) b c = refl
 
--- what is named of two lists in turn
+-- what is named of two lists, one after the other
 missing-append : (l m dev : List ℕ) → firstMissing (l ++ m) dev ≡ orNext (firstMissing l dev) (firstMissing m dev)
 unfolding firstMissing
 missing-append [] m dev = unfold orNext in refl
 missing-append (p ∷ l) m dev = ap (orNext (missing p dev)) (missing-append l m dev) ∙ sym (orNext-assoc (missing p dev) (firstMissing l dev) (firstMissing m dev))
 
-pub named-start : (accs : List ℕ) (e : ℕ) (dev : List ℕ) (y : ℕ) → y ≡ nextFrom (turn accs e) (turns e) 0 → firstMissing (seen accs e y) dev ≡ Nothing
+pub named-start : (accs : List ℕ) (e : ℕ) (dev : List ℕ) (y : ℕ) → y ≡ nextFrom (listed accs e) (candidateCount e) 0 → firstMissing (seen accs e y) dev ≡ Nothing
 unfolding firstMissing
 named-start accs e dev y q = rw (seen-start accs e y q)
 
--- the outer loop: what was seen before turn x is met by every acceptance
+-- the outer loop: what was seen before candidate x is met by every acceptance
 module _ (accs : List ℕ) (e : ℕ) (dev : List ℕ) (x : ℕ) (s : Stands accs e x) (n : firstMissing (seen accs e x) dev ≡ Nothing) where
-  pub named-at : x < turns e → (q a : ℕ) → missing (value e x) dev ≡ Found q a → firstMissed accs e dev ≡ Found q a
+  pub named-at : x < candidateCount e → (q a : ℕ) → missing (candidate e x) dev ≡ Found q a → firstMissed accs e dev ≡ Found q a
   unfolding firstMissed firstMissing orNext
-  named-at h q a m = let w = seen-split accs e x s h in rw (w .1, missing-append (seen accs e x) (value e x ∷ w .0) dev, n, m)
+  named-at h q a m = let w = seen-split accs e x s h in rw (w .1, missing-append (seen accs e x) (candidate e x ∷ w .0) dev, n, m)
 
-  pub named-more : x < turns e → missing (value e x) dev ≡ Nothing → (y : ℕ) → y ≡ nextFrom (turn accs e) (turns e) (x + 1) → firstMissing (seen accs e y) dev ≡ Nothing
+  pub named-more : x < candidateCount e → missing (candidate e x) dev ≡ Nothing → (y : ℕ) → y ≡ nextFrom (listed accs e) (candidateCount e) (x + 1) → firstMissing (seen accs e y) dev ≡ Nothing
   unfolding firstMissing orNext
-  named-more h m y q = rw (seen-next accs e x s h y q, missing-append (seen accs e x) (value e x ∷ []) dev, n, m)
+  named-more h m y q = rw (seen-next accs e x s h y q, missing-append (seen accs e x) (candidate e x ∷ []) dev, n, m)
 
-  pub named-end : turns e ≤ x → firstMissed accs e dev ≡ Nothing
+  pub named-end : candidateCount e ≤ x → firstMissed accs e dev ≡ Nothing
   unfolding firstMissed
   named-end h = rw (← seen-end accs e x s h) n

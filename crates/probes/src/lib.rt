@@ -1,6 +1,8 @@
-// The probes of a node (01, "Probes"): its minimal hitting sets, listed, and looked through for the first
-// that a device's acceptances miss. `list` takes any sheet, node and list; the others take a row's sets with C up to 16 and E up
-// to 12.
+// The probes of a node (01, "Probes"): its minimal hitting sets, listed, and looked through for the first that a
+// device's acceptances miss. `list` takes any sheet, node and list; the others take a row's sets with C up to 16 and E
+// up to 12.
+mod candidates;
+
 ghost use mathlib.Core.Path.{_≡_};
 ghost use Prim.Native.Nat.{_≤_};
 ghost use lib.ListN.{length, take};
@@ -17,15 +19,16 @@ use sheet_spec::Sheet;
 // Writes the probes to the front of a list that is long enough, and answers how many they are.
 pub fn fill(sets: [u16; 16], c: usize, e: usize, out: &mut [u16]) -> usize
     requires { ⌜ (c ≤ 16) × (e ≤ 12) × (length (probes (take c sets) e) ≤ length (now out)) ⌝ }
-    ensures { λ r. ⌜ (now (out .exit) ≡ atFront (now (out .entry)) (probes (take c sets) e)) × (r ≡ length (probes (take c sets) e)) ⌝ }
+    ensures { λ r. ⌜ (now (out .exit) ≡ atFront (now (out .entry)) (probes (take c sets) e))
+        × (r ≡ length (probes (take c sets) e)) ⌝ }
 {
-    let last = turns::turns_of(e);
+    let last = candidates::candidate_count(e);
     let mut at: usize = 0;
-    let mut x = turns::next_turn(sets, c, e, 0);
+    let mut x = candidates::next_listed(sets, c, e, 0);
     while x < last {
-        out[at] = turns::set_of(e, x);
+        out[at] = candidates::candidate(e, x);
         at += 1;
-        x = turns::next_turn(sets, c, e, x + 1);
+        x = candidates::next_listed(sets, c, e, x + 1);
     }
     at
 }
@@ -42,10 +45,13 @@ fn copy(found: &[u16], m: usize, out: &mut [u16])
     }
 }
 
-// Writes the probes of a node to the front of the lent list and answers how many there are; or the number of the refusal, and the
-// list is as it was: the sheet's own; 9, a node that is not below N; 10, a list shorter than the probes.
+// Writes the probes of a node to the front of the lent list and answers how many there are; or the number of the
+// refusal, and the list is as it was: the sheet's own; 9, a node that is not below N; 10, a list shorter than the
+// probes.
 pub fn list(sheet: Sheet, node: u8, out: &mut [u16]) -> Listed
-    ensures { λ r. ⌜ (r ≡ listedOf sheet node (now (out .entry))) × (listedNumbers r ≡ listedNumbers (listedOf sheet node (now (out .entry)))) × (now (out .exit) ≡ listAfter sheet node (now (out .entry))) ⌝ }
+    ensures { λ r. ⌜ (r ≡ listedOf sheet node (now (out .entry)))
+        × (listedNumbers r ≡ listedNumbers (listedOf sheet node (now (out .entry))))
+        × (now (out .exit) ≡ listAfter sheet node (now (out .entry))) ⌝ }
 {
     let fault = sheet::check(sheet);
     if fault != 0 {
@@ -75,13 +81,13 @@ pub fn first_missed(sets: [u16; 16], c: usize, e: usize, device: [u16; 16], d: u
     requires { ⌜ (c ≤ 16) × (e ≤ 12) × (d ≤ 16) ⌝ }
     ensures { λ r. ⌜ r ≡ firstMissed (take c sets) e (take d device) ⌝ }
 {
-    let end = turns::turns_of(e);
+    let end = candidates::candidate_count(e);
     let mut probe: u16 = 0;
     let mut acceptance: u16 = 0;
     let mut missed = false;
-    let mut x = turns::next_turn(sets, c, e, 0);
+    let mut x = candidates::next_listed(sets, c, e, 0);
     'probes: while x < end {
-        let p = turns::set_of(e, x);
+        let p = candidates::candidate(e, x);
         let mut k: usize = 0;
         while k < d {
             let a = device[k];
@@ -93,7 +99,7 @@ pub fn first_missed(sets: [u16; 16], c: usize, e: usize, device: [u16; 16], d: u
             }
             k += 1;
         }
-        x = turns::next_turn(sets, c, e, x + 1);
+        x = candidates::next_listed(sets, c, e, x + 1);
     }
     if missed {
         Missed::Found(probe, acceptance)

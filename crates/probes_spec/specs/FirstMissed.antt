@@ -1,5 +1,5 @@
--- What a comparison names at a refusal (01, "A comparison"): the first probe in the list that some device acceptance misses, with the
--- lowest such acceptance. The device's acceptances ascend, so the lowest is the first.
+-- What a comparison names at a refusal (01, "A comparison"): the first probe in the list that some device acceptance
+-- misses, with the lowest such acceptance. The device's acceptances ascend, so the lowest is the first.
 use mathlib.Core.Path.{_≡_}
 use mathlib.Core.Bool.{cond}
 use mathlib.Core.List.{List, [], _∷_}
@@ -11,12 +11,12 @@ use Rattle.probes_spec.specs.declared.Missed.{Missed}
 use Rattle.probes_spec.specs.declared.Missed.the-variants.{Nothing, Found}
 use Rattle.probes_spec.specs.Probes.{probes}
 
--- the first acceptance that has no event of p
+-- the first acceptance of a list that has no event of p, named with p
 unfoldable pub missing : ℕ → List ℕ → Missed
 missing p [] = Nothing
 missing p (a ∷ dev) = cond (meets p a) (missing p dev) (Found p a)
 
--- the first of two that names something
+-- the first of two answers that names something
 unfoldable pub orNext : Missed → Missed → Missed
 orNext Nothing m = m
 orNext (Found p a) m = Found p a
@@ -26,16 +26,17 @@ unfoldable pub firstMissing : List ℕ → List ℕ → Missed
 firstMissing [] dev = Nothing
 firstMissing (p ∷ ps) dev = orNext (missing p dev) (firstMissing ps dev)
 
--- .. of the probes of the reference's acceptances
+-- the first probe of the reference's acceptances that some acceptance of the device misses, with the first such
+-- acceptance
 unfoldable pub firstMissed : List ℕ → ℕ → List ℕ → Missed
 firstMissed accs e dev = firstMissing (probes accs e) dev
 
--- in plain words: no set of the list is missed by an acceptance
+-- no set of the list is missed by an acceptance, in plain words
 abbrev pub NoneMissed : List ℕ → List ℕ → Type 0
 NoneMissed ps dev = (x : ℕ) → x < length ps → (j : ℕ) → j < length dev → ¬ Apart (getD ps x 0) (getD dev j 0)
 
--- p is in the list and a among the acceptances, and they have no common event; no set before p is missed, and p is missed by no
--- acceptance before a
+-- in plain words: p is in the list and a among the acceptances, and they have no common event; no set before p is
+-- missed, and p is missed by no acceptance before a
 pub record MissedFirst (ps dev : List ℕ) (p a : ℕ) : Type 0 where
   pub place : ℕ
   pub place-in : place < length ps

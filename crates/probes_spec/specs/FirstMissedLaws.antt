@@ -1,5 +1,5 @@
--- What the comparison's definition names, in plain words and both directions; and that it names something exactly if some device
--- acceptance includes no reference acceptance.
+-- What the comparison's definition names, in plain words and both directions; and that it names something exactly if
+-- some device acceptance includes no reference acceptance.
 use mathlib.Core.Path.{_≡_, refl, sym, ap, _∙_, subst}
 use mathlib.Core.Logic.{_⊎_, inl, inr, _↔_}
 use mathlib.Core.Bool.{Bool, true, false, cond}
@@ -17,12 +17,12 @@ use Rattle.probes_spec.specs.Probes.{probes, Narrow}
 use Rattle.probes_spec.specs.ProbeLaws.{probe-at, probe-listed, missed→, missed←}
 use Rattle.probes_spec.specs.FirstMissed.{missing, orNext, firstMissing, firstMissed, NoneMissed, MissedFirst}
 
--- what an answer about the list says
+-- what an answer about a list of sets says, in plain words
 abbrev Says : List ℕ → List ℕ → Missed → Type 0
 Says ps dev Nothing = NoneMissed ps dev
 Says ps dev (Found p a) = MissedFirst ps dev p a
 
--- what an answer about one set says
+-- what an answer about one set says, in plain words
 abbrev SaysOne : ℕ → List ℕ → Missed → Type 0
 SaysOne p dev Nothing = (j : ℕ) → j < length dev → ¬ Apart p (getD dev j 0)
 SaysOne p dev (Found q a) = (q ≡ p) × ((j : ℕ) × (j < length dev) × (getD dev j 0 ≡ a) × Apart p a × ((k : ℕ) → k < j → ¬ Apart p (getD dev k 0)))
@@ -113,7 +113,7 @@ missed-once ps dev p a q b m n = (same-probe, sym (m .acceptance) ∙ ap (λ (j 
         go (inr l) (inl k) = absurd (m .lower (n .spot) k (rw (same-probe, n .acceptance) (n .misses)))
         go (inr l) (inr k) = omega arith
 
--- the first missed is not none
+-- where no set of a list is missed, none is the first missed
 none-or-first : (ps dev : List ℕ) (p a : ℕ) → NoneMissed ps dev → MissedFirst ps dev p a → ⊥
 none-or-first ps dev p a h m = h (m .place) (m .place-in) (m .spot) (m .spot-in) (rw (m .probe, m .acceptance) (m .misses))
 

@@ -1,5 +1,5 @@
--- The tests of Probes say what the plain words say; a hitting set is minimal exactly if each of its events is alone in the meeting
--- with some acceptance; every hitting set has a probe inside it.
+-- The tests of Probes say what the plain words say; a hitting set is minimal exactly if each of its events is alone in
+-- the meeting with some acceptance; every hitting set has a probe inside it.
 use mathlib.Core.Path.{_≡_, ap, _∙_}
 use mathlib.Core.Logic.{_⊎_, inl, inr}
 use mathlib.Core.Bool.{Bool, true, false, not, _&&_}
@@ -32,7 +32,7 @@ module _ (accs : List ℕ) where
   unfolding hits
   hits-not X t = let w = not-all (λ j. meets (getD accs j 0) X) (length accs) t in (w .0, w .1, meets-not (getD accs (w .0) 0) X (w .2))
 
-  -- the test passes exactly for the minimal hitting sets
+  -- the test `isProbe` passes exactly for the minimal hitting sets
   pub isProbe→ : (X : ℕ) → isProbe accs X ≡ true → Probe accs X
   unfolding isProbe
   isProbe→ X t = record { hits = hits→ X (and-l (hits accs X) _ t); minimal = λ Y w h. go Y w h (eq-or-lt-of-le (within-le Y X w)) }
@@ -69,7 +69,8 @@ module _ (accs : List ℕ) where
   abbrev pub Alone : ℕ → ℕ → Type 0
   Alone X i = (j : ℕ) × (j < length accs) × (bitAnd (getD accs j 0) X ≡ 2 ^ i)
 
-  -- a hitting set each of whose events is so is minimal: whatever hits inside it has that event
+  -- a hitting set each of whose events is alone in the meeting with some acceptance is minimal: whatever hits inside it
+  -- has that event
   pub alone→probe : (X : ℕ) → Hits accs X → ((i : ℕ) → bit X i ≡ 1 → Alone X i) → Probe accs X
   alone→probe X h k = record { hits = h; minimal = λ Y w g. within-antisym Y X w (λ i. back Y w g i (ℕ-discrete (bit X i) 1)) }
     where
@@ -85,7 +86,7 @@ module _ (accs : List ℕ) where
           pick l b y (yes s) = omega (arith, e, ap (bit Y) s, y)
           pick l b y (no s) = absurd (omega (arith, bit-other i l s))
 
-  -- in a probe every event is so: without it some acceptance would be missed
+  -- in a probe every event is alone in the meeting with some acceptance: without it this acceptance would be missed
   pub probe→alone : (X : ℕ) → Probe accs X → (i : ℕ) → bit X i ≡ 1 → Alone X i
   probe→alone X p i e = go (dec (hits accs (X - 2 ^ i)))
     where

@@ -17,19 +17,20 @@ use Rattle.probes_spec.specs.Probes.{probes}
 unfoldable pub nodeProbes : Sheet → ℕ → List ℕ
 nodeProbes s v = probes (acceptances (row s v)) (s .e)
 
--- the refusal, 0 for none: the sheet's own; 9: a node that is not below N; 10: a list shorter than the probes
+-- the refusal of a probe call, 0 for none: the sheet's own; 9: a node that is not below N; 10: a list shorter than the
+-- probes
 unfoldable pub listFault : Sheet → ℕ → List ℕ → ℕ
 listFault s v out = orElse (sheetFault s) (unless (ltb v (s .n)) 9 (unless (leb (length (nodeProbes s v)) (length out)) 10 0))
 
--- 01's number and value of each answer: the refusal, 0 for none, and how many probes there are, 0 where it is refused
+-- 01's two numbers of each answer: the refusal, 0 for none, and how many probes there are, 0 where it is refused
 unfoldable pub listedNumbers : Listed → ℕ × ℕ
 listedNumbers (Count m) = (0, m)
 listedNumbers (Denied k) = (k, 0)
 
--- the answer: the refusal, or how many probes there are
+-- the answer of a probe call: the refusal, or how many probes there are
 unfoldable pub listedOf : Sheet → ℕ → List ℕ → Listed
 listedOf s v out = cond (eqb (listFault s v out) 0) (Count (length (nodeProbes s v))) (Denied (listFault s v out))
 
--- the list after the call: the probes at its front; after a refusal as it was
+-- the list after a probe call: the probes at its front; after a refusal as it was
 unfoldable pub listAfter : Sheet → ℕ → List ℕ → List ℕ
 listAfter s v out = cond (eqb (listFault s v out) 0) (atFront out (nodeProbes s v)) out

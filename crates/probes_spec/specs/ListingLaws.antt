@@ -1,4 +1,5 @@
--- The probe call: when each refusal is given, what is answered, and what stands in the list; and the probes of a sheet's node.
+-- The probe call: when each refusal is given, what is answered, and what stands in the list; and the probes of a
+-- sheet's node.
 use mathlib.Core.Path.{_≡_, refl, sym, _∙_}
 use mathlib.Core.Logic.{_⊎_, inl, inr, _↔_, _≢_}
 use mathlib.Core.Bool.{Bool, true, false, cond}
@@ -16,7 +17,7 @@ use Rattle.base.specs.Refusal.{unless, unless-hit, unless-pass, unless-none, un
 use Rattle.sheet_spec.specs.declared.Sheet.{Sheet}
 use Rattle.sheet_spec.specs.Kept.{row, acceptance, acceptances, mayStop}
 use Rattle.sheet_spec.specs.Rules.{sheetFault}
-use Rattle.sheet_spec.specs.CheckLaws.{check-other}
+use Rattle.sheet_spec.specs.CheckLaws.{Own, check-other}
 use Rattle.sheet_spec.specs.RowLaws.{mayStop-means, acceptances-length, acceptances-at}
 use Rattle.sheet_spec.specs.Sound.{Sound, check-sound}
 use Rattle.probes_spec.specs.declared.Listed.the-variants.{Count, Denied}
@@ -24,14 +25,14 @@ use Rattle.probes_spec.specs.Probes.{probes, Probe, Narrow}
 use Rattle.probes_spec.specs.ProbeLaws.{probe-at, probe-listed, probes-few, probes-none, probes-some}
 use Rattle.probes_spec.specs.Listing.{nodeProbes, listFault, listedNumbers, listedOf, listAfter}
 
--- the numbers of each case
-pub count-numbers : (m : ℕ) → listedNumbers (Count m) ≡ (0, m)
+-- the numbers of each case of an answer
+pub listedNumbers-count : (m : ℕ) → listedNumbers (Count m) ≡ (0, m)
 unfolding listedNumbers
-count-numbers m = refl
+listedNumbers-count m = refl
 
-pub denied-numbers : (k : ℕ) → listedNumbers (Denied k) ≡ (k, 0)
+pub listedNumbers-denied : (k : ℕ) → listedNumbers (Denied k) ≡ (k, 0)
 unfolding listedNumbers
-denied-numbers k = refl
+listedNumbers-denied k = refl
 
 module _ (s : Sheet) (v : ℕ) (out : List ℕ) where
   -- the sheet's own refusal comes first
@@ -40,9 +41,9 @@ module _ (s : Sheet) (v : ℕ) (out : List ℕ) where
   list-sheet n = orElse-some (sheetFault s) _ (omega (arith, n))
 
   -- the sheet's own number is given exactly for it
-  pub list-own : (m : ℕ) → 0 < m → m ≤ 8 → (listFault s v out ≡ m) ↔ (sheetFault s ≡ m)
+  pub list-own : (m : ℕ) → Own m → (listFault s v out ≡ m) ↔ (sheetFault s ≡ m)
   unfolding listFault
-  list-own m z l =
+  list-own m (z, l) =
       orElse-first (sheetFault s) _ m (λ e. omega arith)
       (unless-other (ltb v (s .n)) (λ e. omega arith) (unless-other (leb (length (nodeProbes s v)) (length out)) (λ e. omega arith) (λ e. omega arith)))
 
@@ -61,7 +62,7 @@ module _ (s : Sheet) (v : ℕ) (out : List ℕ) where
       go (inl l) = l
       go (inr l) = absurd (f l)
 
-  -- 10: .. and a node of it, a list shorter than its probes
+  -- 10: of a sheet that is not refused, a node below N, and a list shorter than its probes
   pub list-10 : (listFault s v out ≡ 10) ↔ ((sheetFault s ≡ 0) × (v < s .n) × (length out < length (nodeProbes s v)))
   unfolding listFault
   list-10 =
@@ -70,7 +71,7 @@ module _ (s : Sheet) (v : ℕ) (out : List ℕ) where
       let c = unless-hit 10 0 (finds-le (length (nodeProbes s v)) (length out)) (omega arith) in
       ((λ x. let w = b .0 (a .0 x .1) in (a .0 x .0, not-beyond (w .0), c .0 (w .1))), λ y. a .1 (y .0, b .1 ((λ l. omega (arith, l, y .1)), c .1 (y .2))))
 
-  -- none: .. and a list that is long enough
+  -- no refusal: a sheet that is not refused, a node below N, and a list that is long enough
   pub list-0 : (listFault s v out ≡ 0) ↔ ((sheetFault s ≡ 0) × (v < s .n) × (length (nodeProbes s v) ≤ length out))
   unfolding listFault
   list-0 =
@@ -97,24 +98,24 @@ module _ (s : Sheet) (v : ℕ) (out : List ℕ) where
     after-denied = rw (ne-eqb (listFault s v out) 0 n)
 
   module _ (z : listFault s v out ≡ 0) where
-    -- without one the number of probes is answered
+    -- without a refusal the number of probes is answered
     pub listed-count : listedOf s v out ≡ Count (length (nodeProbes s v))
     unfolding listedOf
     listed-count = rw (eq-eqb (listFault s v out) 0 z)
 
-    -- the probes stand at the front of the list, the rest is untouched
+    -- without a refusal the probes stand at the front of the list, the rest is untouched
     pub after-front : listAfter s v out ≡ atFront out (nodeProbes s v)
     unfolding listAfter
     after-front = rw (eq-eqb (listFault s v out) 0 z)
 
-    -- .. place by place
+    -- without a refusal each place of the list that has a probe holds it, and each place after these is as it was
     pub after-probe : (x : ℕ) → x < length (nodeProbes s v) → getD (listAfter s v out) x 0 ≡ getD (nodeProbes s v) x 0
     after-probe x l = rw after-front (atFront-before out (nodeProbes s v) x 0 l)
 
     pub after-rest : (x : ℕ) → length (nodeProbes s v) ≤ x → getD (listAfter s v out) x 0 ≡ getD out x 0
     after-rest x l = rw after-front (atFront-behind out (nodeProbes s v) x 0 l)
 
-  -- the list keeps its length
+  -- the list keeps its length in every probe call
   pub after-length : length (listAfter s v out) ≡ length out
   unfolding listAfter
   after-length = go (eqb (listFault s v out) 0) refl
@@ -129,11 +130,11 @@ module _ (s : Sheet) (h : sheetFault s ≡ 0) (v : ℕ) (l : v < s .n) where
   sound : Sound s
   sound = check-sound s h
 
-  -- its acceptances have only events of the sheet
+  -- the acceptances of a node have only events of the sheet
   pub node-narrow : Narrow (acceptances (row s v)) (s .e)
   node-narrow j k = let b : j < row s v .c = omega (arith, k, acceptances-length (row s v)) in rw (acceptances-at (row s v) j b) (sound .narrow v j l b)
 
-  -- what is listed are its minimal hitting sets
+  -- what is listed for a node are its minimal hitting sets
   pub node-probe : (X : ℕ) → ((x : ℕ) × (x < length (nodeProbes s v)) × (getD (nodeProbes s v) x 0 ≡ X)) ↔ Probe (acceptances (row s v)) X
   unfolding nodeProbes
   node-probe X = (there, λ p. probe-listed (acceptances (row s v)) (s .e) node-narrow X p)
@@ -141,7 +142,7 @@ module _ (s : Sheet) (h : sheetFault s ≡ 0) (v : ℕ) (l : v < s .n) where
       there : (x : ℕ) × (x < length (probes (acceptances (row s v)) (s .e))) × (getD (probes (acceptances (row s v)) (s .e)) x 0 ≡ X) → Probe (acceptances (row s v)) X
       there (x, k, e) = rw (← e) (probe-at (acceptances (row s v)) (s .e) x k)
 
-  -- they are at most 4,096
+  -- a node has at most 4,096 probes
   pub node-few : length (nodeProbes s v) ≤ 4096
   unfolding nodeProbes
   node-few = let k : 2 ^ (s .e) ≤ 2 ^ 12 = pow-mono (sound .ranges .e-high) in omega (arith, probes-few (acceptances (row s v)) (s .e))

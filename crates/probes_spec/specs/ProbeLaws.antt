@@ -1,5 +1,5 @@
--- What upper crates may rely on: the promise of the probe lists. Only the last law speaks of their order; a request that changes
--- the order changes that law and no other.
+-- What upper crates may rely on: the promise of the probe lists. Only the last law speaks of their order; a request
+-- that changes the order changes that law and no other.
 use mathlib.Core.Path.{_≡_, sym, ap, _∙_}
 use mathlib.Core.Logic.{_⊎_, inl, inr, _↔_, _≢_}
 use mathlib.Core.Bool.{Bool, true, false, not, cond}
@@ -16,11 +16,11 @@ use Rattle.events.specs.Sets.{has, has→, has-not, inside, inside→, inside-m
 use Rattle.probes_spec.specs.Probes.{isProbe, probes, Hits, Probe, Narrow}
 use Rattle.probes_spec.specs.HitLaws.{isProbe→, isProbe←, probe-inside, probe→alone}
 
--- the test passes exactly for the minimal hitting sets
+-- the test `isProbe` passes exactly for the minimal hitting sets
 pub isProbe-means : (accs : List ℕ) (X : ℕ) → (isProbe accs X ≡ true) ↔ Probe accs X
 isProbe-means accs X = (isProbe→ accs X, isProbe← accs X)
 
--- where an element of the list comes from
+-- where an element of the list of probes comes from
 at : (accs : List ℕ) (e x : ℕ) → x < length (probes accs e)
     → (z : ℕ) × (z < 2 ^ e) × (isProbe accs z ≡ true) × (length (gather (isProbe accs) (λ y. y) z) ≡ x) × (getD (probes accs e) x 0 ≡ z)
 unfolding probes select
@@ -39,7 +39,7 @@ probe-events accs X i p b =
     let w = probe→alone accs X p i b in
     (w .0, w .1, omega (arith, bit-and i (getD accs (w .0) 0) X, ap (λ (y : ℕ). bit y i) (w .2), bit-one i, bit≤1 (getD accs (w .0) 0) i))
 
--- so it is a set of e events if they are
+-- a probe is a set of e events if the acceptances are
 probe-narrow : (accs : List ℕ) (e : ℕ) → Narrow accs e → (X : ℕ) → Probe accs X → X < 2 ^ e
 probe-narrow accs e n X p = narrow e X (λ i b. below i (probe-events accs X i p b))
   where
@@ -58,7 +58,7 @@ probe-listed accs e n X p =
     let t = isProbe← accs X p in
     (length (gather (isProbe accs) (λ y. y) X), gather-room (isProbe accs) (λ y. y) X (2 ^ e) l t, gather-has (isProbe accs) (λ y. y) X (2 ^ e) l t)
 
--- none is listed twice
+-- no probe is listed twice
 pub probe-once : (accs : List ℕ) (e x y : ℕ) → x < y → y < length (probes accs e) → getD (probes accs e) x 0 ≢ getD (probes accs e) y 0
 probe-once accs e x y l h q =
     let v = at accs e x (omega arith) in
@@ -71,8 +71,8 @@ pub probes-few : (accs : List ℕ) (e : ℕ) → length (probes accs e) ≤ 2 ^ 
 unfolding probes select
 probes-few accs e = gather-short (isProbe accs) (λ y. y) (2 ^ e)
 
--- 001's Lemma 4: a set A includes no acceptance exactly if some probe has no event of it. The events outside A hit, and a probe
--- inside them misses A ..
+-- 001's Lemma 4, forth: where a set A includes no acceptance, some probe has no event of it. The events outside A hit,
+-- and a probe inside them misses A
 pub missed→ : (accs : List ℕ) (e : ℕ) → Narrow accs e → (A : ℕ) → ((j : ℕ) → j < length accs → ¬ Within (getD accs j 0) A) → (X : ℕ) × Probe accs X × Apart X A
 missed→ accs e n A h = let w = probe-inside accs rest rest-hits in (w .0, w .1, λ i. omega (arith, w .2 i, rest-apart i))
   where
@@ -107,7 +107,8 @@ missed→ accs e n A h = let w = probe-inside accs rest rest-hits in (w .0, w .1
             below i b (inl k) = k
             below i b (inr k) = absurd (omega (arith, bit-high e i (getD accs j 0) (n j l) k))
 
--- .. and an acceptance inside A would give the probe an event of A
+-- 001's Lemma 4, back: where a probe has no event of A, A includes no acceptance. One inside A would give the probe an
+-- event of A
 pub missed← : (accs : List ℕ) (X A : ℕ) → Probe accs X → Apart X A → (j : ℕ) → j < length accs → ¬ Within (getD accs j 0) A
 missed← accs X A p z j l w = let m = p .hits j l in omega (arith, w (m .0), m .1, m .2, z (m .0))
 
@@ -119,24 +120,24 @@ probes-none accs e j l z = go (lt-or-ge 0 (length (probes accs e)))
     go (inl h) = let w = probe-at accs e 0 h .hits j l in absurd (omega (arith, w .1, ap (λ (y : ℕ). bit y (w .0)) z, bits-zero (w .0)))
     go (inr h) = omega arith
 
--- without it there is one
+-- without the empty set among the acceptances there is a probe
 pub probes-some : (accs : List ℕ) (e : ℕ) → Narrow accs e → ((j : ℕ) → j < length accs → getD accs j 0 ≢ 0) → 0 < length (probes accs e)
 probes-some accs e n h =
     let m = missed→ accs e n 0 (λ j l w. let b = some-bit (getD accs j 0) (h j l) in omega (arith, w (b .0), b .1, bits-zero (b .0))) in
     let w = probe-listed accs e n (m .0) (m .1) in omega (arith, w .1)
 
--- the choice number of a run picks a probe ..
+-- the choice number of a run picks a probe
 pub choice-probe : (accs : List ℕ) (e h : ℕ) → 0 < length (probes accs e) → Probe accs (getD (probes accs e) (h % length (probes accs e)) 0)
 choice-probe accs e h l = probe-at accs e (h % length (probes accs e)) (mod-lt h l)
 
--- .. and every probe is picked by one of 16 bits
+-- every probe is picked by a choice number of 16 bits
 pub probe-chosen : (accs : List ℕ) (e : ℕ) → e ≤ 12 → Narrow accs e → (X : ℕ) → Probe accs X → (h : ℕ) × (h < 65536) × (getD (probes accs e) (h % length (probes accs e)) 0 ≡ X)
 probe-chosen accs e b n X p =
     let w = probe-listed accs e n X p in
     let k : 2 ^ e ≤ 2 ^ 12 = pow-mono b in
     (w .0, omega (arith, w .1, probes-few accs e), ap (λ (x : ℕ). getD (probes accs e) x 0) (mod-eq-of-lt (w .1)) ∙ w .2)
 
--- the order: ascending by number
+-- the order of the list of probes: ascending by number
 pub probes-ascending : (accs : List ℕ) (e x y : ℕ) → x < y → y < length (probes accs e) → getD (probes accs e) x 0 < getD (probes accs e) y 0
 unfolding probes
 probes-ascending accs e x y l h = select-ascends (isProbe accs) (2 ^ e) x y l h

@@ -1,4 +1,4 @@
--- The single pass over the acceptances is the literal test, and the turns over all sets list the probes.
+-- The single pass over the acceptances is the literal test, and the candidates that are listed are the probes.
 use mathlib.Core.Path.{_≡_, refl, sym, ap, _∙_}
 use mathlib.Core.Logic.{_⊎_, inl, inr, _≢_}
 use mathlib.Core.Bool.{Bool, true, false, cond, false≢true}
@@ -15,7 +15,7 @@ use Rattle.base.specs.Gather.{gather, select}
 use Rattle.events.specs.Bit.{bit, bit·zero, bit·suc, bit≤1, bit-and, bit-or, bit-one, bit-other, bit-high, bits-zero, bits-ext, Within, apart-and, common, meet}
 use Rattle.probes_spec.specs.Probes.{isProbe, probes, Hits, Probe}
 use Rattle.probes_spec.specs.HitLaws.{isProbe→, isProbe←, Alone, alone→probe, probe→alone}
-use Rattle.probes_spec.specs.Shapes.{lone, onePass, turns, value, turn}
+use Rattle.probes_spec.specs.Shapes.{lone, onePass, candidateCount, candidate, listed}
 
 -- ---- a set and its predecessor have no event in common exactly if the set has at most one event
 
@@ -58,7 +58,7 @@ lone← i = rw (eq-eqb (bitAnd (2 ^ i) (2 ^ i - 1)) 0 (apart-and (2 ^ i) (2 ^ i 
 
 -- ---- the pass
 
--- what it finds: x meets every acceptance, and each event of x was alone before, or is alone in a meeting
+-- what the pass finds: x meets every acceptance, and each event of x was alone before, or is alone in a meeting
 record Passed (accs : List ℕ) (x own : ℕ) : Type 0 where
   met : Hits accs x
   whole : (i : ℕ) → bit x i ≡ 1 → (bit own i ≡ 1) ⊎ Alone accs x i
@@ -135,9 +135,9 @@ onePass-isProbe accs x = same (onePass accs x 0) (isProbe accs x) (λ t. isProbe
     back : Probe accs x → Passed accs x 0
     back p = record { met = p .hits; whole = λ i b. inr (probe→alone accs x p i b) }
 
--- ---- the turns
+-- ---- the candidates
 
--- all turns together list the probes
-pub turns-probes : (accs : List ℕ) (e : ℕ) → gather (turn accs e) (value e) (turns e) ≡ probes accs e
-unfolding probes select turns turn value
-turns-probes accs e = refl
+-- all candidates that are listed, together, are the probes
+pub candidates-probes : (accs : List ℕ) (e : ℕ) → gather (listed accs e) (candidate e) (candidateCount e) ≡ probes accs e
+unfolding probes select candidateCount listed candidate
+candidates-probes accs e = refl

@@ -10,6 +10,6 @@ use Rattle.events.specs.Sets.{inside}
 unfoldable pub covering : List ℕ → ℕ → ℕ → Bool
 covering sets c A = any (λ l. inside (getD sets l 0) A) c
 
--- one of the first d of the others includes none of the first c sets
+-- one of the first d of the other sets includes none of the first c sets
 unfoldable pub refusing : List ℕ → ℕ → List ℕ → ℕ → Bool
 refusing sets c others d = any (λ j. not (covering sets c (getD others j 0))) d

@@ -1,9 +1,9 @@
-// When a pair of nodes is violating: what the device does or may refuse at its node and the reference does not at its own.
-// Every public function takes every row.
+// When a pair of nodes is violating: what the device does or may refuse at its node and the reference does not at its
+// own. Every public function takes every row.
 ghost use mathlib.Core.Path.{_≡_};
 ghost use Prim.Native.Nat.{ℕ, _≤_};
 ghost use Rattle.sheet_spec.specs.Kept.{initials};
-ghost use Rattle.refinement_spec.specs.PairTests.{strays, hasRefusal, violates};
+ghost use Rattle.refinement_spec.specs.ViolatingPairs.{strays, hasRefusal, violates};
 ghost use Rattle.refinement.specs.Shapes.{covering, refusing};
 use sheet_spec::Row;
 
@@ -27,7 +27,7 @@ fn is_covering(sets: &[u16; 16], c: usize, set: u16) -> bool
     false
 }
 
-// Whether one of the first `d` of the others includes none of the first `c` sets.
+// Whether one of the first `d` of the other sets includes none of the first `c` sets.
 fn is_refusing(sets: &[u16; 16], c: usize, others: &[u16; 16], d: usize) -> bool
     requires { ⌜ (c ≤ 16) × (d ≤ 16) ⌝ }
     ensures { λ r. ⌜ r ≡ refusing (now (sets .entry)) c (now (others .entry)) d ⌝ }
@@ -40,8 +40,9 @@ fn is_refusing(sets: &[u16; 16], c: usize, others: &[u16; 16], d: usize) -> bool
     false
 }
 
-// Whether some acceptance of the device includes none of the reference's. A place from 16 on holds the empty set: every set
-// includes it, and it includes no other. (The sets are copied out first: lent inside their rows they are read more slowly.)
+// Whether some acceptance of the device includes none of the reference's. A place from 16 on holds the empty set: every
+// set includes it, and it includes no other. (The sets are copied out first: lent inside their rows they are read more
+// slowly.)
 pub fn has_refusal(reference: Row, device: Row) -> bool
     ensures { λ r. ⌜ r ≡ hasRefusal reference device ⌝ }
 {
@@ -58,10 +59,11 @@ pub fn has_refusal(reference: Row, device: Row) -> bool
     is_refusing(&sets, c, &others, d)
 }
 
-// Whether a pair of rows is violating, by the initials `x` of the reference and `y` of the device; with traces alone only strays
-// count.
+// Whether a pair of rows is violating, by the initials `x` of the reference and `y` of the device; with traces alone
+// only strays count.
 pub fn is_violating(x: u16, y: u16, reference: Row, device: Row, trace_only: bool) -> bool
-    ensures { λ r. ⌜ ((e : ℕ) → x ≡ initials e reference → y ≡ initials e device → r ≡ violates «trace_only» e reference device) ⌝ }
+    ensures { λ r. ⌜ ((e : ℕ) → x ≡ initials e reference → y ≡ initials e device
+        → r ≡ violates «trace_only» e reference device) ⌝ }
 {
     if stray_events(x, y) != 0 {
         return true;

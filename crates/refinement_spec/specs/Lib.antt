@@ -1,4 +1,4 @@
 pub mod Refinement
-pub mod PairTests
+pub mod ViolatingPairs
 pub mod PairLaws
 pub mod RefinementLaws

@@ -1,5 +1,5 @@
--- What the tests of PairTests mean: strays as events, refusals as acceptances and as the sets that may be refused. r is the
--- reference's row, q the device's.
+-- What the tests of ViolatingPairs mean: strays as events, refusals as acceptances and as the sets that may be refused.
+-- r is the reference's row, q the device's.
 use mathlib.Core.Path.{_≡_, refl, ap}
 use mathlib.Core.Logic.{_⊎_, inl, inr, _↔_}
 use mathlib.Core.Bool.{Bool, true, false, not, _&&_}
@@ -17,9 +17,9 @@ use Rattle.sheet_spec.specs.Kept.{acceptance, initials}
 use Rattle.sheet_spec.specs.Faults.{Initial}
 use Rattle.sheet_spec.specs.RuleLaws.{initials→, initials←}
 use Rattle.refinement_spec.specs.Refinement.{MayRefuse}
-use Rattle.refinement_spec.specs.PairTests.{strays, hasStray, firstStray, covers, hasRefusal, violates}
+use Rattle.refinement_spec.specs.ViolatingPairs.{strays, hasStray, firstStray, covers, hasRefusal, violates}
 
--- a digit of the strays
+-- a digit of the strays of X and Y
 strays-digit : (i X Y : ℕ) → bit (strays X Y) i ≡ bit Y i - bit X i
 unfolding strays
 strays-digit zero X Y = rw (bit·zero (strays X Y), bit·zero X, bit·zero Y) (omega (arith, and-step X Y, and-le-r X Y, and-le-r (X / 2) (Y / 2)))
@@ -28,7 +28,7 @@ strays-digit (suc i) X Y = rw (bit·suc (strays X Y) i, bit·suc X i, bit·suc Y
     half : strays X Y / 2 ≡ strays (X / 2) (Y / 2)
     half = omega (arith, and-step X Y, and-le-r X Y, and-le-r (X / 2) (Y / 2))
 
--- an event is a stray exactly if it is in Y and not in X
+-- an event is a stray exactly if it is in the device's initials Y and not in the reference's initials X
 pub strays-bit : (X Y i : ℕ) → (bit (strays X Y) i ≡ 1) ↔ ((bit Y i ≡ 1) × (bit X i ≡ 0))
 strays-bit X Y i = (forth, back)
   where
@@ -137,7 +137,7 @@ refused-refusal r q X m n = go (dec (hasRefusal r q))
     go (inl t) = t
     go (inr t) = absurd (n (no-refusal-refuses r q t X m))
 
--- the events below e that are not in A are apart from A ..
+-- the events below e that are not in A are apart from A
 rest-apart : (e A : ℕ) → A < 2 ^ e → Apart A (2 ^ e - 1 - A)
 rest-apart e A h i = go (lt-or-ge i e)
   where
@@ -145,7 +145,7 @@ rest-apart e A h i = go (lt-or-ge i e)
     go (inl l) = omega (arith, bit-rest e i A h l, bit≤1 A i)
     go (inr l) = omega (arith, bit-high e i A h l, bit≤1 (2 ^ e - 1 - A) i)
 
--- .. and what is apart from them is inside A
+-- a set that is apart from the events below e that are not in A is inside A
 rest-within : (e A B : ℕ) → A < 2 ^ e → B < 2 ^ e → Apart B (2 ^ e - 1 - A) → Within B A
 rest-within e A B h k a i = go (lt-or-ge i e)
   where
@@ -167,18 +167,18 @@ refusal-set e r q nr nq t = go (refusal-means r q .0 t)
         never (l, k, a) = n l k (rest-within e (acceptance q j) (acceptance r l) (nq j h) (nr l k) a)
 
 -- a pair is violating exactly if it has a stray or, unless traces alone count, a refusal
-pub violates-means : (to : Bool) (e : ℕ) (r q : Row)
-    → (violates to e r q ≡ true) ↔ ((hasStray e r q ≡ true) ⊎ ((to ≡ false) × (hasRefusal r q ≡ true)))
+pub violates-means : (traceOnly : Bool) (e : ℕ) (r q : Row)
+    → (violates traceOnly e r q ≡ true) ↔ ((hasStray e r q ≡ true) ⊎ ((traceOnly ≡ false) × (hasRefusal r q ≡ true)))
 unfolding violates
-violates-means to e r q = (forth, back)
+violates-means traceOnly e r q = (forth, back)
   where
-    forth : violates to e r q ≡ true → (hasStray e r q ≡ true) ⊎ ((to ≡ false) × (hasRefusal r q ≡ true))
-    forth t = go (or-e (hasStray e r q) (not to && hasRefusal r q) t)
+    forth : violates traceOnly e r q ≡ true → (hasStray e r q ≡ true) ⊎ ((traceOnly ≡ false) × (hasRefusal r q ≡ true))
+    forth t = go (or-e (hasStray e r q) (not traceOnly && hasRefusal r q) t)
       where
-        go : (hasStray e r q ≡ true) ⊎ ((not to && hasRefusal r q) ≡ true) → (hasStray e r q ≡ true) ⊎ ((to ≡ false) × (hasRefusal r q ≡ true))
+        go : (hasStray e r q ≡ true) ⊎ ((not traceOnly && hasRefusal r q) ≡ true) → (hasStray e r q ≡ true) ⊎ ((traceOnly ≡ false) × (hasRefusal r q ≡ true))
         go (inl s) = inl s
-        go (inr s) = inr (not-true to (and-l (not to) (hasRefusal r q) s), and-r (not to) (hasRefusal r q) s)
+        go (inr s) = inr (not-true traceOnly (and-l (not traceOnly) (hasRefusal r q) s), and-r (not traceOnly) (hasRefusal r q) s)
 
-    back : (hasStray e r q ≡ true) ⊎ ((to ≡ false) × (hasRefusal r q ≡ true)) → violates to e r q ≡ true
-    back (inl s) = or-l (not to && hasRefusal r q) s
+    back : (hasStray e r q ≡ true) ⊎ ((traceOnly ≡ false) × (hasRefusal r q ≡ true)) → violates traceOnly e r q ≡ true
+    back (inl s) = or-l (not traceOnly && hasRefusal r q) s
     back (inr s) = or-r (hasStray e r q) (and-i (not-t (s .0)) (s .1))

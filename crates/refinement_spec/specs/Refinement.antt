@@ -1,5 +1,5 @@
--- What a sheet does and refuses after a trace, what a violation is, and refinement (01, "A sheet" and "A comparison"; the
--- mission's demands 2 and 3). P is the reference, Q the device. No test is in these definitions.
+-- What a sheet does and refuses after a trace, what a violation is, and refinement (01, "A sheet" and "A comparison";
+-- the mission's demands 2 and 3). P is the reference, Q the device. No test is in these definitions.
 use mathlib.Core.Logic.{_⊎_}
 use mathlib.Core.Bool.{Bool, true, false}
 use mathlib.Core.List.{List}
@@ -46,11 +46,11 @@ Violation P Q t = Trace P t × Trace Q t × (Strays P Q t ⊎ Overrefuses P Q t)
 abbrev pub Refines : Sheet → Sheet → Type 0
 Refines P Q = (t : List ℕ) → Trace Q t → Trace P t × ((X : ℕ) → Refuses Q t X → Refuses P t X)
 
--- with traces alone, refusals left out: the device does a stray after a common trace
+-- a violation with traces alone, refusals left out: the device does a stray after a common trace
 abbrev pub TraceViolation : Sheet → Sheet → List ℕ → Type 0
 TraceViolation P Q t = Trace P t × Trace Q t × Strays P Q t
 
--- every trace of the device is also the reference's
+-- refinement with traces alone: every trace of the device is also the reference's
 abbrev pub TraceRefines : Sheet → Sheet → Type 0
 TraceRefines P Q = (t : List ℕ) → Trace Q t → Trace P t
 

@@ -1,4 +1,5 @@
--- What sound sheets do and refuse after a trace, and what violations and refinement come to over the pairs of their nodes.
+-- What sound sheets do and refuse after a trace, and what violations and refinement come to over the pairs of their
+-- nodes.
 use mathlib.Core.Path.{_≡_, refl, sym, _∙_, subst}
 use mathlib.Core.Logic.{_⊎_, inl, inr, _↔_}
 use mathlib.Core.Bool.{Bool, true, false, true≢false}
@@ -17,7 +18,7 @@ use Rattle.sheet_spec.specs.RuleLaws.{Walk→, Walk←}
 use Rattle.sheet_spec.specs.Sound.{Sound}
 use Rattle.refinement_spec.specs.Refinement.{After, Trace, Does, MayRefuse, Refuses, Strays, Overrefuses}
 use Rattle.refinement_spec.specs.Refinement.{Violation, Refines, TraceViolation, TraceRefines, ViolationIn, RefinesIn}
-use Rattle.refinement_spec.specs.PairTests.{hasStray, hasRefusal, violating}
+use Rattle.refinement_spec.specs.ViolatingPairs.{hasStray, hasRefusal, violating}
 use Rattle.refinement_spec.specs.PairLaws.{stray-means, no-refusal-refuses, refused-refusal, refusal-set, violates-means}
 
 module _ {s : Sheet} (o : Sound s) where
@@ -84,7 +85,7 @@ module _ {s : Sheet} (o : Sound s) where
   does-at : (t : List ℕ) (v i : ℕ) → After s t v → Does s t i → Initial (s .e) (row s v) i
   does-at t v i a (w, b, h) = rw (after-unique t v w a b) h
 
-  -- what it refuses after a trace, the node reached may refuse
+  -- what the sheet refuses after a trace, the node reached may refuse
   refuses-at : (t : List ℕ) (v X : ℕ) → After s t v → Refuses s t X → MayRefuse (row s v) X
   refuses-at t v X a (w, b, h) = rw (after-unique t v w a b) h
 
@@ -128,7 +129,7 @@ module _ {P Q : Sheet} (op : Sound P) (oq : Sound Q) (same : P .e ≡ Q .e) wher
   violation-bounded-set t (v, a) (w, b) h = refusal-at t v w a b (overrefuses-at t v w a b .0 h)
 
   -- a violation is a common trace to a violating pair
-  pub violation-means : (to : Bool) (t : List ℕ) → ViolationIn to P Q t ↔ PairLeads (graph P) (graph Q) (violating to P Q) 0 0 t
+  pub violation-means : (traceOnly : Bool) (t : List ℕ) → ViolationIn traceOnly P Q t ↔ PairLeads (graph P) (graph Q) (violating traceOnly P Q) 0 0 t
   unfolding violating
   violation-means true t = (forth, back)
     where
@@ -201,7 +202,7 @@ module _ {P Q : Sheet} (op : Sound P) (oq : Sound Q) (same : P .e ≡ Q .e) wher
   no-strays f t (i, d, n) = n (does-means op t i .1 (f (t ++ (i ∷ [])) (does-means oq t i .0 d)))
 
   -- the device refines the reference exactly if there is no violation
-  pub refines-means : (to : Bool) → RefinesIn to P Q ↔ ((t : List ℕ) → ¬ ViolationIn to P Q t)
+  pub refines-means : (traceOnly : Bool) → RefinesIn traceOnly P Q ↔ ((t : List ℕ) → ¬ ViolationIn traceOnly P Q t)
   refines-means true = (forth, back)
     where
       forth : TraceRefines P Q → (t : List ℕ) → ¬ TraceViolation P Q t
@@ -229,39 +230,39 @@ module _ {P Q : Sheet} (op : Sound P) (oq : Sound Q) (same : P .e ≡ Q .e) wher
               go (inr h) = (common .0, common .1, no-refusal-refuses (row P (common .0)) (row Q w) h X m)
 
   -- where there is a violation, there is one after fewer events than there are pairs of nodes
-  pub violation-near : (to : Bool) (t : List ℕ) → ViolationIn to P Q t → (s : List ℕ) × (length s < P .n * Q .n) × ViolationIn to P Q s
-  violation-near to t h =
-      let l = violation-means to t .0 h in
+  pub violation-near : (traceOnly : Bool) (t : List ℕ) → ViolationIn traceOnly P Q t → (s : List ℕ) × (length s < P .n * Q .n) × ViolationIn traceOnly P Q s
+  violation-near traceOnly t h =
+      let l = violation-means traceOnly t .0 h in
       let b = pair-bound (op .graphed) (oq .graphed) t (l .in-r) (l .in-d) in
-      (b .0, b .1, violation-means to (b .0) .1 (record { in-r = rw (b .2) (l .in-r); in-d = rw (b .3) (l .in-d); ends = rw (b .2, b .3) (l .ends) }))
+      (b .0, b .1, violation-means traceOnly (b .0) .1 (record { in-r = rw (b .2) (l .in-r); in-d = rw (b .3) (l .in-d); ends = rw (b .2, b .3) (l .ends) }))
 
   -- the device refines the reference exactly if no violating pair is nearer than there are pairs
-  pub refines-distance : (to : Bool) → RefinesIn to P Q ↔ (P .n * Q .n ≤ pairDistance (graph P) (graph Q) (violating to P Q))
-  refines-distance to = (forth, back)
+  pub refines-distance : (traceOnly : Bool) → RefinesIn traceOnly P Q ↔ (P .n * Q .n ≤ pairDistance (graph P) (graph Q) (violating traceOnly P Q))
+  refines-distance traceOnly = (forth, back)
     where
-      forth : RefinesIn to P Q → P .n * Q .n ≤ pairDistance (graph P) (graph Q) (violating to P Q)
-      forth f = go (lt-or-ge (pairDistance (graph P) (graph Q) (violating to P Q)) (P .n * Q .n))
+      forth : RefinesIn traceOnly P Q → P .n * Q .n ≤ pairDistance (graph P) (graph Q) (violating traceOnly P Q)
+      forth f = go (lt-or-ge (pairDistance (graph P) (graph Q) (violating traceOnly P Q)) (P .n * Q .n))
         where
-          go : (pairDistance (graph P) (graph Q) (violating to P Q) < P .n * Q .n) ⊎ (P .n * Q .n ≤ pairDistance (graph P) (graph Q) (violating to P Q))
-              → P .n * Q .n ≤ pairDistance (graph P) (graph Q) (violating to P Q)
+          go : (pairDistance (graph P) (graph Q) (violating traceOnly P Q) < P .n * Q .n) ⊎ (P .n * Q .n ≤ pairDistance (graph P) (graph Q) (violating traceOnly P Q))
+              → P .n * Q .n ≤ pairDistance (graph P) (graph Q) (violating traceOnly P Q)
           go (inl l) =
-              let w = pairDistance-means (op .graphed) (oq .graphed) (violating to P Q) .0 l in
-              absurd (refines-means to .0 f (w .0) (violation-means to (w .0) .1 (w .1)))
+              let w = pairDistance-means (op .graphed) (oq .graphed) (violating traceOnly P Q) .0 l in
+              absurd (refines-means traceOnly .0 f (w .0) (violation-means traceOnly (w .0) .1 (w .1)))
           go (inr l) = l
 
-      back : P .n * Q .n ≤ pairDistance (graph P) (graph Q) (violating to P Q) → RefinesIn to P Q
-      back d = refines-means to .1 (λ t h. pairDistance-none (op .graphed) (oq .graphed) (violating to P Q) d t (violation-means to t .0 h))
+      back : P .n * Q .n ≤ pairDistance (graph P) (graph Q) (violating traceOnly P Q) → RefinesIn traceOnly P Q
+      back d = refines-means traceOnly .1 (λ t h. pairDistance-none (op .graphed) (oq .graphed) (violating traceOnly P Q) d t (violation-means traceOnly t .0 h))
 
   -- the device refines the reference, or there is a violation
-  pub refines-or-violation : (to : Bool) → RefinesIn to P Q ⊎ ((t : List ℕ) × ViolationIn to P Q t)
-  refines-or-violation to = go (lt-or-ge (pairDistance (graph P) (graph Q) (violating to P Q)) (P .n * Q .n))
+  pub refines-or-violation : (traceOnly : Bool) → RefinesIn traceOnly P Q ⊎ ((t : List ℕ) × ViolationIn traceOnly P Q t)
+  refines-or-violation traceOnly = go (lt-or-ge (pairDistance (graph P) (graph Q) (violating traceOnly P Q)) (P .n * Q .n))
     where
-      go : (pairDistance (graph P) (graph Q) (violating to P Q) < P .n * Q .n) ⊎ (P .n * Q .n ≤ pairDistance (graph P) (graph Q) (violating to P Q))
-          → RefinesIn to P Q ⊎ ((t : List ℕ) × ViolationIn to P Q t)
-      go (inl l) = let w = pairDistance-means (op .graphed) (oq .graphed) (violating to P Q) .0 l in inr (w .0, violation-means to (w .0) .1 (w .1))
-      go (inr l) = inl (refines-distance to .1 l)
+      go : (pairDistance (graph P) (graph Q) (violating traceOnly P Q) < P .n * Q .n) ⊎ (P .n * Q .n ≤ pairDistance (graph P) (graph Q) (violating traceOnly P Q))
+          → RefinesIn traceOnly P Q ⊎ ((t : List ℕ) × ViolationIn traceOnly P Q t)
+      go (inl l) = let w = pairDistance-means (op .graphed) (oq .graphed) (violating traceOnly P Q) .0 l in inr (w .0, violation-means traceOnly (w .0) .1 (w .1))
+      go (inr l) = inl (refines-distance traceOnly .1 l)
 
 -- every sheet refines itself
-pub refines-self : (to : Bool) (s : Sheet) → RefinesIn to s s
+pub refines-self : (traceOnly : Bool) (s : Sheet) → RefinesIn traceOnly s s
 refines-self true s = λ t h. h
 refines-self false s = λ t h. (h, λ X r. r)

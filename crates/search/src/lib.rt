@@ -1,13 +1,17 @@
 // A breadth-first search over the pairs of nodes of two graphs that are given as flat tables of successors, for the
-// nearest pair of a given table of bad ones, in a lent work list (crate `entries`).
+// nearest pair of a given table of bad ones, in a lent work list (module `entries`).
+mod entries;
+mod queue;
+mod trace_back;
+
 ghost use mathlib.Core.Path.{_≡_};
 ghost use Prim.Native.Nat.{_≤_};
 ghost use lib.ListN.{length, drop, replicate};
-ghost use Rattle.search_spec.specs.Words.{wordsFor};
-ghost use Rattle.search_spec.specs.Found.{settled, readOut, Searched};
-ghost use Rattle.search_spec.specs.Read.{SettleOk, SearchOk};
+ghost use Rattle.search_theory.specs.Words.{wordsFor};
+ghost use Rattle.search_theory.specs.Found.{settled, readOut, Searched};
+ghost use Rattle.search_theory.specs.Read.{SettleOk, SearchOk};
 use queue::Stop;
-use search_spec::Found;
+use search_theory::Found;
 
 // The answer where a search ended, with its trace. Links may then stand in the places of the queue.
 fn settle(q: usize, work: &mut [u16], n: usize, stop: Stop, trace: &mut [u8]) -> Found
@@ -60,7 +64,7 @@ pub fn search(
     let n = p * q;
     let words = 2 * n;
     clear(&mut work[n..words]);
-    let stop = queue::run(reference, device, p, q, e, bad, work, n);
+    let stop = queue::explore(reference, device, p, q, e, bad, work, n);
     let found = settle(q, work, n, stop, trace);
     clear(&mut work[..words]);
     found

@@ -1,5 +1,5 @@
-// A sheet read from bytes, and a kept sheet checked (01, "A sheet" and the refusals 1 to 8). Both entry points, `read` and
-// `check`, take any content and answer with the sheet or the number of the refusal.
+// A sheet read from bytes, and a kept sheet checked (01, "A sheet" and the refusals 1 to 8). Both entry points take any
+// content: `read` answers with the sheet or the number of the refusal, `check` with the number, 0 for none.
 ghost use mathlib.Core.Path.{_≡_};
 ghost use Prim.Native.Nat.{_<_};
 ghost use Rattle.sheet_spec.specs.Rules.{sheetFault};
@@ -12,25 +12,7 @@ use sheet_spec::Sheet;
 pub fn check(s: Sheet) -> u8
     ensures { λ r. ⌜ r ≡ sheetFault s ⌝ }
 {
-    if !layout::ranges_ok(s.e, s.n) {
-        return 3;
-    }
-    if !sheet_rules::counts_ok(s) {
-        return 5;
-    }
-    if !sheet_rules::successors_ok(s) {
-        return 6;
-    }
-    if !sheet_rules::sets_ok(s) {
-        return 7;
-    }
-    if !sheet_rules::blanks_ok(s) {
-        return 7;
-    }
-    if !reached::reached_ok(s) {
-        return 8;
-    }
-    0
+    sheet_rules::sheet_fault(s)
 }
 
 // A sheet with 0 in every place.
@@ -68,13 +50,9 @@ fn refused(k: u8) -> ReadSheet
 pub fn read(bytes: &[u8]) -> ReadSheet
     ensures { λ r. ⌜ r ≡ readSheet (now (bytes .entry)) ⌝ }
 {
-    let head = layout::head_fault(bytes);
-    if head != 0 {
-        return refused(head);
-    }
-    let layout = layout::layout_fault(bytes, layout::byte_at(bytes, 5), layout::byte_at(bytes, 6));
-    if layout != 0 {
-        return refused(layout);
+    let fault = sheet_bytes::fault_in(bytes);
+    if fault != 0 {
+        return refused(fault);
     }
     let s = sheet_bytes::sheet_of(bytes);
     let graph = sheet_rules::graph_fault(s);

@@ -1,10 +1,27 @@
-// The sheet that bytes spell (01, "A sheet"), whatever they are: each row from its place, unused places as 01 has them.
+// The bytes of a sheet (01, "A sheet"): the refusals 1 to 5, and the sheet that they spell, whatever they are: each row
+// from its place, unused places as 01 has them.
+mod layout;
+
 ghost use mathlib.Core.Path.{_≡_};
 ghost use Prim.Native.Nat.{_≤_, _<_};
 ghost use Rattle.base.specs.Table.{upTo};
+ghost use Rattle.base.specs.Refusal.{orElse};
+ghost use Rattle.sheet_spec.specs.Reading.{eventCount, nodeCount, nodesAt, headFault, layoutFault};
 ghost use Rattle.sheet_spec.specs.Reading.{startOf, succOf, setsOf, rowAt, unusedRow, rowOf, sheetOf};
 use sheet_spec::Row;
 use sheet_spec::Sheet;
+
+// The refusal of the bytes before what they spell is looked at, 0 for none: 1, 2, 3; then 4 and 5, by position.
+pub fn fault_in(bytes: &[u8]) -> u8
+    ensures { λ r. ⌜ r ≡ orElse (headFault (now (bytes .entry)))
+        (layoutFault (now (bytes .entry)) (eventCount (now (bytes .entry))) (nodeCount (now (bytes .entry))) nodesAt) ⌝ }
+{
+    let head = layout::head_fault(bytes);
+    if head != 0 {
+        return head;
+    }
+    layout::layout_fault(bytes, layout::byte_at(bytes, 5), layout::byte_at(bytes, 6))
+}
 
 // The successor on event i of the node at a place, 255 from event `e` on.
 fn succ_of(bytes: &[u8], at: usize, e: usize, i: usize) -> u8
@@ -71,7 +88,7 @@ fn row_at(bytes: &[u8], e: usize, at: usize) -> Row
     }
 }
 
-// The row of an unused node.
+// The row of an unused node: 255 for each successor, 0 for each set and for C.
 fn unused_row() -> Row
     ensures { λ r. ⌜ r ≡ unusedRow ⌝ }
 {
@@ -96,7 +113,7 @@ fn row_of(bytes: &[u8], e: usize, n: usize, v: usize, at: usize) -> Row
     }
 }
 
-// All rows, one for each of 32 nodes.
+// The rows that the bytes spell, one for each of 32 nodes.
 fn rows_of(bytes: &[u8], e: usize, n: usize) -> [Row; 32]
     requires { ⌜ e ≤ 255 ⌝ }
     ensures { λ r. ⌜ r ≡ upTo (rowOf (now (bytes .entry)) e n) 32 ⌝ }

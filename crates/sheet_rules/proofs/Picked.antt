@@ -1,9 +1,12 @@
 -- How a refusal is picked test by test.
-use mathlib.Core.Path.{_≡_}
-use mathlib.Core.Bool.{Bool, true, false, not}
-use Prim.Native.Nat.{ℕ}
+use mathlib.Core.Path.{_≡_, sym, _∙_}
+use mathlib.Core.Bool.{Bool, true, false, not, _&&_}
+use Prim.Native.Nat.{ℕ, _≤_}
 use borrow.Author.Tests.{not-true, not-false}
 use Rattle.base.specs.Refusal.{unless}
+use Rattle.sheet_spec.specs.declared.Sheet.{Sheet}
+use Rattle.sheet_spec.specs.Rules.{rangesOk}
+use Rattle.sheet_spec.specs.RuleLaws.{ranges→}
 
 -- a rule whose test t passes leaves the number to what follows; one whose test fails gives its own
 pub kept : (a : Bool) {t : Bool} (k m r : ℕ) → t ≡ a → not t ≡ false → m ≡ r → m ≡ unless a k r
@@ -11,3 +14,12 @@ kept a {t} k m r p q e = rw (← p, not-false t q) e
 
 pub broken : (a : Bool) {t : Bool} (k r : ℕ) → t ≡ a → not t ≡ true → k ≡ unless a k r
 broken a {t} k r p q = rw (← p, not-true t q)
+
+-- two rules under one number are one rule
+pub both : (a b : Bool) (k m r : ℕ) → m ≡ unless a k (unless b k r) → m ≡ unless (a && b) k r
+both true b k m r e = e
+both false b k m r e = e
+
+-- where E and N are in range, there are at most 32 nodes
+pub few : (s : Sheet) {t : Bool} → t ≡ rangesOk (s .e) (s .n) → not t ≡ false → s .n ≤ 32
+few s {t} p q = ranges→ (s .e) (s .n) (sym p ∙ not-false t q) .n-high

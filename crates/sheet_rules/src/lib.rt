@@ -1,27 +1,59 @@
-// The rules 5, 6 and 7 over all rows of a kept sheet, and the refusal that its graph gives: 6, 7 or 8.
+// The rules of a sheet (01, "Who can cause a refusal"): 3 of E and N, 5 of a row's count, 6 and 7 of its successors,
+// sets and unused places, 8 of the graph. And the refusals that they give, of a kept sheet and of one that was just
+// read.
+mod reached;
+mod rows;
+mod sets;
+
 ghost use mathlib.Core.Path.{_≡_};
 ghost use Prim.Native.Nat.{_≤_};
-ghost use Rattle.sheet_spec.specs.Rules.{countsOk, successorsOk, setsOk, blanksOk};
+ghost use Rattle.sheet_spec.specs.Rules.{rangesOk, countOk, countsOk, successorsOk, setsOk, blanksOk, sheetFault};
 ghost use Rattle.sheet_spec.specs.Reading.{graphFault};
 use sheet_spec::Sheet;
 
-// 5: the counts.
-pub fn counts_ok(s: Sheet) -> bool
+// 3: whether E and N are in range.
+pub fn ranges_ok(e: u8, n: u8) -> bool
+    ensures { λ r. ⌜ r ≡ rangesOk e n ⌝ }
+{
+    if e < 1 {
+        return false;
+    }
+    if e > 12 {
+        return false;
+    }
+    if n < 1 {
+        return false;
+    }
+    n <= 32
+}
+
+// 5: whether a count is 1 to 16.
+pub fn count_ok(c: u8) -> bool
+    ensures { λ r. ⌜ r ≡ countOk c ⌝ }
+{
+    if c < 1 {
+        return false;
+    }
+    c <= 16
+}
+
+// 5: whether the count of every node is 1 to 16.
+fn counts_ok(s: Sheet) -> bool
     requires { ⌜ s .n ≤ 32 ⌝ }
     ensures { λ r. ⌜ r ≡ countsOk s ⌝ }
 {
     let n = s.n as usize;
     for v in 0..n {
         let row = s.rows[v];
-        if !row_rules::count_ok(row.c) {
+        if !count_ok(row.c) {
             return false;
         }
     }
     true
 }
 
-// 6: the successors.
-pub fn successors_ok(s: Sheet) -> bool
+// 6: whether the successors of every node are 255 or below N.
+fn successors_ok(s: Sheet) -> bool
     requires { ⌜ s .n ≤ 32 ⌝ }
     ensures { λ r. ⌜ r ≡ successorsOk s ⌝ }
 {
@@ -29,15 +61,15 @@ pub fn successors_ok(s: Sheet) -> bool
     let n = s.n as usize;
     for v in 0..n {
         let row = s.rows[v];
-        if !row_rules::row_successors_ok(row, e, n) {
+        if !rows::row_successors_ok(row, e, n) {
             return false;
         }
     }
     true
 }
 
-// 7: the sets.
-pub fn sets_ok(s: Sheet) -> bool
+// 7: whether the sets of every node ascend, lie inside its initials, and include none before them.
+fn sets_ok(s: Sheet) -> bool
     requires { ⌜ s .n ≤ 32 ⌝ }
     ensures { λ r. ⌜ r ≡ setsOk s ⌝ }
 {
@@ -45,29 +77,29 @@ pub fn sets_ok(s: Sheet) -> bool
     let n = s.n as usize;
     for v in 0..n {
         let row = s.rows[v];
-        if !set_rules::row_sets_ok(row, e) {
+        if !sets::row_sets_ok(row, e) {
             return false;
         }
     }
     true
 }
 
-// 7: the unused places.
-pub fn blanks_ok(s: Sheet) -> bool
+// 7: whether the unused places of every row hold 255 and 0.
+fn blanks_ok(s: Sheet) -> bool
     ensures { λ r. ⌜ r ≡ blanksOk s ⌝ }
 {
     let e = s.e as usize;
     let n = s.n as usize;
     for v in 0..32 {
         let row = s.rows[v];
-        if !row_rules::unused_ok(row, e, n, v) {
+        if !rows::unused_ok(row, e, n, v) {
             return false;
         }
     }
     true
 }
 
-// 6, 7, 8, each over the whole sheet.
+// The refusal of the graph that bytes spell, 0 for none: 6, 7, 8, each looked for in the whole sheet.
 pub fn graph_fault(sheet: Sheet) -> u8
     requires { ⌜ sheet .n ≤ 32 ⌝ }
     ensures { λ r. ⌜ r ≡ graphFault sheet ⌝ }
@@ -79,6 +111,31 @@ pub fn graph_fault(sheet: Sheet) -> u8
         return 7;
     }
     if !reached::reached_ok(sheet) {
+        return 8;
+    }
+    0
+}
+
+// The refusal of a kept sheet with any content, 0 for none: 3, 5, 6, 7, 8, each looked for in the whole sheet.
+pub fn sheet_fault(s: Sheet) -> u8
+    ensures { λ r. ⌜ r ≡ sheetFault s ⌝ }
+{
+    if !ranges_ok(s.e, s.n) {
+        return 3;
+    }
+    if !counts_ok(s) {
+        return 5;
+    }
+    if !successors_ok(s) {
+        return 6;
+    }
+    if !sets_ok(s) {
+        return 7;
+    }
+    if !blanks_ok(s) {
+        return 7;
+    }
+    if !reached::reached_ok(s) {
         return 8;
     }
     0

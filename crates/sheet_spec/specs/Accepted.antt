@@ -15,7 +15,7 @@ use Rattle.base.specs.Table.{upTo, getD-upTo}
 use Rattle.sheet_spec.specs.declared.Sheet.{Sheet}
 use Rattle.sheet_spec.specs.Kept.{noRow, row, successor, acceptance}
 use Rattle.sheet_spec.specs.Rules.{rangesOk, countOk, countsOk, successorsOk, setsOk, blank, unusedOk, blanksOk, reachedOk, sheetFault}
-use Rattle.sheet_spec.specs.Reading.{eventsOf, nodesOf, countAt, startOf, succOf, setsOf, rowAt, unusedRow, rowOf, sheetOf, graphFault, bytesFault}
+use Rattle.sheet_spec.specs.Reading.{eventCount, nodeCount, countAt, startOf, succOf, setsOf, rowAt, unusedRow, rowOf, sheetOf, graphFault, bytesFault}
 use Rattle.sheet_spec.specs.Places.{Accepts, accepts, whole}
 
 -- every test of a kept sheet passes; a field's number is the refusal's
@@ -38,12 +38,12 @@ passes s h =
     let e = unless→ (reachedOk s) 7 0 (d .1) in
     record { p3 = a .0; p5 = b .0; p6 = c .0; p7 = and-l (setsOk s) (blanksOk s) (d .0); p7u = and-r (setsOk s) (blanksOk s) (d .0); p8 = e .0 }
 
--- one that passes every test is not refused
+-- a sheet that passes every test is not refused
 pub passed : (s : Sheet) → Passes s → sheetFault s ≡ 0
 unfolding sheetFault
 passed s p = unless← 3 (p .p3) (unless← 5 (p .p5) (unless← 6 (p .p6) (unless← 7 (and-i (p .p7) (p .p7u)) (unless← 8 (p .p8) refl))))
 
--- the three tests of the graph are three of these
+-- where the graph is not refused, the tests of successors, sets and reached nodes pass
 pub graph-passes : (s : Sheet) → graphFault s ≡ 0 → (successorsOk s ≡ true) × (setsOk s ≡ true) × (reachedOk s ≡ true)
 unfolding graphFault
 graph-passes s h =
@@ -51,25 +51,25 @@ graph-passes s h =
     let y = unless→ (setsOk s) 6 _ (x .1) in
     (x .0, y .0, unless→ (reachedOk s) 7 0 (y .1) .0)
 
--- and a sheet that passes every test passes these
+-- the graph of a sheet that passes every test is not refused
 pub graph-passed : (s : Sheet) → Passes s → graphFault s ≡ 0
 unfolding graphFault
 graph-passed s p = unless← 6 (p .p6) (unless← 7 (p .p7) (unless← 8 (p .p8) refl))
 
 module _ (b : List ℕ) where
-  row-is : (v : ℕ) → v < 32 → row (sheetOf b) v ≡ rowOf b (eventsOf b) (nodesOf b) v
+  row-is : (v : ℕ) → v < 32 → row (sheetOf b) v ≡ rowOf b (eventCount b) (nodeCount b) v
   unfolding sheetOf
-  row-is v h = getD-upTo (rowOf b (eventsOf b) (nodesOf b)) 32 v noRow h
+  row-is v h = getD-upTo (rowOf b (eventCount b) (nodeCount b)) 32 v noRow h
 
   -- the row of a node in use is the one that begins at its place
-  pub row-used : (v : ℕ) → v < 32 → v < nodesOf b → row (sheetOf b) v ≡ rowAt b (eventsOf b) (startOf b (eventsOf b) v)
+  pub row-used : (v : ℕ) → v < 32 → v < nodeCount b → row (sheetOf b) v ≡ rowAt b (eventCount b) (startOf b (eventCount b) v)
   unfolding rowOf
-  row-used v k h = row-is v k ∙ rw (lt-ltb v (nodesOf b) h)
+  row-used v k h = row-is v k ∙ rw (lt-ltb v (nodeCount b) h)
 
   -- the row of an unused node is blank
-  pub row-free : (v : ℕ) → v < 32 → nodesOf b ≤ v → row (sheetOf b) v ≡ unusedRow
+  pub row-free : (v : ℕ) → v < 32 → nodeCount b ≤ v → row (sheetOf b) v ≡ unusedRow
   unfolding rowOf
-  row-free v k h = row-is v k ∙ rw (le-ltb v (nodesOf b) h)
+  row-free v k h = row-is v k ∙ rw (le-ltb v (nodeCount b) h)
 
 -- a row that is read leaves its unused places blank
 blank-succs : (b : List ℕ) (at e i : ℕ) → i < 12 → (ltb i e || eqb (getD (upTo (succOf b at e) 12) i 255) 255) ≡ true
@@ -105,16 +105,16 @@ used-row b e n at v h = rw (lt-ltb v n h) (blank-row b e at)
 module _ (b : List ℕ) (a : Accepts b) where
   counts-read : countsOk (sheetOf b) ≡ true
   unfolding countsOk sheetOf rowAt
-  counts-read = all← (λ v. countOk (row (sheetOf b) v .c)) (nodesOf b)
-      (λ v h. rw (row-used b v (omega (arith, a .ranged)) h) (whole b (eventsOf b) (nodesOf b) (a .laid) v h .c-ok))
+  counts-read = all← (λ v. countOk (row (sheetOf b) v .c)) (nodeCount b)
+      (λ v h. rw (row-used b v (omega (arith, a .ranged)) h) (whole b (eventCount b) (nodeCount b) (a .laid) v h .c-ok))
 
   blanks-read : blanksOk (sheetOf b) ≡ true
   unfolding blanksOk sheetOf
-  blanks-read = all← (λ v. unusedOk (eventsOf b) (nodesOf b) v (row (sheetOf b) v)) 32 (λ v h. go v h (lt-or-ge v (nodesOf b)))
+  blanks-read = all← (λ v. unusedOk (eventCount b) (nodeCount b) v (row (sheetOf b) v)) 32 (λ v h. go v h (lt-or-ge v (nodeCount b)))
     where
-      go : (v : ℕ) → v < 32 → (v < nodesOf b) ⊎ (nodesOf b ≤ v) → unusedOk (eventsOf b) (nodesOf b) v (row (sheetOf b) v) ≡ true
-      go v h (inl k) = rw (row-used b v h k) (used-row b (eventsOf b) (nodesOf b) (startOf b (eventsOf b) v) v k)
-      go v h (inr k) = rw (row-free b v h k) (unused-row (eventsOf b) (nodesOf b) v k)
+      go : (v : ℕ) → v < 32 → (v < nodeCount b) ⊎ (nodeCount b ≤ v) → unusedOk (eventCount b) (nodeCount b) v (row (sheetOf b) v) ≡ true
+      go v h (inl k) = rw (row-used b v h k) (used-row b (eventCount b) (nodeCount b) (startOf b (eventCount b) v) v k)
+      go v h (inr k) = rw (row-free b v h k) (unused-row (eventCount b) (nodeCount b) v k)
 
   ranges-read : rangesOk (sheetOf b .e) (sheetOf b .n) ≡ true
   unfolding sheetOf

@@ -1,5 +1,5 @@
--- The refusals of a kept sheet: each number is given exactly if its fault is there and no earlier one is (01, "Checks run in
--- the order of the numbers").
+-- The refusals of a kept sheet: each number is given exactly if its fault is there and no earlier one is (01, "Checks
+-- run in the order of the numbers").
 use mathlib.Core.Path.{_≡_, refl, sym}
 use mathlib.Core.Logic.{_⊎_, inl, inr, _≢_, _↔_}
 use mathlib.Core.Bool.{Bool, true, false, _&&_}
@@ -29,6 +29,14 @@ further p q =
 pub finally : {X A B C : Type 0} → X ↔ (A × B) → (A → B ↔ C) → X ↔ (A × C)
 finally p q = ((λ x. let a = p .0 x in (a .0, q (a .0) .0 (a .1))), λ y. p .1 (y .0, q (y .0) .1 (y .1)))
 
+-- a number of a sheet's own: one that its refusal can have
+abbrev pub Own : ℕ → Type 0
+Own m = (0 < m) × (m ≤ 8)
+
+-- a number that no sheet's refusal has, such as those of the calls
+abbrev pub NotOwn : ℕ → Type 0
+NotOwn m = 8 < m
+
 -- a number above k, or none
 abbrev pub Above : ℕ → ℕ → Type 0
 Above k m = (k < m) ⊎ (m ≡ 0)
@@ -41,40 +49,40 @@ pub above : {j k m : ℕ} → 0 < j → j ≤ k → Above k m → j ≢ m
 above z l (inl h) p = omega arith
 above z l (inr h) p = omega arith
 
--- no fault up to 3
+-- a kept sheet has no fault whose number is up to 3
 abbrev pub Clear3 : Sheet → Type 0
 Clear3 s = ¬ RangeFault (s .e) (s .n)
 
--- no fault up to 5
+-- a kept sheet has no fault whose number is up to 5
 abbrev pub Clear5 : Sheet → Type 0
 Clear5 s = Clear3 s × (¬ CountFault s)
 
--- no fault up to 6
+-- a kept sheet has no fault whose number is up to 6
 abbrev pub Clear6 : Sheet → Type 0
 Clear6 s = Clear5 s × (¬ SuccessorFault s)
 
--- no fault up to 7
+-- a kept sheet has no fault whose number is up to 7
 abbrev pub Clear7 : Sheet → Type 0
 Clear7 s = Clear6 s × (¬ (SetFault s ⊎ UnusedFault s))
 
--- what is tested after 7
+-- what is tested of a kept sheet after 7
 abbrev after7 : Sheet → ℕ
 after7 s = unless (reachedOk s) 8 0
 
--- what is tested after 6
+-- what is tested of a kept sheet after 6
 abbrev after6 : Sheet → ℕ
 after6 s = unless (setsOk s && blanksOk s) 7 (after7 s)
 
--- what is tested after 5
+-- what is tested of a kept sheet after 5
 abbrev after5 : Sheet → ℕ
 after5 s = unless (successorsOk s) 6 (after6 s)
 
--- what is tested after 3
+-- what is tested of a kept sheet after 3
 abbrev after3 : Sheet → ℕ
 after3 s = unless (countsOk s) 5 (after5 s)
 
 module _ (s : Sheet) where
-  -- the tests of 7 and 8, once E and N are in range
+  -- the tests of 7 and 8 find their faults, once E and N are in range
   finds-7 : Clear3 s → Finds (setsOk s && blanksOk s) (SetFault s ⊎ UnusedFault s)
   finds-7 f = let r = in-range (s .e) (s .n) f in finds-and (sets-find s (r .e-high)) (blanks-find s (r .n-high))
 
@@ -95,7 +103,7 @@ module _ (s : Sheet) where
   pass7 : (m : ℕ) → Above 7 m → (sheetFault s ≡ m) ↔ (Clear7 s × (after7 s ≡ m))
   pass7 m h = further (pass6 m (less (omega arith) h)) (λ f. unless-pass 7 (after7 s) m (finds-7 (f .0 .0)) (above (omega arith) (omega arith) h))
 
-  -- a number below 8, 7 and 6 is given before these tests
+  -- the tests from 8 on, from 7 on and from 6 on give no smaller number but 0
   not8 : {m : ℕ} → 0 < m → m < 8 → after7 s ≢ m
   not8 z l = unless-other (reachedOk s) (λ p. omega arith) (λ p. omega arith)
 
@@ -121,11 +129,11 @@ module _ (s : Sheet) where
   pub check-8 : (sheetFault s ≡ 8) ↔ (Clear7 s × ReachFault s)
   check-8 = finally (pass7 8 (inl (omega arith))) (λ f. unless-hit 8 0 (finds-8 (f .0 .0 .0)) (λ p. omega arith))
 
-  -- and no refusal exactly if there is none of these faults
+  -- a kept sheet gets no refusal exactly if it has no fault
   pub check-0 : (sheetFault s ≡ 0) ↔ (Clear7 s × (¬ ReachFault s))
   check-0 = finally (pass7 0 (inr refl)) (λ f. unless-none 8 (finds-8 (f .0 .0 .0)) (λ p. omega arith))
 
-  -- no other number is given
+  -- a kept sheet gets no other number than 0, 3, 5, 6, 7 and 8
   pub check-numbers : (m : ℕ) → sheetFault s ≡ m → (m ≡ 0) ⊎ ((m ≡ 3) ⊎ ((m ≡ 5) ⊎ ((m ≡ 6) ⊎ ((m ≡ 7) ⊎ (m ≡ 8)))))
   unfolding sheetFault
   check-numbers m e = go (rangesOk (s .e) (s .n)) (countsOk s) (successorsOk s) (setsOk s && blanksOk s) (reachedOk s) e
@@ -138,7 +146,7 @@ module _ (s : Sheet) where
       go true true true true false p = inr (inr (inr (inr (inr (sym p)))))
       go true true true true true p = inl (sym p)
 
-  -- each is at most 8
+  -- the number that a kept sheet gets is at most 8
   pub check-below : sheetFault s ≤ 8
   check-below = go (check-numbers (sheetFault s) refl)
     where
@@ -150,6 +158,9 @@ module _ (s : Sheet) where
       go (inr (inr (inr (inr (inl p))))) = omega arith
       go (inr (inr (inr (inr (inr p))))) = omega arith
 
-  -- so none is a number of a call's own
-  pub check-other : (m : ℕ) → 8 < m → sheetFault s ≢ m
+  -- the refusal of a kept sheet is one of a sheet's own numbers
+  pub check-own : sheetFault s ≢ 0 → Own (sheetFault s)
+  check-own n = (omega (arith, n), check-below)
+
+  pub check-other : (m : ℕ) → NotOwn m → sheetFault s ≢ m
   check-other m l e = omega (arith, check-below)

@@ -1,5 +1,5 @@
--- The bytes of a sheet (01, "A sheet"), as a recursion over the kept sheet. It knows nothing of reading: that reading undoes
--- it, and nothing else, is the law of EncodingLaws.
+-- The bytes of a sheet (01, "A sheet"), as a recursion over the kept sheet. It knows nothing of reading: that reading
+-- undoes it, and nothing else, is the law of EncodingLaws.
 use mathlib.Core.List.{List, [], _∷_, _++_}
 use Prim.Native.Nat.{ℕ, _/_, _%_}
 use lib.ListN.{length, take}
@@ -10,20 +10,20 @@ use Rattle.sheet_spec.specs.declared.Sheet.{Sheet}
 unfoldable pub two : ℕ → List ℕ
 two x = x / 256 ∷ (x % 256 ∷ [])
 
--- a number in four bytes
+-- a number in four bytes, big-endian
 unfoldable pub four : ℕ → List ℕ
 four x = two (x / 65536) ++ two (x % 65536)
 
--- sets, two bytes each
+-- the bytes of sets, two for each
 unfoldable pub encodeSets : List ℕ → List ℕ
 encodeSets [] = []
 encodeSets (x ∷ xs) = two x ++ encodeSets xs
 
--- a node: its e successors, its C, its C sets
+-- the bytes of a node: its e successors, its C, its C sets
 unfoldable pub encodeRow : ℕ → Row → List ℕ
 encodeRow e r = take e (r .succ) ++ (r .c ∷ encodeSets (take (r .c) (r .sets)))
 
--- the nodes, in order
+-- the bytes of nodes, in order
 unfoldable pub encodeRows : ℕ → List Row → List ℕ
 encodeRows e [] = []
 encodeRows e (r ∷ rs) = encodeRow e r ++ encodeRows e rs

@@ -1,5 +1,5 @@
--- Reading undoes writing, and nothing else: bytes are read as a sheet exactly if they are the bytes of that sheet and a later
--- call accepts it.
+-- Reading undoes writing, and nothing else: bytes are read as a sheet exactly if they are the bytes of that sheet and a
+-- later call accepts it.
 use mathlib.Core.Path.{_≡_, sym, ap, _∙_}
 use mathlib.Core.Logic.{_↔_}
 use mathlib.Core.List.{List}
@@ -53,7 +53,7 @@ read-encode s o b y = (to, from)
 pub encode-length : (s : Sheet) → SheetForm s → sheetFault s ≡ 0 → length (encode s) ≤ 1447
 encode-length s o h = accepted-length (encode s) (encode-accepted s o h)
 
--- and they are bytes
+-- what an accepted sheet is written as is bytes
 pub encode-bytes : (s : Sheet) → SheetForm s → sheetFault s ≡ 0 → Bytes (encode s)
 encode-bytes s o h = bytes-encode s o (encode-length s o h)
 

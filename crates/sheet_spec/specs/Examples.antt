@@ -4,14 +4,14 @@ use Prim.Native.Nat.{ℕ}
 use Rattle.sheet_spec.specs.declared.Sheet.{Sheet}
 use Rattle.sheet_spec.specs.Reading.{readSheet}
 
--- the reference of the program's example
+-- the reference of 01's example
 unfoldable pub exampleReference : List ℕ
 exampleReference =
     0 ∷ 0 ∷ 0 ∷ 15 ∷ 1 ∷ 2 ∷ 2 ∷
     1 ∷ 1 ∷ 2 ∷ 0 ∷ 1 ∷ 0 ∷ 2 ∷
     0 ∷ 0 ∷ 1 ∷ 0 ∷ 3 ∷ []
 
--- and its device
+-- the device of 01's example
 unfoldable pub exampleDevice : List ℕ
 exampleDevice =
     0 ∷ 0 ∷ 0 ∷ 18 ∷ 1 ∷ 2 ∷ 3 ∷
@@ -19,27 +19,27 @@ exampleDevice =
     2 ∷ 2 ∷ 1 ∷ 0 ∷ 3 ∷
     0 ∷ 255 ∷ 1 ∷ 0 ∷ 1 ∷ []
 
--- one node with two events, of which it loops on only event 0 ..
+-- one node with two events, of which it loops on only event 0
 unfoldable pub onlyZero : List ℕ
 onlyZero = 0 ∷ 0 ∷ 0 ∷ 8 ∷ 1 ∷ 2 ∷ 1 ∷ 0 ∷ 255 ∷ 1 ∷ 0 ∷ 1 ∷ []
 
--- .. or only on event 1
+-- one node with two events, of which it loops on only event 1
 unfoldable pub onlyOne : List ℕ
 onlyOne = 0 ∷ 0 ∷ 0 ∷ 8 ∷ 1 ∷ 2 ∷ 1 ∷ 255 ∷ 0 ∷ 1 ∷ 0 ∷ 2 ∷ []
 
--- one node with one event: looping on it with acceptance 0 ..
+-- one node with one event, looping on it with acceptance 0
 unfoldable pub mayLoop : List ℕ
 mayLoop = 0 ∷ 0 ∷ 0 ∷ 7 ∷ 1 ∷ 1 ∷ 1 ∷ 0 ∷ 1 ∷ 0 ∷ 0 ∷ []
 
--- .. looping with acceptance 1
+-- one node with one event, looping on it with acceptance 1
 unfoldable pub mustLoop : List ℕ
 mustLoop = 0 ∷ 0 ∷ 0 ∷ 7 ∷ 1 ∷ 1 ∷ 1 ∷ 0 ∷ 1 ∷ 0 ∷ 1 ∷ []
 
--- .. and stopped
+-- one node with one event, on which it has no successor, with acceptance 0
 unfoldable pub stopped : List ℕ
 stopped = 0 ∷ 0 ∷ 0 ∷ 7 ∷ 1 ∷ 1 ∷ 1 ∷ 255 ∷ 1 ∷ 0 ∷ 0 ∷ []
 
--- all of them
+-- the sheets of 01's cases, all seven
 unfoldable pub caseSheets : List (List ℕ)
 caseSheets = exampleReference ∷ exampleDevice ∷ onlyZero ∷ onlyOne ∷ mayLoop ∷ mustLoop ∷ stopped ∷ []
 

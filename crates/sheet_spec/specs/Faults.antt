@@ -1,5 +1,6 @@
--- What breaks the rules of a sheet (01, "Who can cause a refusal"), said with "there is" and "for every" over nodes, places,
--- events and lists, with no test in it. CheckLaws and ReadLaws say that each refusal is given exactly for its fault.
+-- What breaks the rules of a sheet (01, "Who can cause a refusal"), said with "there is" and "for every" over nodes,
+-- places, events and lists, with no test in it. CheckLaws and ReadLaws say that each refusal is given exactly for its
+-- fault.
 use mathlib.Core.Path.{_≡_}
 use mathlib.Core.Logic.{_⊎_, _≢_}
 use mathlib.Core.List.{List}
@@ -9,7 +10,7 @@ use Rattle.events.specs.Bit.{bit, Within}
 use Rattle.sheet_spec.specs.declared.Row.{Row}
 use Rattle.sheet_spec.specs.declared.Sheet.{Sheet}
 use Rattle.sheet_spec.specs.Kept.{row, successor, acceptance, Walk}
-use Rattle.sheet_spec.specs.Reading.{lengthField, version, eventsOf, nodesOf, countAt, nextAt, startOf}
+use Rattle.sheet_spec.specs.Reading.{lengthField, version, eventCount, nodeCount, countAt, nextAt, startOf}
 
 -- 3: E is not 1 to 12, or N not 1 to 32
 abbrev pub RangeFault : ℕ → ℕ → Type 0
@@ -19,7 +20,7 @@ RangeFault e n = ((e < 1) ⊎ (12 < e)) ⊎ ((n < 1) ⊎ (32 < n))
 abbrev pub BadCount : ℕ → Type 0
 BadCount c = (c < 1) ⊎ (16 < c)
 
--- 5, of a kept sheet: the C of some node
+-- 5, of a kept sheet: the C of some node is not 1 to 16
 abbrev pub CountFault : Sheet → Type 0
 CountFault s = (v : ℕ) × (v < s .n) × BadCount (row s v .c)
 
@@ -31,19 +32,20 @@ SuccessorFault s = (v : ℕ) × (v < s .n) × ((i : ℕ) × (i < s .e) × ((succ
 abbrev pub Initial : ℕ → Row → ℕ → Type 0
 Initial e r i = (i < e) × (successor r i ≢ 255)
 
--- 7: the sets of a row are not strictly ascending, one has an event that is no initial, one is included in another, or the
--- empty set does not stand alone
+-- 7: the sets of a row are not strictly ascending, one has an event that is no initial, one is included in another, or
+-- the empty set does not stand alone
 pub data RowSetFault (e : ℕ) (r : Row) : Type 0 where
   descends : (j k : ℕ) → j < k → k < r .c → acceptance r k ≤ acceptance r j → RowSetFault e r
   outside : (j i : ℕ) → j < r .c → bit (acceptance r j) i ≡ 1 → ¬ Initial e r i → RowSetFault e r
   includes : (j k : ℕ) → j < r .c → k < r .c → j ≢ k → Within (acceptance r j) (acceptance r k) → RowSetFault e r
   stops : (j : ℕ) → j < r .c → acceptance r j ≡ 0 → r .c ≢ 1 → RowSetFault e r
 
--- 7: of some node
+-- 7: the sets of some node have a fault
 abbrev pub SetFault : Sheet → Type 0
 SetFault s = (v : ℕ) × (v < s .n) × RowSetFault (s .e) (row s v)
 
--- 7, of a kept sheet: an unused place that holds something else than 255 (a successor) or 0 (a set, the C of an unused node)
+-- 7, of a kept sheet: an unused place that holds something else than 255 (a successor) or 0 (a set, the C of an unused
+-- node)
 pub data UnusedFault (s : Sheet) : Type 0 where
   event : (v i : ℕ) → v < s .n → s .e ≤ i → i < 12 → successor (row s v) i ≢ 255 → UnusedFault s
   place : (v j : ℕ) → v < s .n → row s v .c ≤ j → j < 16 → acceptance (row s v) j ≢ 0 → UnusedFault s
@@ -73,15 +75,15 @@ EndsInside b e at = (length b ≤ at + e) ⊎ ((¬ BadCount (countAt b e at)) ×
 
 -- all nodes before node v are whole
 abbrev pub WholeBefore : List ℕ → ℕ → Type 0
-WholeBefore b v = (u : ℕ) → u < v → Whole b (eventsOf b) (startOf b (eventsOf b) u)
+WholeBefore b v = (u : ℕ) → u < v → Whole b (eventCount b) (startOf b (eventCount b) u)
 
 -- 4: the bytes end inside a node, or some remain after the last; all nodes before that place are whole
 abbrev pub CutFault : List ℕ → Type 0
 CutFault b =
-    ((v : ℕ) × (v < nodesOf b) × WholeBefore b v × EndsInside b (eventsOf b) (startOf b (eventsOf b) v))
-    ⊎ (WholeBefore b (nodesOf b) × (startOf b (eventsOf b) (nodesOf b) < length b))
+    ((v : ℕ) × (v < nodeCount b) × WholeBefore b v × EndsInside b (eventCount b) (startOf b (eventCount b) v))
+    ⊎ (WholeBefore b (nodeCount b) × (startOf b (eventCount b) (nodeCount b) < length b))
 
 -- 5, of bytes: a C out of range; all nodes before it are whole
 abbrev pub BytesCountFault : List ℕ → Type 0
 BytesCountFault b =
-    (v : ℕ) × (v < nodesOf b) × WholeBefore b v × (startOf b (eventsOf b) v + eventsOf b < length b) × BadCount (countAt b (eventsOf b) (startOf b (eventsOf b) v))
+    (v : ℕ) × (v < nodeCount b) × WholeBefore b v × (startOf b (eventCount b) v + eventCount b < length b) × BadCount (countAt b (eventCount b) (startOf b (eventCount b) v))

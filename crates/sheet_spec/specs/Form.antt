@@ -11,7 +11,7 @@ use Rattle.sheet_spec.specs.Kept.{row}
 abbrev pub Bytes : List ℕ → Type 0
 Bytes b = (i : ℕ) → getD b i 0 < 256
 
--- twelve bytes, sixteen words of 16 bits, and a byte
+-- the form of a row: twelve bytes, sixteen words of 16 bits, and a byte
 pub record RowForm (r : Row) : Type 0 where
   pub succs : length (r .succ) ≡ 12
   pub succ-byte : Bytes (r .succ)
@@ -19,7 +19,7 @@ pub record RowForm (r : Row) : Type 0 where
   pub set-word : (j : ℕ) → getD (r .sets) j 0 < 65536
   pub c-byte : r .c < 256
 
--- 32 rows and two bytes
+-- the form of a sheet: 32 rows and two bytes
 pub record SheetForm (s : Sheet) : Type 0 where
   pub rows : length (s .rows) ≡ 32
   pub each : (v : ℕ) → v < 32 → RowForm (row s v)

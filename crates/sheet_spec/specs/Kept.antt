@@ -44,7 +44,7 @@ initials e r = setOf (λ i. ltb i e && not (eqb (successor r i) 255)) 12
 unfoldable pub mayStop : Row → Bool
 mayStop r = any (λ j. ltb j (r .c) && eqb (acceptance r j) 0) 16
 
--- the node after event i at node v; N stands for none
+-- the node after event i at node v; a number not below N stands for none
 unfoldable pub step : Sheet → ℕ → ℕ → ℕ
 step s v i = cond (ltb v (s .n) && ltb i (s .e)) (successor (row s v) i) (s .n)
 

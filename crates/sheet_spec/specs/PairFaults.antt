@@ -1,22 +1,22 @@
--- The refusals of a call that is handed two sheets: a sheet's own number, the reference's before the device's; 11 where E differs; then
--- what else the call looks for (`rest`).
+-- The refusals of a call that is handed two sheets: a sheet's own number, the reference's before the device's; 11 where
+-- E differs; then what else the call looks for (`rest`).
 use mathlib.Core.Path.{_≡_, refl, _∙_}
 use mathlib.Core.Logic.{_⊎_, inl, inr, _≢_, _↔_}
-use Prim.Native.Nat.{ℕ, zero, suc, _≤_, _<_}
+use Prim.Native.Nat.{ℕ, zero, suc}
 use native.Mathlib.Omega.{arith}
 use lib.Dec.{eqb}
 use Rattle.base.specs.Finds.{finds-eq}
 use Rattle.base.specs.Refusal.{unless, orElse, unless-hit, unless-pass, unless-other, orElse-some, orElse-first, orElse-then}
 use Rattle.sheet_spec.specs.declared.Sheet.{Sheet}
 use Rattle.sheet_spec.specs.Rules.{sheetFault, pairFault}
-use Rattle.sheet_spec.specs.CheckLaws.{check-below, further, finally}
+use Rattle.sheet_spec.specs.CheckLaws.{Own, NotOwn, check-other, further, finally}
 
 -- neither sheet is refused
 abbrev pub BothAccepted : Sheet → Sheet → Type 0
 BothAccepted P Q = (sheetFault P ≡ 0) × (sheetFault Q ≡ 0)
 
 module _ (P Q : Sheet) (rest : ℕ) where
-  -- what is tested after the sheets
+  -- what is tested after the sheets' own refusals
   abbrev afterSheets : ℕ
   afterSheets = unless (eqb (P .e) (Q .e)) 11 rest
 
@@ -28,8 +28,8 @@ module _ (P Q : Sheet) (rest : ℕ) where
   pair-device z n = rw z (orElse-some (sheetFault Q) _ (omega (arith, n)))
 
   -- a sheet's own number is given exactly for that sheet, the reference before the device
-  pub pair-sheet : (m : ℕ) → 0 < m → m ≤ 8 → rest ≢ m → (pairFault P Q rest ≡ m) ↔ ((sheetFault P ≡ m) ⊎ ((sheetFault P ≡ 0) × (sheetFault Q ≡ m)))
-  pair-sheet m z l n = (λ e. forth (sheetFault P) refl e, back)
+  pub pair-sheet : (m : ℕ) → Own m → rest ≢ m → (pairFault P Q rest ≡ m) ↔ ((sheetFault P ≡ m) ⊎ ((sheetFault P ≡ 0) × (sheetFault Q ≡ m)))
+  pair-sheet m (z, l) n = (λ e. forth (sheetFault P) refl e, back)
     where
       own : (orElse (sheetFault Q) afterSheets ≡ m) ↔ (sheetFault Q ≡ m)
       own = orElse-first (sheetFault Q) afterSheets m (λ e. omega arith) (unless-other (eqb (P .e) (Q .e)) (λ e. omega arith) n)
@@ -42,20 +42,20 @@ module _ (P Q : Sheet) (rest : ℕ) where
       back (inl e) = rw e (orElse-some m (orElse (sheetFault Q) afterSheets) z)
       back (inr (a, b)) = rw a (own .1 b)
 
-  -- a number above 8, or none, comes from what is tested after the sheets
-  past-sheets : (m : ℕ) → (8 < m) ⊎ (m ≡ 0) → (pairFault P Q rest ≡ m) ↔ (BothAccepted P Q × (afterSheets ≡ m))
+  -- a number that is no sheet's own, or none, comes from what is tested after the sheets
+  past-sheets : (m : ℕ) → NotOwn m ⊎ (m ≡ 0) → (pairFault P Q rest ≡ m) ↔ (BothAccepted P Q × (afterSheets ≡ m))
   past-sheets m h =
-      further (orElse-then (sheetFault P) (orElse (sheetFault Q) afterSheets) m (own (sheetFault P) (check-below P) h))
-      (λ z. orElse-then (sheetFault Q) afterSheets m (own (sheetFault Q) (check-below Q) h))
+      further (orElse-then (sheetFault P) (orElse (sheetFault Q) afterSheets) m (own P h))
+      (λ z. orElse-then (sheetFault Q) afterSheets m (own Q h))
     where
-      own : (k : ℕ) → k ≤ 8 → (8 < m) ⊎ (m ≡ 0) → (k ≢ m) ⊎ (m ≡ 0)
-      own k l (inl p) = inl (λ e. omega arith)
-      own k l (inr p) = inr p
+      own : (s : Sheet) → NotOwn m ⊎ (m ≡ 0) → (sheetFault s ≢ m) ⊎ (m ≡ 0)
+      own s (inl p) = inl (check-other s m p)
+      own s (inr p) = inr p
 
   -- 11: of two sheets that are not refused, E differs
   pub pair-11 : rest ≢ 11 → (pairFault P Q rest ≡ 11) ↔ (BothAccepted P Q × (P .e ≢ Q .e))
   pair-11 n = finally (past-sheets 11 (inl (omega arith))) (λ f. unless-hit 11 rest (finds-eq (P .e) (Q .e)) n)
 
-  -- any other number, or none: .. E does not differ, and what else is looked for gives it
-  pub pair-rest : (m : ℕ) → (8 < m) ⊎ (m ≡ 0) → 11 ≢ m → (pairFault P Q rest ≡ m) ↔ ((BothAccepted P Q × (¬ (P .e ≢ Q .e))) × (rest ≡ m))
+  -- any other number, or none: no sheet is refused, E does not differ, and what else is looked for gives the number
+  pub pair-rest : (m : ℕ) → NotOwn m ⊎ (m ≡ 0) → 11 ≢ m → (pairFault P Q rest ≡ m) ↔ ((BothAccepted P Q × (¬ (P .e ≢ Q .e))) × (rest ≡ m))
   pair-rest m h n = further (past-sheets m h) (λ f. unless-pass 11 rest m (finds-eq (P .e) (Q .e)) n)

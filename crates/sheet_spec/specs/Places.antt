@@ -1,5 +1,5 @@
--- Where the nodes of a sheet stand in its bytes: a head that is not refused gives the ranges of E and N, and a layout that is
--- not refused puts each node whole into the bytes, one after another from byte 7 to the end.
+-- Where the nodes of a sheet stand in its bytes: a head that is not refused gives the ranges of E and N, and a layout
+-- that is not refused puts each node whole into the bytes, one after another from byte 7 to the end.
 use mathlib.Core.Path.{_≡_}
 use mathlib.Core.Bool.{true, _&&_}
 use mathlib.Core.List.{List}
@@ -13,7 +13,7 @@ use Rattle.base.specs.Truth.{and-l, and-r}
 use Rattle.base.specs.Refusal.{unless→, orElse→}
 use Rattle.sheet_spec.specs.Rules.{rangesOk, countOk}
 use Rattle.sheet_spec.specs.RuleLaws.{between→, Ranges, ranges→}
-use Rattle.sheet_spec.specs.Reading.{lengthField, version, eventsOf, nodesOf, nodesAt, headFault, countAt}
+use Rattle.sheet_spec.specs.Reading.{lengthField, version, eventCount, nodeCount, nodesAt, headFault, countAt}
 use Rattle.sheet_spec.specs.Reading.{nextAt, layoutFault, startOf, graphFault, sheetOf, bytesFault}
 
 -- what the bytes before the nodes say, where they are not refused
@@ -21,9 +21,9 @@ pub record Head (b : List ℕ) : Type 0 where
   pub long : 7 ≤ length b
   pub length-is : lengthField b + 4 ≡ length b
   pub version-is : version b ≡ 1
-  pub ranges : rangesOk (eventsOf b) (nodesOf b) ≡ true
+  pub ranges : rangesOk (eventCount b) (nodeCount b) ≡ true
 
--- a head that is not refused says this
+-- a head that is not refused says how long the bytes are, their version, and that E and N are in range
 pub head : (b : List ℕ) → headFault b ≡ 0 → Head b
 unfolding headFault
 head b h =
@@ -33,10 +33,11 @@ head b h =
       long = leb-true 7 (length b) (and-l (leb 7 (length b)) (eqb (lengthField b + 4) (length b)) (x .0));
       length-is = eqb-true (lengthField b + 4) (length b) (and-r (leb 7 (length b)) (eqb (lengthField b + 4) (length b)) (x .0));
       version-is = eqb-true (version b) 1 (y .0);
-      ranges = unless→ (rangesOk (eventsOf b) (nodesOf b)) 2 0 (y .1) .0;
+      ranges = unless→ (rangesOk (eventCount b) (nodeCount b)) 2 0 (y .1) .0;
     }
 
--- the node that begins at a place, where it is whole: its C lies inside the bytes and is 1 to 16, and the node ends inside the bytes
+-- the node that begins at a place, where it is whole: its C lies inside the bytes and is 1 to 16, and the node ends
+-- inside the bytes
 pub record Node (b : List ℕ) (e at : ℕ) : Type 0 where
   pub c-inside : at + e < length b
   pub c-ok : countOk (countAt b e at) ≡ true
@@ -60,7 +61,7 @@ layout-step b e k at h =
     let z = unless→ (leb (nextAt b e at) (length b)) 3 _ (y .1) in
     (node-of b e at (x .0) (y .0) (z .0), z .1)
 
--- with no node left it stands at the end
+-- a walk that finds no fault and has no node left stands at the end of the bytes
 pub layout-end : (b : List ℕ) (e at : ℕ) → layoutFault b e 0 at ≡ 0 → at ≡ length b
 unfolding layoutFault
 layout-end b e at h = eqb-true at (length b) (unless→ (eqb at (length b)) 3 0 h .0)
@@ -95,21 +96,21 @@ module _ (b : List ℕ) (e n : ℕ) (l : layoutFault b e n nodesAt ≡ 0) where
 -- what bytes that reading accepts are: the head, the layout, the graph
 pub record Accepts (b : List ℕ) : Type 0 where
   pub headed : Head b
-  pub laid : layoutFault b (eventsOf b) (nodesOf b) nodesAt ≡ 0
+  pub laid : layoutFault b (eventCount b) (nodeCount b) nodesAt ≡ 0
   pub graphed : graphFault (sheetOf b) ≡ 0
-  pub ranged : Ranges (eventsOf b) (nodesOf b)
+  pub ranged : Ranges (eventCount b) (nodeCount b)
 
--- reading accepts only such bytes
+-- bytes that reading accepts have a head, a layout and a graph that are not refused
 pub accepts : (b : List ℕ) → bytesFault b ≡ 0 → Accepts b
 unfolding bytesFault
 accepts b h =
     let x = orElse→ (headFault b) _ h in
-    let y = orElse→ (layoutFault b (eventsOf b) (nodesOf b) nodesAt) _ (x .1) in
+    let y = orElse→ (layoutFault b (eventCount b) (nodeCount b) nodesAt) _ (x .1) in
     let d = head b (x .0) in
-    record { headed = d; laid = y .0; graphed = y .1; ranged = ranges→ (eventsOf b) (nodesOf b) (d .ranges) }
+    record { headed = d; laid = y .0; graphed = y .1; ranged = ranges→ (eventCount b) (nodeCount b) (d .ranges) }
 
 -- a sheet that is accepted has at most 1,447 bytes
 pub accepted-length : (b : List ℕ) → bytesFault b ≡ 0 → length b ≤ 1447
 accepted-length b h =
     let a = accepts b h in
-    omega (arith, last-end b (eventsOf b) (nodesOf b) (a .laid), start-high b (eventsOf b) (nodesOf b) (a .laid) (nodesOf b) (a .ranged .e-high) (omega arith))
+    omega (arith, last-end b (eventCount b) (nodeCount b) (a .laid), start-high b (eventCount b) (nodeCount b) (a .laid) (nodeCount b) (a .ranged .e-high) (omega arith))

@@ -1,4 +1,5 @@
--- Reading a sheet from its bytes (01, "A sheet", and the refusals 1 to 8 in their order). A byte past the end reads as 0.
+-- Reading a sheet from its bytes (01, "A sheet", and the refusals 1 to 8 in their order). A byte past the end reads as
+-- 0.
 use mathlib.Core.Bool.{_&&_, cond}
 use mathlib.Core.List.{List}
 use Prim.Native.Nat.{ℕ, zero, suc, _+_, _*_}
@@ -15,7 +16,7 @@ use Rattle.sheet_spec.specs.Rules.{rangesOk, countOk, successorsOk, sets
 abbrev pub byte : List ℕ → ℕ → ℕ
 byte b i = getD b i 0
 
--- two bytes, big-endian
+-- the number in the two bytes at a place, big-endian
 abbrev pub word : List ℕ → ℕ → ℕ
 word b i = byte b i * 256 + byte b (i + 1)
 
@@ -23,34 +24,34 @@ word b i = byte b i * 256 + byte b (i + 1)
 unfoldable pub lengthField : List ℕ → ℕ
 lengthField b = word b 0 * 65536 + word b 2
 
--- then the version
+-- the version: the byte after the length field
 abbrev pub version : List ℕ → ℕ
 version b = byte b 4
 
--- E
-abbrev pub eventsOf : List ℕ → ℕ
-eventsOf b = byte b 5
+-- E: the byte after the version
+abbrev pub eventCount : List ℕ → ℕ
+eventCount b = byte b 5
 
--- N
-abbrev pub nodesOf : List ℕ → ℕ
-nodesOf b = byte b 6
+-- N: the byte after E
+abbrev pub nodeCount : List ℕ → ℕ
+nodeCount b = byte b 6
 
--- then the nodes, from this place on
+-- the place from which on the nodes stand
 abbrev pub nodesAt : ℕ
 nodesAt = 7
 
--- 1, 2, 3: the bytes before the nodes
+-- 1, 2, 3: the refusal of the bytes before the nodes
 unfoldable pub headFault : List ℕ → ℕ
 headFault b =
     unless (leb 7 (length b) && eqb (lengthField b + 4) (length b)) 1
     (unless (eqb (version b) 1) 2
-    (unless (rangesOk (eventsOf b) (nodesOf b)) 3 0))
+    (unless (rangesOk (eventCount b) (nodeCount b)) 3 0))
 
 -- the C of the node that begins at a place, after its e successors
 abbrev pub countAt : List ℕ → ℕ → ℕ → ℕ
 countAt b e at = byte b (at + e)
 
--- where the node after that one begins: e successors, C, and C two-byte sets
+-- where the node after the one that begins at a place begins: e successors, C, and C two-byte sets
 unfoldable pub nextAt : List ℕ → ℕ → ℕ → ℕ
 nextAt b e at = at + e + 1 + countAt b e at * 2
 
@@ -84,27 +85,27 @@ rowAt b e at = record { succ = upTo (succOf b at e) 12; sets = upTo (setsOf b (a
 abbrev pub unusedRow : Row
 unusedRow = record { succ = replicate 12 255; sets = replicate 16 0; c = 0 }
 
--- the row of node v
+-- the row of node v, that of an unused node from n on
 unfoldable pub rowOf : List ℕ → ℕ → ℕ → ℕ → Row
 rowOf b e n v = cond (ltb v n) (rowAt b e (startOf b e v)) unusedRow
 
 -- the sheet that the bytes spell
 unfoldable pub sheetOf : List ℕ → Sheet
-sheetOf b = record { rows = upTo (rowOf b (eventsOf b) (nodesOf b)) 32; e = eventsOf b; n = nodesOf b }
+sheetOf b = record { rows = upTo (rowOf b (eventCount b) (nodeCount b)) 32; e = eventCount b; n = nodeCount b }
 
--- 6, 7, 8, each over the whole sheet
+-- 6, 7, 8: the refusal of the graph, each test over the whole sheet
 unfoldable pub graphFault : Sheet → ℕ
 graphFault s = unless (successorsOk s) 6 (unless (setsOk s) 7 (unless (reachedOk s) 8 0))
 
 -- the refusal of a sheet's bytes, 0 for none
 unfoldable pub bytesFault : List ℕ → ℕ
-bytesFault b = orElse (headFault b) (orElse (layoutFault b (eventsOf b) (nodesOf b) nodesAt) (graphFault (sheetOf b)))
+bytesFault b = orElse (headFault b) (orElse (layoutFault b (eventCount b) (nodeCount b) nodesAt) (graphFault (sheetOf b)))
 
 -- a sheet with 0 in every place
 abbrev pub zeroSheet : Sheet
 zeroSheet = record { rows = replicate 32 (record { succ = replicate 12 0; sets = replicate 16 0; c = 0 }); e = 0; n = 0 }
 
--- a refusal is its number and 0 everywhere else
+-- the answer of a reading: a refusal is its number and 0 everywhere else
 unfoldable pub answer : ℕ → Sheet → ReadSheet
 answer k s = record { refusal = k; sheet = cond (eqb k 0) s zeroSheet }
 

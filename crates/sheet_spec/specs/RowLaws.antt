@@ -41,7 +41,7 @@ pub acceptances-at : (r : Row) (j : ℕ) → j < r .c → getD (acceptances r) j
 unfolding acceptances
 acceptances-at r j h = getD-upTo (acceptance r) (r .c) j 0 h
 
--- of a row in the machine's form it is the front of its array
+-- the list of acceptances of a row in the machine's form is the front of its array
 pub acceptances-take : (r : Row) → RowForm r → r .c ≤ 16 → acceptances r ≡ take (r .c) (r .sets)
 unfolding acceptances acceptance
 acceptances-take r f h = upTo-is (acceptance r) (take (r .c) (r .sets)) (r .c) 0 (length-take-le (r .c) (r .sets) (omega (arith, f .sets)))

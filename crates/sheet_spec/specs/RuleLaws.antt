@@ -32,7 +32,7 @@ pub record Ranges (e n : ℕ) : Type 0 where
   pub n-low : 1 ≤ n
   pub n-high : n ≤ 32
 
--- the test of the ranges says this
+-- the test of the ranges passes only if E is 1 to 12 and N is 1 to 32
 pub ranges→ : (e n : ℕ) → rangesOk e n ≡ true → Ranges e n
 unfolding rangesOk
 ranges→ e n t =
@@ -40,12 +40,12 @@ ranges→ e n t =
     let y = between→ 1 32 n (and-r (between 1 12 e) (between 1 32 n) t) in
     record { e-low = x .0; e-high = x .1; n-low = y .0; n-high = y .1 }
 
--- 3
+-- 3: the test of the ranges finds its fault
 pub ranges-find : (e n : ℕ) → Finds (rangesOk e n) (RangeFault e n)
 unfolding rangesOk
 ranges-find e n = finds-and (finds-and (finds-le 1 e) (finds-le e 12)) (finds-and (finds-le 1 n) (finds-le n 32))
 
--- 5
+-- 5: the test of a C, and that of all nodes, find their faults
 pub count-finds : (c : ℕ) → Finds (countOk c) (BadCount c)
 unfolding countOk
 count-finds c = finds-and (finds-le 1 c) (finds-le c 16)
@@ -54,7 +54,7 @@ pub counts-find : (s : Sheet) → Finds (countsOk s) (CountFault s)
 unfolding countsOk
 counts-find s = finds-all (s .n) (λ v h. count-finds (row s v .c))
 
--- 6
+-- 6: the test of the successors finds its fault
 pub successors-find : (s : Sheet) → Finds (successorsOk s) (SuccessorFault s)
 unfolding successorsOk rowSuccessorsOk successorOk
 successors-find s =
@@ -152,7 +152,7 @@ pub sets-find : (s : Sheet) → s .e ≤ 12 → Finds (setsOk s) (SetFault s)
 unfolding setsOk
 sets-find s h = finds-all (s .n) (λ v l. row-sets-find (s .e) (row s v) h)
 
--- 7, of a kept sheet: the unused places of one row
+-- 7, of a kept sheet: the test of the unused places of one row finds its fault
 blank-finds : (e c : ℕ) (r : Row)
     → Finds (blank e c r) (((i : ℕ) × (i < 12) × ((e ≤ i) × (successor r i ≢ 255))) ⊎ ((j : ℕ) × (j < 16) × ((c ≤ j) × (acceptance r j ≢ 0))))
 unfolding blank
@@ -160,7 +160,7 @@ blank-finds e c r =
     finds-and (finds-all 12 (λ i h. finds-or (finds-lt i e) (finds-eq (successor r i) 255)))
     (finds-all 16 (λ j h. finds-or (finds-lt j c) (finds-eq (acceptance r j) 0)))
 
--- 7, of a kept sheet
+-- 7, of a kept sheet: the test of all unused places finds its fault
 pub blanks-find : (s : Sheet) → s .n ≤ 32 → Finds (blanksOk s) (UnusedFault s)
 unfolding blanksOk
 blanks-find s small = record { clear = λ t f. clear f (λ v h. all→ (λ v. unusedOk (s .e) (s .n) v (row s v)) 32 v t h); fault = λ t. found (not-all (λ v. unusedOk (s .e) (s .n) v (row s v)) 32 t) }
@@ -236,7 +236,7 @@ Walk← s z u (i ∷ t) v l e = go (lt-or-ge u (s .n)) (lt-or-ge i (s .e)) (λ (
     go (inr a) b ih = absurd (omega (arith, walk-none (graph-wellFormed s z) (s .n) t (omega arith), rw (le-ltb u (s .n) a) at e))
     go (inl a) (inr b) ih = absurd (omega (arith, walk-none (graph-wellFormed s z) (s .n) t (omega arith), rw (le-ltb i (s .e) b, off (ltb u (s .n))) at e))
 
--- 8
+-- 8: the test of reached nodes finds its fault
 pub reached-finds : (s : Sheet) → 0 < s .n → Finds (reachedOk s) (ReachFault s)
 unfolding reachedOk
 reached-finds s z = finds-all (s .n) node

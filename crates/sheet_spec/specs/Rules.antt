@@ -1,5 +1,5 @@
--- The rules of a sheet (01, "Who can cause a refusal"), each as a test that a program can run, and the refusal of a kept
--- sheet. What each test means, with no test in it, is said in Faults; that the two agree, in RuleLaws.
+-- The rules of a sheet (01, "Who can cause a refusal"), each as a test that a program can run, and the refusal of a
+-- kept sheet. What each test means, with no test in it, is said in Faults; that the two agree, in RuleLaws.
 use mathlib.Core.Bool.{Bool, not, _&&_, _||_, cond}
 use Prim.Native.Nat.{ℕ, _-_}
 use lib.Dec.{eqb, ltb, leb}
@@ -23,7 +23,7 @@ rangesOk e n = between 1 12 e && between 1 32 n
 unfoldable pub countOk : ℕ → Bool
 countOk c = between 1 16 c
 
--- 5: so is that of every node
+-- 5: the C of every node is 1 to 16
 unfoldable pub countsOk : Sheet → Bool
 countsOk s = all (λ v. countOk (row s v .c)) (s .n)
 
@@ -31,11 +31,11 @@ countsOk s = all (λ v. countOk (row s v .c)) (s .n)
 unfoldable pub successorOk : ℕ → ℕ → Bool
 successorOk n x = eqb x 255 || ltb x n
 
--- 6: so are those of a row
+-- 6: the successors of a row, on its first e events, are 255 or below N
 unfoldable pub rowSuccessorsOk : ℕ → ℕ → Row → Bool
 rowSuccessorsOk e n r = all (λ i. successorOk n (successor r i)) e
 
--- 6: so are those of every node
+-- 6: the successors of every node are 255 or below N
 unfoldable pub successorsOk : Sheet → Bool
 successorsOk s = all (λ v. rowSuccessorsOk (s .e) (s .n) (row s v)) (s .n)
 
@@ -51,11 +51,11 @@ noneInside r j = all (λ k. not (inside (acceptance r k) (acceptance r j))) j
 unfoldable pub setOk : ℕ → Row → ℕ → Bool
 setOk initial r j = ascends r j && (inside (acceptance r j) initial && noneInside r j)
 
--- 7: every set of a row does
+-- 7: every set of a row ascends, lies inside the initials, and includes none before it
 unfoldable pub rowSetsOk : ℕ → Row → Bool
 rowSetsOk e r = all (setOk (initials e r) r) (r .c)
 
--- 7: every set of every node does
+-- 7: every set of every node ascends, lies inside the initials, and includes none before it
 unfoldable pub setsOk : Sheet → Bool
 setsOk s = all (λ v. rowSetsOk (s .e) (row s v)) (s .n)
 
@@ -63,11 +63,11 @@ setsOk s = all (λ v. rowSetsOk (s .e) (row s v)) (s .n)
 unfoldable pub blank : ℕ → ℕ → Row → Bool
 blank e c r = all (λ i. ltb i e || eqb (successor r i) 255) 12 && all (λ j. ltb j c || eqb (acceptance r j) 0) 16
 
--- 7, of a kept sheet: the unused places of node v, which is all of the row of an unused node
+-- 7, of a kept sheet: the unused places of node v, which is all of the row of an unused node, hold 255 and 0
 unfoldable pub unusedOk : ℕ → ℕ → ℕ → Row → Bool
 unusedOk e n v r = cond (ltb v n) (blank e (r .c) r) (eqb (r .c) 0 && blank 0 0 r)
 
--- 7, of a kept sheet: the unused places of every row
+-- 7, of a kept sheet: the unused places of every row hold 255 and 0
 unfoldable pub blanksOk : Sheet → Bool
 blanksOk s = all (λ v. unusedOk (s .e) (s .n) v (row s v)) 32
 
@@ -84,7 +84,7 @@ sheetFault s =
     (unless (setsOk s && blanksOk s) 7
     (unless (reachedOk s) 8 0))))
 
--- the refusal of two sheets that are handed together, the reference first: its own, the device's own, 11: E differs; `rest` is what
--- else the call looks for
+-- the refusal of two sheets that are handed together, the reference first: its own, the device's own, 11: E differs;
+-- `rest` is what else the call looks for
 abbrev pub pairFault : Sheet → Sheet → ℕ → ℕ
 pairFault P Q rest = orElse (sheetFault P) (orElse (sheetFault Q) (unless (eqb (P .e) (Q .e)) 11 rest))

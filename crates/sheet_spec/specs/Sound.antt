@@ -36,10 +36,10 @@ pub record Sound (s : Sheet) : Type 0 where
   pub unused-count : (v : ℕ) → s .n ≤ v → v < 32 → row s v .c ≡ 0
   -- the sets of a node are strictly ascending
   pub ascending : (v j k : ℕ) → v < s .n → j < k → k < row s v .c → acceptance (row s v) j < acceptance (row s v) k
-  -- they lie inside its initials, which lead to nodes
+  -- the sets of a node lie inside its initials, which lead to nodes
   pub inside : (v j i : ℕ) → v < s .n → j < row s v .c → bit (acceptance (row s v) j) i ≡ 1 → (i < s .e) × (successor (row s v) i < s .n)
   pub narrow : (v j : ℕ) → v < s .n → j < row s v .c → acceptance (row s v) j < 2 ^ s .e
-  -- none includes another
+  -- no set of a node includes another
   pub antichain : (v j k : ℕ) → v < s .n → j < row s v .c → k < row s v .c → j ≢ k → ¬ Within (acceptance (row s v) j) (acceptance (row s v) k)
   -- the empty set stands alone
   pub stop-alone : (v j : ℕ) → v < s .n → j < row s v .c → acceptance (row s v) j ≡ 0 → row s v .c ≡ 1

@@ -1,5 +1,5 @@
--- Accepted bytes are the bytes of the sheet that they spell: node by node, what is written of a row that was read, before the
--- bytes after the node, is what stood there.
+-- Accepted bytes are the bytes of the sheet that they spell: node by node, what is written of a row that was read,
+-- before the bytes after the node, is what stood there.
 use mathlib.Core.Path.{_≡_, sym, _∙_}
 use mathlib.Core.List.{List, [], _∷_, _++_, append-assoc}
 use Prim.Native.Nat.{ℕ, suc, _+_, _*_, _/_, _%_, _≤_, _<_}
@@ -12,7 +12,7 @@ use Rattle.base.specs.Table.{upTo, length-upTo, getD-upTo}
 use Rattle.sheet_spec.specs.declared.Row.{Row}
 use Rattle.sheet_spec.specs.Kept.{noRow}
 use Rattle.sheet_spec.specs.Form.{Bytes}
-use Rattle.sheet_spec.specs.Reading.{byte, word, lengthField, eventsOf, nodesOf, nodesAt, countAt, nextAt}
+use Rattle.sheet_spec.specs.Reading.{byte, word, lengthField, eventCount, nodeCount, nodesAt, countAt, nextAt}
 use Rattle.sheet_spec.specs.Reading.{layoutFault, startOf, succOf, setsOf, rowAt, rowOf, sheetOf, bytesFault}
 use Rattle.sheet_spec.specs.Encoding.{two, four, encodeSets, encodeRow, encodeRows, encodeBody, encode}
 use Rattle.sheet_spec.specs.Places.{Node, whole, last-end, Accepts, accepts}
@@ -34,7 +34,7 @@ four-words x y z w g h k =
     rw (p, q, two-word x y g, two-word z w k)
 
 module _ (b : List ℕ) (y : Bytes b) where
-  -- sets that were read from a place on
+  -- sets that were read from a place on, written again, are what stood there
   sets-back : (xs : List ℕ) (at : ℕ) → at + length xs * 2 ≤ length b → ((j : ℕ) → j < length xs → getD xs j 0 ≡ word b (at + j * 2))
       → encodeSets xs ++ drop (at + length xs * 2) b ≡ drop at b
   unfolding encodeSets
@@ -48,7 +48,7 @@ module _ (b : List ℕ) (y : Bytes b) where
       next : (j : ℕ) → at + suc j * 2 ≡ at + 2 + j * 2
       next j = omega arith
 
--- what is read from a place on, before it is written again
+-- the successors and the sets that are read at a place, before they are written again
 succs-length : (b : List ℕ) (e at : ℕ) → e ≤ 12 → length (take e (upTo (succOf b at e) 12)) ≡ e
 succs-length b e at h = length-take-le e (upTo (succOf b at e) 12) (omega (arith, length-upTo (succOf b at e) 12))
 
@@ -74,7 +74,7 @@ module _ (b : List ℕ) (y : Bytes b) where
       let l = sets-length b c at h in
       rw l at (sets-back b y (take c (upTo (setsOf b at c) 16)) at (omega arith) (λ j m. sets-at b c at j h (omega arith)))
 
-  -- a node that is whole
+  -- a node that is whole, read and written again, is what stood there
   row-back : (e at : ℕ) → e ≤ 12 → Node b e at → encodeRow e (rowAt b e at) ++ drop (nextAt b e at) b ≡ drop at b
   unfolding encodeRow rowAt nextAt
   row-back e at h w =
@@ -84,7 +84,7 @@ module _ (b : List ℕ) (y : Bytes b) where
       ∙ rw (sets-row c (at + e + 1) (w .c-high) (w .ends)) (rw (z, ← drop-cons b (at + e) 0 (w .c-inside)) (succs-row e at h (omega (arith, w .c-inside))))
 
   module _ (e n : ℕ) (h : e ≤ 12) (l : layoutFault b e n nodesAt ≡ 0) where
-    -- the nodes from node v on
+    -- the nodes from node v on, written again, are the bytes from its start on
     rows-back : (rs : List Row) (v : ℕ) → v + length rs ≡ n → ((j : ℕ) → j < length rs → getD rs j noRow ≡ rowAt b e (startOf b e (v + j)))
         → encodeRows e rs ≡ drop (startOf b e v) b
     unfolding encodeRows startOf
@@ -120,7 +120,7 @@ body-spelled : (b : List ℕ) → Bytes b → Accepts b → encodeBody (sheetOf 
 unfolding encodeBody sheetOf
 body-spelled b y a =
     let w = a .headed .long in
-    rw (rows-spelled b y (eventsOf b) (nodesOf b) (a .ranged .e-high) (a .ranged .n-high) (a .laid), ← drop-cons b 6 0 w, ← a .headed .version-is)
+    rw (rows-spelled b y (eventCount b) (nodeCount b) (a .ranged .e-high) (a .ranged .n-high) (a .laid), ← drop-cons b 6 0 w, ← a .headed .version-is)
     (sym (drop-two b 4 0 (omega arith)))
 
 head-spelled : (b : List ℕ) → Bytes b → 7 ≤ length b → four (lengthField b) ++ drop 4 b ≡ b

@@ -1,5 +1,5 @@
--- The bytes of a sheet that a later call accepts are read as that sheet: node by node, what is left of the bytes says what is
--- read there.
+-- The bytes of a sheet that a later call accepts are read as that sheet: node by node, what is left of the bytes says
+-- what is read there.
 use mathlib.Core.Path.{_≡_, refl, sym, _∙_}
 use mathlib.Core.Logic.{_⊎_, inl, inr}
 use mathlib.Core.Bool.{Bool, true, _&&_, _||_}
@@ -20,7 +20,7 @@ use Rattle.sheet_spec.specs.declared.Sheet.{Sheet}
 use Rattle.sheet_spec.specs.Kept.{noRow, row, successor, acceptance}
 use Rattle.sheet_spec.specs.Rules.{rangesOk, countOk, countsOk, blank, unusedOk, blanksOk, sheetFault}
 use Rattle.sheet_spec.specs.Form.{SheetForm}
-use Rattle.sheet_spec.specs.Reading.{byte, word, lengthField, version, eventsOf, nodesOf, nodesAt, headFault, countAt, nextAt}
+use Rattle.sheet_spec.specs.Reading.{byte, word, lengthField, version, eventCount, nodeCount, nodesAt, headFault, countAt, nextAt}
 use Rattle.sheet_spec.specs.Reading.{layoutFault, startOf, succOf, setsOf, rowAt, unusedRow, rowOf, sheetOf, bytesFault}
 use Rattle.sheet_spec.specs.Encoding.{two, four, encodeSets, encodeRow, encodeRows, encodeBody, encode}
 use Rattle.sheet_spec.specs.RuleLaws.{between→, Ranges, ranges→}
@@ -108,7 +108,7 @@ module _ (b : List ℕ) (e at : ℕ) (r : Row) (post : List ℕ) (k : e ≤ 12) 
   set-read : (j : ℕ) → j < r .c → word b (at + e + 1 + j * 2) ≡ getD (r .sets) j 0
   set-read j l = sets-read b (take (r .c) (r .sets)) post (at + e + 1) sets-left j (omega (arith, set-count)) ∙ getD-take (r .c) (r .sets) j 0 l
 
-  -- the next node is written after it
+  -- the next node is written after the node
   after-row : drop (nextAt b e at) b ≡ post
   unfolding nextAt
   after-row =
@@ -131,12 +131,12 @@ module _ (b : List ℕ) (e at : ℕ) (r : Row) (post : List ℕ) (k : e ≤ 12) 
       go j m (inl l) = rw (lt-ltb j (r .c) l) (set-read j l)
       go j m (inr l) = rw (le-ltb j (r .c) l) (sym (blank-set e (r .c) r (f .blanks) j m l))
 
-  -- it is read as its row
+  -- the node is read as its row
   row-read : rowAt b e at ≡ r
   unfolding rowAt
   row-read = row-path (rowAt b e at) r succs-same (rw c-read sets-same) c-read
 
-  -- and passes the tests of the layout
+  -- a node that is written at a place passes the tests of the layout
   row-ends : at ≤ length b → (at + e < length b) × (nextAt b e at ≤ length b)
   unfolding nextAt
   row-ends l =
@@ -202,7 +202,7 @@ module _ (s : Sheet) where
   unfolding encode encodeBody four two
   version-written = refl
 
-  ranges-written : rangesOk (s .e) (s .n) ≡ true → rangesOk (eventsOf (encode s)) (nodesOf (encode s)) ≡ true
+  ranges-written : rangesOk (s .e) (s .n) ≡ true → rangesOk (eventCount (encode s)) (nodeCount (encode s)) ≡ true
   unfolding encode encodeBody four two
   ranges-written t = t
 
@@ -243,7 +243,7 @@ module _ (s : Sheet) (o : SheetForm s) (p : Passes s) where
       unless← 1 (and-i (le-leb 7 (length (encode s)) (long s)) (eq-eqb (lengthField (encode s) + 4) (length (encode s)) (length-written s)))
       (unless← 2 (version-written s) (unless← 3 (ranges-written s (p .p3)) refl))
 
-  layout-written : layoutFault (encode s) (eventsOf (encode s)) (nodesOf (encode s)) nodesAt ≡ 0
+  layout-written : layoutFault (encode s) (eventCount (encode s)) (nodeCount (encode s)) nodesAt ≡ 0
   unfolding encode encodeBody four two
   layout-written =
       rw used-length at (layout-read (encode s) (s .e) (small .e-high) (take (s .n) (s .rows)) nodesAt refl (long s) used-fit)
@@ -270,7 +270,7 @@ pub sheetOf-encode : (s : Sheet) → SheetForm s → sheetFault s ≡ 0 → shee
 unfolding sheetOf encode encodeBody four two
 sheetOf-encode s o h = sheet-path (sheetOf (encode s)) s (rows-written s o (passes s h)) refl refl
 
--- and reading accepts them
+-- reading accepts the bytes of an accepted sheet
 pub encode-accepted : (s : Sheet) → SheetForm s → sheetFault s ≡ 0 → bytesFault (encode s) ≡ 0
 unfolding bytesFault
 encode-accepted s o h =

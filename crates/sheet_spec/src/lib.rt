@@ -1,9 +1,9 @@
-// What a sheet is (01, "A sheet"): a dialogue graph, that is a normalised transition graph with the minimal acceptances of each
-// node, as the bench keeps it. The crate has the types; its specs say what bytes spell such a sheet and which of them are
-// accepted. It has no function.
+// What a sheet is (01, "A sheet"): a dialogue graph, that is a normalised transition graph with the minimal acceptances
+// of each node, as the bench keeps it. The crate has the types; its specs say what bytes spell such a sheet and which
+// of them are accepted. It has no function.
 
-// The row of one node: its successor on each event, 255 for none; its minimal acceptances, as sets of events; how many of
-// these it has (01's C). Unused successors hold 255, unused sets 0; so does the C of an unused node.
+// The row of one node: its successor on each event, 255 for none; its minimal acceptances, as sets of events; how many
+// of these it has (01's C). Unused successors hold 255, unused sets 0, and the C of an unused node is 0.
 #[repr(C)]
 pub struct Row {
     pub succ: [u8; 12],

@@ -10,24 +10,24 @@ use Rattle.text_spec.specs.Input.{cutInput}
 use Rattle.text_spec.specs.Adds.{Holds, Adds}
 use Rattle.text_spec.specs.AddsLaws.{adds-then, adds-all}
 use Rattle.text_spec.specs.Joined.{joined}
-use Rattle.node_lines_spec.specs.Head.{headLine}
-use Rattle.node_lines_spec.specs.Show.{nodeLines, showLines, showText}
-use Rattle.node_lines_spec.specs.ShowLaws.{show-accepted, show-refused, read-nodes}
+use Rattle.text_sheet_spec.specs.Head.{headLine}
+use Rattle.text_sheet_spec.specs.Show.{nodeLines, showLines, showText}
+use Rattle.text_sheet_spec.specs.ShowLaws.{show-accepted, show-refused, read-nodes}
 
 module _ (input : List ℕ) {a : ReadSheet} (e : a ≡ readSheet (take 4096 input)) where
   shown : showLines a ≡ showText input
   unfolding showText cutInput
   shown = ap showLines e
 
-  -- a refused sheet
+  -- the text of a refused sheet is its first line
   pub refused-shown : {out out′ : List ℕ} {r : ℕ} → a .refusal ≢ 0 → Adds (headLine a) out 0 out′ r → Holds out (showText input) out′ r
   refused-shown n p = rw (← shown, show-refused a n) (adds-all p)
 
-  -- an accepted one
+  -- the text of an accepted sheet is its first line and the lines of its nodes
   pub nodes-shown : {out b out′ : List ℕ} {k r : ℕ} → a .refusal ≡ 0 → Adds (headLine a) out 0 b k
       → Adds (joined (nodeLines (a .sheet)) (a .sheet .n)) b k out′ r → Holds out (showText input) out′ r
   nodes-shown z p q = rw (← shown, show-accepted a z) (adds-all (adds-then p q))
 
-  -- has at most 32 nodes
+  -- an accepted sheet has at most 32 nodes
   pub nodes-few : a .refusal ≡ 0 → a .sheet .n ≤ 32
   nodes-few z = rw (sym e) at (read-nodes (take 4096 input) (rw e at z))

@@ -1,9 +1,10 @@
-// The text of the program `show`: every byte that it prints, from the bytes that it reads. A function that puts a piece takes the list and
-// the place where the piece begins and answers the place after it.
+// The text of the program `show`: every byte that it prints, from the bytes that it reads. A function that puts a piece
+// takes the list and the place where the piece begins and answers the place after it.
 ghost use Prim.Native.Nat.{_≤_};
 ghost use Rattle.text_spec.specs.Adds.{Adds, Holds};
 ghost use Rattle.text_spec.specs.Joined.{joined};
-ghost use Rattle.node_lines_spec.specs.Show.{eventLine, successorLine, acceptanceLine, restLines, rowLines, nodeLines, showText};
+ghost use Rattle.text_sheet_spec.specs.Show.{eventLine, successorLine, acceptanceLine};
+ghost use Rattle.text_sheet_spec.specs.Show.{restLines, rowLines, nodeLines, showText};
 use sheet_spec::Row;
 use sheet_spec::Sheet;
 
@@ -20,7 +21,7 @@ fn put_event_line(out: &mut [u8], at: usize, i: u8, w: u8) -> usize
 fn put_successor(out: &mut [u8], at: usize, row: Row, i: u8) -> usize
     ensures { λ r. ⌜ Adds (successorLine row i) (now (out .entry)) at (now (out .exit)) r ⌝ }
 {
-    let w = rows::successor_of(row, base::wide(i));
+    let w = sheet_rows::successor_of(row, base::wide(i));
     if w == 255 {
         return at;
     }
@@ -42,7 +43,7 @@ fn put_successors(out: &mut [u8], at: usize, row: Row, e: u8) -> usize
 fn put_acceptance(out: &mut [u8], at: usize, row: Row, j: u8) -> usize
     ensures { λ r. ⌜ Adds (acceptanceLine row j) (now (out .entry)) at (now (out .exit)) r ⌝ }
 {
-    let x = rows::acceptance_at(row, base::wide(j));
+    let x = sheet_rows::acceptance_at(row, base::wide(j));
     let a = text::put(out, at, b"accepts ");
     let b = text::put_set(out, a, x);
     text::put(out, b, b"\n")
@@ -64,7 +65,7 @@ fn put_acceptances(out: &mut [u8], at: usize, row: Row) -> usize
 fn put_rest(out: &mut [u8], at: usize, row: Row) -> usize
     ensures { λ r. ⌜ Adds (restLines row) (now (out .entry)) at (now (out .exit)) r ⌝ }
 {
-    if rows::may_stop(row) {
+    if sheet_rows::may_stop(row) {
         return text::put(out, at, b"may stop\n");
     }
     put_acceptances(out, at, row)
@@ -97,12 +98,13 @@ fn put_nodes(out: &mut [u8], at: usize, s: Sheet) -> usize
     next
 }
 
-// Puts the program's text for an input over the front of the list and answers where it ends; what has no room is left out.
+// Puts the program's text for an input over the front of the list and answers where it ends; what has no room is left
+// out.
 pub fn put_show(input: &[u8], out: &mut [u8]) -> usize
     ensures { λ r. ⌜ Holds (now (out .entry)) (showText (now (input .entry))) (now (out .exit)) r ⌝ }
 {
     let a = sheet::read(text::front(input, 4096));
-    let at = head_lines::put_head(out, 0, a);
+    let at = text_sheet::put_head(out, 0, a);
     if a.refusal != 0 {
         return at;
     }

@@ -1,5 +1,5 @@
-// The program `suite`: two sheets from standard input, as `compare` reads them, and on standard output the verdict of every test of the
-// device and how many fail.
+// The program `suite`: two sheets from standard input, as `compare` reads them, and on standard output the verdict of
+// every test of the device and how many fail.
 fn main() {
     let mut space = io::buffer();
     let n = io::read_full(libc::STDIN_FILENO, &mut space);

@@ -12,13 +12,13 @@ use Rattle.base.specs.Count.{count}
 use Rattle.sheet_spec.specs.declared.Sheet.{Sheet}
 use Rattle.verdicts_spec.specs.declared.Suite.{Suite}
 use Rattle.verdicts_spec.specs.declared.Suite.the-variants.{Judged, Denied}
-use Rattle.verdicts_spec.specs.Suites.{tests, suiteFault, suiteOf, verdictsAfter}
+use Rattle.verdicts_spec.specs.Suites.{testCount, suiteFault, suiteOf, verdictsAfter}
 use Rattle.verdicts_spec.specs.SuiteLaws.{given-room, verdicts-length}
 use Rattle.suite_lines_spec.specs.Lines.{passedOf, suiteLines}
 use Rattle.suite_lines_spec.specs.Program.{verdictList, judgedLines}
 use Rattle.suite_lines.specs.Shapes.{Room}
 
--- one test more
+-- one test more is counted, if it passes
 pub passed-more : {f g v : ℕ} (vs : List ℕ) (k : ℕ) → v ≡ getD vs k 0 → f ≡ passedOf vs k → g ≡ f + cond (eqb v 1) 1 0 → g ≡ passedOf vs (k + 1)
 unfolding passedOf count
 passed-more vs k e p q = rw (add-one k, ← e, ← p) q
@@ -34,11 +34,11 @@ module _ (P Q : Sheet) {s : Suite} (vs : List ℕ) where
   unfolding Room suiteOf
   room-of o e v = rw e (go (eqb (suiteFault P Q o) 0) refl)
     where
-      go : (b : Bool) → eqb (suiteFault P Q o) 0 ≡ b → Room (cond b (Judged (tests P Q)) (Denied (suiteFault P Q o))) vs
+      go : (b : Bool) → eqb (suiteFault P Q o) 0 ≡ b → Room (cond b (Judged (testCount P Q)) (Denied (suiteFault P Q o))) vs
       go true z = omega (arith, ap length v, verdicts-length P Q o false, given-room P Q o (eqb-true (suiteFault P Q o) 0 z))
       go false z = tt
 
-  -- its lines are those of the definition
+  -- the lines of the call's answer are those of the definition
   pub judged-is : s ≡ suiteOf P Q (replicate 1024 0) → vs ≡ verdictsAfter false P Q (replicate 1024 0) → suiteLines (P .n * Q .n) s vs ≡ judgedLines P Q
-  unfolding judgedLines verdictList tests
+  unfolding judgedLines verdictList testCount
   judged-is e v = rw (e, v)

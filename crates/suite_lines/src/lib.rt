@@ -1,4 +1,5 @@
-// The text of the program `suite`: every byte that it prints, from the bytes that it reads, put over the front of a lent list.
+// The text of the program `suite`: every byte that it prints, from the bytes that it reads, put over the front of a
+// lent list.
 ghost use mathlib.Core.Path.{_≡_};
 ghost use mathlib.Core.Bool.{cond};
 ghost use Prim.Native.Nat.{_+_, _*_, _≤_, _<_};
@@ -61,37 +62,37 @@ fn count_passed(verdicts: &[u8], n: u16) -> u16
 }
 
 // Puts the end of the last line: "all pass" only if as many passed as there are tests.
-fn put_last_words(out: &mut [u8], at: usize, tests: u16, run: u16, passed: u16) -> usize
+fn put_last_words(out: &mut [u8], at: usize, total: u16, run: u16, passed: u16) -> usize
     requires { ⌜ passed ≤ run ⌝ }
-    ensures { λ r. ⌜ Adds (lastWords tests run passed) (now (out .entry)) at (now (out .exit)) r ⌝ }
+    ensures { λ r. ⌜ Adds (lastWords total run passed) (now (out .entry)) at (now (out .exit)) r ⌝ }
 {
-    if passed == tests {
+    if passed == total {
         return text::put(out, at, b" all pass\n");
     }
     text::put_number_line(out, at, b" failed ", run - passed)
 }
 
 // Puts the last line: how many tests there are, how many were run, whether all passed.
-fn put_last_line(out: &mut [u8], at: usize, tests: u16, run: u16, passed: u16) -> usize
+fn put_last_line(out: &mut [u8], at: usize, total: u16, run: u16, passed: u16) -> usize
     requires { ⌜ passed ≤ run ⌝ }
-    ensures { λ r. ⌜ Adds (lastLine tests run passed) (now (out .entry)) at (now (out .exit)) r ⌝ }
+    ensures { λ r. ⌜ Adds (lastLine total run passed) (now (out .entry)) at (now (out .exit)) r ⌝ }
 {
     let a = text::put(out, at, b"tests ");
-    let b = text::put_number(out, a, tests);
+    let b = text::put_number(out, a, total);
     let c = text::put(out, b, b" run ");
     let d = text::put_number(out, c, run);
-    put_last_words(out, d, tests, run, passed)
+    put_last_words(out, d, total, run, passed)
 }
 
 // Puts the lines of an answer, where there are so many tests; the verdicts are at the front of their list.
-fn put_suite(out: &mut [u8], at: usize, tests: u16, s: Suite, verdicts: &[u8]) -> usize
+fn put_suite(out: &mut [u8], at: usize, total: u16, s: Suite, verdicts: &[u8]) -> usize
     requires { ⌜ Room s (now verdicts) ⌝ }
-    ensures { λ r. ⌜ Adds (suiteLines tests s (now (verdicts .entry))) (now (out .entry)) at (now (out .exit)) r ⌝ }
+    ensures { λ r. ⌜ Adds (suiteLines total s (now (verdicts .entry))) (now (out .entry)) at (now (out .exit)) r ⌝ }
 {
     match s {
         Suite::Judged(n) => {
             let a = put_test_lines(out, at, verdicts, n);
-            put_last_line(out, a, tests, n, count_passed(verdicts, n))
+            put_last_line(out, a, total, n, count_passed(verdicts, n))
         }
         Suite::Denied(k) => text::put_number_line(out, at, b"suite refused ", k as u16),
     }
@@ -100,7 +101,7 @@ fn put_suite(out: &mut [u8], at: usize, tests: u16, s: Suite, verdicts: &[u8]) -
 // ---- the whole text
 
 // How many tests there are for p and q nodes.
-fn tests_of(p: u8, q: u8) -> u16
+fn test_count(p: u8, q: u8) -> u16
     ensures { λ r. ⌜ r ≡ p * q ⌝ }
 {
     (p as u16) * (q as u16)
@@ -112,14 +113,14 @@ fn put_judged(out: &mut [u8], at: usize, p: Sheet, q: Sheet) -> usize
 {
     let mut verdicts = [0u8; 1024];
     let s = verdicts::judge_all(p, q, false, &mut verdicts);
-    put_suite(out, at, tests_of(p.n, q.n), s, &verdicts)
+    put_suite(out, at, test_count(p.n, q.n), s, &verdicts)
 }
 
 // Puts the program's text for an input over the front of the lent list, and answers how many bytes of it stand there.
 pub fn suite_text(input: &[u8], out: &mut [u8]) -> usize
     ensures { λ r. ⌜ Holds (now (out .entry)) (suiteText (now (input .entry))) (now (out .exit)) r ⌝ }
 {
-    let t = pair_lines::put_pair(out, input);
+    let t = text_pair::put_pair(out, input);
     if t.both {
         let p = t.reference;
         let q = t.device;

@@ -11,19 +11,21 @@ use Rattle.sheet_spec.specs.Kept.{successor, acceptance, acceptances, initials,
 use Rattle.sheet_spec.specs.Rules.{rangesOk, countOk, countsOk, successorsOk, rowSuccessorsOk, successorOk, setsOk, rowSetsOk, setOk, ascends, noneInside, blank, unusedOk, blanksOk, reachedOk, sheetFault}
 use Rattle.sheet_spec.specs.Reading.{readSheet, answer, bytesFault, headFault, lengthField, layoutFault, nextAt, startOf, succOf, setsOf, rowAt, rowOf, sheetOf, graphFault}
 use Rattle.sheet_spec.specs.Examples.{exampleReference, exampleDevice, stopped}
-use Rattle.refinement_spec.specs.PairTests.{strays, hasStray, covers, hasRefusal, violates, violating}
-use Rattle.tests_spec.specs.Verdicts.{failsFrom, verdictFault, verdictOf}
-use Rattle.tests_spec.specs.Numbers.{judged}
+use Rattle.refinement_spec.specs.ViolatingPairs.{strays, hasStray, covers, hasRefusal, violates, violating}
+use Rattle.verdicts_spec.specs.Verdicts.{failsFrom, verdictFault, verdictOf}
+use Rattle.verdicts_spec.specs.Numbers.{judged}
 use Rattle.base.specs.Count.{count}
-use Rattle.verdicts_spec.specs.Suites.{tests, verdictNumber, suiteFault, suiteOf, verdictsAfter}
+use Rattle.verdicts_spec.specs.Suites.{testCount, verdictNumber, suiteFault, suiteOf, verdictsAfter}
 use Rattle.text_spec.specs.Lines.{ascii, decimalIn, decimal, numberLine, sheetLine}
-use Rattle.text_spec.specs.Input.{cutInput, firstEnd, firstSheet, secondSheet}
+use Rattle.text_spec.specs.Input.{cutInput}
+use Rattle.text_pair_spec.specs.Split.{firstEnd, firstSheet, secondSheet}
 use Rattle.text_spec.specs.Joined.{joined}
-use Rattle.pair_lines_spec.specs.Program.{deviceLines, sheetsLines, inputLines, pairText}
+use Rattle.text_pair_spec.specs.Program.{deviceLines, sheetsLines, inputLines, pairText}
 use Rattle.suite_lines_spec.specs.Lines.{testLine, testLines, passedOf, lastWords, lastLine, suiteLines}
 use Rattle.suite_lines_spec.specs.Program.{verdictList, judgedLines, suiteText}
 
--- inputs: 01's example; its reference against itself; unequal E; no byte of a device; no byte at all; a length field that exceeds the input
+-- inputs: 01's example; its reference against itself; unequal E; no byte of a device; no byte at all; a length field
+-- that exceeds the input
 unfoldable pub inputs : List (List ℕ)
 inputs =
     (exampleReference ++ exampleDevice)
@@ -34,7 +36,7 @@ inputs =
     ∷ (0 ∷ 0 ∷ 0 ∷ 8 ∷ 1 ∷ 1 ∷ 1 ∷ 0 ∷ 1 ∷ 0 ∷ 0 ∷ [])
     ∷ []
 
--- what each of them prints
+-- what `suite` prints for each of the inputs
 unfoldable pub texts : List (List ℕ)
 texts =
     ascii "reference 2 nodes 2 events\ndevice 3 nodes 2 events\ntest 0 passes\ntest 1 passes\ntest 2 passes\ntest 3 passes\ntest 4 passes\ntest 5 fails\ntests 6 run 6 failed 1\n"
@@ -45,7 +47,7 @@ texts =
     ∷ ascii "reference refused 1\n"
     ∷ []
 
--- one equation has them all
+-- one equation has the texts of all inputs
 pub texts-hold : map suiteText inputs ≡ texts
-unfolding inputs texts suiteText pairText cutInput inputLines firstSheet secondSheet firstEnd sheetsLines deviceLines judgedLines verdictList suiteLines testLines testLine joined passedOf lastWords lastLine numberLine sheetLine decimal decimalIn count tests verdictNumber suiteFault suiteOf verdictsAfter exampleReference exampleDevice stopped readSheet answer bytesFault headFault lengthField layoutFault nextAt startOf succOf setsOf rowAt rowOf sheetOf graphFault rangesOk countOk countsOk successorsOk rowSuccessorsOk successorOk setsOk rowSetsOk setOk ascends noneInside blank unusedOk blanksOk reachedOk sheetFault successor acceptance acceptances initials mayStop step bit has inside meets setOf nearer leads all any upTo strays hasStray covers hasRefusal violates violating failsFrom verdictFault verdictOf judged
+unfolding inputs texts suiteText pairText cutInput inputLines firstSheet secondSheet firstEnd sheetsLines deviceLines judgedLines verdictList suiteLines testLines testLine joined passedOf lastWords lastLine numberLine sheetLine decimal decimalIn count testCount verdictNumber suiteFault suiteOf verdictsAfter exampleReference exampleDevice stopped readSheet answer bytesFault headFault lengthField layoutFault nextAt startOf succOf setsOf rowAt rowOf sheetOf graphFault rangesOk countOk countsOk successorsOk rowSuccessorsOk successorOk setsOk rowSetsOk setOk ascends noneInside blank unusedOk blanksOk reachedOk sheetFault successor acceptance acceptances initials mayStop step bit has inside meets setOf nearer leads all any upTo strays hasStray covers hasRefusal violates violating failsFrom verdictFault verdictOf judged
 texts-hold = refl

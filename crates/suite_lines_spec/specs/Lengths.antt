@@ -13,14 +13,14 @@ use Rattle.text_spec.specs.Lines.{ascii, decimal, numberLine}
 use Rattle.text_spec.specs.DecimalLaws.{decimal-few}
 use Rattle.text_spec.specs.LengthLaws.{number-length}
 use Rattle.text_spec.specs.JoinedLaws.{joined-length}
-use Rattle.verdicts_spec.specs.Suites.{tests, verdictsAfter}
+use Rattle.verdicts_spec.specs.Suites.{testCount, verdictsAfter}
 use Rattle.verdicts_spec.specs.Complete.{tests-few}
-use Rattle.pair_lines_spec.specs.ProgramLaws.{pair-length}
+use Rattle.text_pair_spec.specs.ProgramLaws.{pair-length}
 use Rattle.suite_lines_spec.specs.Lines.{testLine, testLines, passedOf, lastWords, lastLine}
 use Rattle.suite_lines_spec.specs.Program.{verdictList, judgedLines, suiteText}
 use Rattle.suite_lines_spec.specs.ProgramLaws.{passed-few, unequal-lines, equal-lines}
 
--- the line of a test
+-- the length of the line of a test
 test-length : (k v : ℕ) → k < 10000 → length (testLine k v) ≤ 17
 unfolding testLine
 test-length k v h = go (eqb v 1)
@@ -32,12 +32,12 @@ test-length k v h = go (eqb v 1)
     go true = end (ascii " passes\n") (omega arith)
     go false = end (ascii " fails\n") (omega arith)
 
--- the lines of n tests
+-- the length of the lines of n tests
 pub tests-length : (vs : List ℕ) (n : ℕ) → n ≤ 1024 → length (testLines vs n) ≤ 17 * n
 unfolding testLines
 tests-length vs n h = omega (arith, joined-length (λ k. testLine k (getD vs k 0)) 17 n (λ k l. test-length k (getD vs k 0) (omega arith)))
 
--- the last line
+-- the length of the last line
 pub last-length : (n m f : ℕ) → n ≤ 1024 → m ≤ 1024 → f ≤ 1024 → length (lastLine n m f) ≤ 32
 unfolding lastLine lastWords
 last-length n m f a b c = go (eqb f n)
@@ -59,15 +59,15 @@ last-length n m f a b c = go (eqb f n)
     go false = end (numberLine (ascii " failed ") (m - f)) (omega (arith, number-length (ascii " failed ") 3 (m - f) (omega arith)))
 
 module _ (P Q : Sheet) (accP : sheetFault P ≡ 0) (accQ : sheetFault Q ≡ 0) where
-  -- after two accepted sheets: at most 1,024 tests and the last line, or a refusal
+  -- the length of the lines after two accepted sheets: at most 1,024 tests and the last line, or a refusal
   judged-length : length (judgedLines P Q) ≤ 17440
   judged-length = go (ℕ-discrete (P .e) (Q .e))
     where
       go : Dec (P .e ≡ Q .e) → length (judgedLines P Q) ≤ 17440
       go (yes e) =
           let few = tests-few P Q accP accQ e in
-          rw (equal-lines P Q accP accQ e, length-append (testLines vs (tests P Q)) (lastLine (tests P Q) (tests P Q) (passedOf vs (tests P Q))))
-          (omega (arith, tests-length vs (tests P Q) few, few, last-length (tests P Q) (tests P Q) (passedOf vs (tests P Q)) few few (omega (arith, few, passed-few vs (tests P Q)))))
+          rw (equal-lines P Q accP accQ e, length-append (testLines vs (testCount P Q)) (lastLine (testCount P Q) (testCount P Q) (passedOf vs (testCount P Q))))
+          (omega (arith, tests-length vs (testCount P Q) few, few, last-length (testCount P Q) (testCount P Q) (passedOf vs (testCount P Q)) few few (omega (arith, few, passed-few vs (testCount P Q)))))
         where
           vs : List ℕ
           vs = verdictsAfter false P Q verdictList

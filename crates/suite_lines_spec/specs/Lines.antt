@@ -1,5 +1,5 @@
--- The lines that `suite` prints after the two sheets, as the codes of their characters. A list of verdicts has at place k the number of
--- test k's: 1 for "passes", 2 for "fails".
+-- The lines that `suite` prints after the two sheets, as the codes of their characters. A list of verdicts has at place
+-- k the number of test k's: 1 for "passes", 2 for "fails".
 use mathlib.Core.Bool.{cond}
 use mathlib.Core.List.{List, _++_}
 use Prim.Native.Nat.{ℕ, _-_}
@@ -11,7 +11,7 @@ use Rattle.text_spec.specs.Joined.{joined}
 use Rattle.verdicts_spec.specs.declared.Suite.{Suite}
 use Rattle.verdicts_spec.specs.declared.Suite.the-variants.{Judged, Denied}
 
--- `test k passes`, where the verdict is 1, or `test k fails`
+-- the line of a test: `test k passes`, where the verdict is 1, or `test k fails`
 unfoldable pub testLine : ℕ → ℕ → List ℕ
 testLine k verdict = ascii "test " ++ (decimal k ++ cond (eqb verdict 1) (ascii " passes\n") (ascii " fails\n"))
 
@@ -25,13 +25,14 @@ passedOf verdicts n = count (λ k. eqb (getD verdicts k 0) 1) n
 
 -- how the last line ends: ` all pass` only if as many passed as there are tests, else ` failed f`
 unfoldable pub lastWords : ℕ → ℕ → ℕ → List ℕ
-lastWords tests run passed = cond (eqb passed tests) (ascii " all pass\n") (numberLine (ascii " failed ") (run - passed))
+lastWords total run passed = cond (eqb passed total) (ascii " all pass\n") (numberLine (ascii " failed ") (run - passed))
 
 -- the last line: how many tests there are, how many were run, and whether all passed
 unfoldable pub lastLine : ℕ → ℕ → ℕ → List ℕ
-lastLine tests run passed = ascii "tests " ++ (decimal tests ++ (ascii " run " ++ (decimal run ++ lastWords tests run passed)))
+lastLine total run passed = ascii "tests " ++ (decimal total ++ (ascii " run " ++ (decimal run ++ lastWords total run passed)))
 
--- the lines of an answer, where there are so many tests: a line for each that was run, and the last line; or the refusal
+-- the lines of an answer, where there are so many tests: a line for each that was run, and the last line; or the
+-- refusal
 unfoldable pub suiteLines : ℕ → Suite → List ℕ → List ℕ
-suiteLines tests (Judged n) verdicts = testLines verdicts n ++ lastLine tests n (passedOf verdicts n)
-suiteLines tests (Denied k) verdicts = numberLine (ascii "suite refused ") k
+suiteLines total (Judged n) verdicts = testLines verdicts n ++ lastLine total n (passedOf verdicts n)
+suiteLines total (Denied k) verdicts = numberLine (ascii "suite refused ") k

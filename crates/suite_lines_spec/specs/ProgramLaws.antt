@@ -1,5 +1,5 @@
--- What the text says after two accepted sheets: with the same E they get a line for each test and the last line, which says "all pass"
--- exactly if the device refines the reference; with another E they get the refusal 11.
+-- What the text says after two accepted sheets: with the same E they get a line for each test and the last line, which
+-- says "all pass" exactly if the device refines the reference; with another E they get the refusal 11.
 use mathlib.Core.Path.{_≡_}
 use mathlib.Core.Logic.{_≢_, _↔_}
 use mathlib.Core.Bool.{Bool, false}
@@ -14,18 +14,18 @@ use Rattle.sheet_spec.specs.declared.Sheet.{Sheet}
 use Rattle.sheet_spec.specs.Rules.{sheetFault}
 use Rattle.refinement_spec.specs.Refinement.{RefinesIn}
 use Rattle.text_spec.specs.Lines.{ascii, numberLine}
-use Rattle.verdicts_spec.specs.Suites.{tests, suiteFault, verdictsAfter}
+use Rattle.verdicts_spec.specs.Suites.{testCount, suiteFault, verdictsAfter}
 use Rattle.verdicts_spec.specs.SuiteLaws.{suite-11, suite-fits, denied-suite, given-suite}
 use Rattle.verdicts_spec.specs.Complete.{tests-few, suite-complete}
 use Rattle.suite_lines_spec.specs.Lines.{testLines, passedOf, lastWords, lastLine, suiteLines}
 use Rattle.suite_lines_spec.specs.Program.{verdictList, judgedLines}
 
--- no more pass than there are
+-- no more tests pass than there are
 pub passed-few : (vs : List ℕ) (n : ℕ) → passedOf vs n ≤ n
 unfolding passedOf
 passed-few vs n = count-le (λ k. eqb (getD vs k 0) 1) n
 
--- the list is long enough for every two sheets that are not refused
+-- the list of verdicts has 1,024 places, enough for every two sheets that are not refused
 list-length : length verdictList ≡ 1024
 unfolding verdictList
 list-length = length-replicate {A = ℕ} 1024 0
@@ -35,7 +35,7 @@ module _ (P Q : Sheet) (accP : sheetFault P ≡ 0) (accQ : sheetFault Q ≡ 0) w
   abbrev pub after : List ℕ
   after = verdictsAfter false P Q verdictList
 
-  -- E differs
+  -- where E differs, the refusal 11 is printed
   pub unequal-lines : P .e ≢ Q .e → judgedLines P Q ≡ numberLine (ascii "suite refused ") 11
   unfolding judgedLines suiteLines
   unequal-lines n =
@@ -43,31 +43,31 @@ module _ (P Q : Sheet) (accP : sheetFault P ≡ 0) (accQ : sheetFault Q ≡ 0) w
       rw (denied-suite P Q verdictList (λ e. omega (arith, z)), z)
 
   module _ (same : P .e ≡ Q .e) where
-    room : tests P Q ≤ length verdictList
+    room : testCount P Q ≤ length verdictList
     room = omega (arith, list-length, tests-few P Q accP accQ same)
 
-    -- a line for each test, and the last line
-    pub equal-lines : judgedLines P Q ≡ testLines after (tests P Q) ++ lastLine (tests P Q) (tests P Q) (passedOf after (tests P Q))
+    -- where E is the same, a line for each test is printed, and the last line
+    pub equal-lines : judgedLines P Q ≡ testLines after (testCount P Q) ++ lastLine (testCount P Q) (testCount P Q) (passedOf after (testCount P Q))
     unfolding judgedLines suiteLines
     equal-lines = rw (given-suite P Q verdictList (suite-fits P Q verdictList accP accQ same room))
 
     -- as many pass as there are tests exactly if the device refines the reference
-    pub all-passed : (passedOf after (tests P Q) ≡ tests P Q) ↔ RefinesIn false P Q
+    pub all-passed : (passedOf after (testCount P Q) ≡ testCount P Q) ↔ RefinesIn false P Q
     unfolding passedOf
     all-passed =
-        (λ z. w .0 (λ k l. eqb-true (getD after k 0) 1 (count-all→ f (tests P Q) z k l)), λ r. count-all← f (tests P Q) (λ k l. eq-eqb (getD after k 0) 1 (w .1 r k l)))
+        (λ z. w .0 (λ k l. eqb-true (getD after k 0) 1 (count-all→ f (testCount P Q) z k l)), λ r. count-all← f (testCount P Q) (λ k l. eq-eqb (getD after k 0) 1 (w .1 r k l)))
       where
         f : ℕ → Bool
         f k = eqb (getD after k 0) 1
 
-        w : ((k : ℕ) → k < tests P Q → getD after k 0 ≡ 1) ↔ RefinesIn false P Q
+        w : ((k : ℕ) → k < testCount P Q → getD after k 0 ≡ 1) ↔ RefinesIn false P Q
         w = suite-complete P Q accP accQ same verdictList room false
 
-    -- so the last line says "all pass" exactly then
-    pub says-all : RefinesIn false P Q → lastWords (tests P Q) (tests P Q) (passedOf after (tests P Q)) ≡ ascii " all pass\n"
+    -- the last line says "all pass" exactly if the device refines the reference, else how many tests failed
+    pub says-all : RefinesIn false P Q → lastWords (testCount P Q) (testCount P Q) (passedOf after (testCount P Q)) ≡ ascii " all pass\n"
     unfolding lastWords
-    says-all r = rw (eq-eqb (passedOf after (tests P Q)) (tests P Q) (all-passed .1 r))
+    says-all r = rw (eq-eqb (passedOf after (testCount P Q)) (testCount P Q) (all-passed .1 r))
 
-    pub says-failed : ¬ RefinesIn false P Q → lastWords (tests P Q) (tests P Q) (passedOf after (tests P Q)) ≡ numberLine (ascii " failed ") (tests P Q - passedOf after (tests P Q))
+    pub says-failed : ¬ RefinesIn false P Q → lastWords (testCount P Q) (testCount P Q) (passedOf after (testCount P Q)) ≡ numberLine (ascii " failed ") (testCount P Q - passedOf after (testCount P Q))
     unfolding lastWords
-    says-failed n = rw (ne-eqb (passedOf after (tests P Q)) (tests P Q) (λ e. n (all-passed .0 e)))
+    says-failed n = rw (ne-eqb (passedOf after (testCount P Q)) (testCount P Q) (λ e. n (all-passed .0 e)))

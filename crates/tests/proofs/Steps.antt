@@ -16,33 +16,33 @@ use Rattle.tests_spec.specs.declared.Stepped.{Stepped}
 use Rattle.tests_spec.specs.Flags.{flag, flagOf}
 use Rattle.tests_spec.specs.Runs.{newRun, answered, openFault, openOf, recordOk, eventFault, reportFault, stepOf}
 use Rattle.tests_spec.specs.Numbers.{said}
-use Rattle.offers.specs.Shapes.{offerAt}
-use Rattle.reports.specs.Shapes.{recordFault}
-use Rattle.reports.proofs.Answers.{offer-is, sound, refused}
-use Rattle.tests.specs.Shapes.{notOpened}
+use Rattle.tests.specs.OfferShapes.{offerAt}
+use Rattle.tests.specs.ReportShapes.{recordFault}
+use Rattle.tests.proofs.reports.Answers.{offer-is, sound, refused}
+use Rattle.tests.specs.OpenShapes.{notOpened}
 
--- an answer is the same in its numbers
+-- answers that are the same are the same in their numbers
 pub told : {o o′ : Stepped} → o ≡ o′ → (o ≡ o′) × (said (o .answer) ≡ said (o′ .answer))
 told p = (p, ap (λ (z : Stepped). said (z .answer)) p)
 
 -- ---- opening
 
-module _ (s : Sheet) (k h : ℕ) (to : Bool) {f : ℕ} (p : f ≡ sheetFault s) where
+module _ (s : Sheet) (k h : ℕ) (traceOnly : Bool) {f : ℕ} (p : f ≡ sheetFault s) where
   -- a run at its start, with this byte as its flag
   abbrev started : ℕ → Run
-  started b = record { k = k; h = h; traces = b; ended = 0; node = 0; depth = 0 }
+  started b = record { k = k; h = h; «trace_only» = b; ended = 0; node = 0; depth = 0 }
 
-  pub open-sheet : {o : Stepped} → (f ≡ 0 → ⊥) → o ≡ notOpened f → o ≡ openOf s k h to
+  pub open-sheet : {o : Stepped} → (f ≡ 0 → ⊥) → o ≡ notOpened f → o ≡ openOf traceOnly s k h
   unfolding openOf openFault
   open-sheet n q = q ∙ rw (← p, orElse-some f (unless (leb k 1023) 14 0) (omega arith), ne-eqb f 0 n)
 
-  pub open-k : {o : Stepped} → f ≡ 0 → 1023 < k → o ≡ notOpened 14 → o ≡ openOf s k h to
+  pub open-k : {o : Stepped} → f ≡ 0 → 1023 < k → o ≡ notOpened 14 → o ≡ openOf traceOnly s k h
   unfolding openOf openFault
   open-k z l q = q ∙ rw (← p, z, lt-leb k 1023 l)
 
-  pub opened : {e x b : ℕ} → f ≡ 0 → k ≤ 1023 → e ≡ s .e → b ≡ flagOf to → x ≡ offerAt e (row s 0) (started b) → answered (Going x) (started b) ≡ openOf s k h to
+  pub opened : {e x b : ℕ} → f ≡ 0 → k ≤ 1023 → e ≡ s .e → b ≡ flagOf traceOnly → x ≡ offerAt e (row s 0) (started b) → answered (Going x) (started b) ≡ openOf traceOnly s k h
   unfolding openOf openFault newRun
-  opened z l d c q = rw (← p, z, le-leb k 1023 l, q, d, c, ← offer-is s (newRun k h to))
+  opened z l d c q = rw (← p, z, le-leb k 1023 l, q, d, c, ← offer-is s (newRun traceOnly k h))
 
 -- an accepted sheet has a first node
 module _ (s : Sheet) {f : ℕ} (p : f ≡ sheetFault s) (z : f ≡ 0) where
@@ -58,7 +58,7 @@ module _ (s : Sheet) (r : Run) (report : Report) where
       at : reportFault s r report ≡ f
       at = unfold reportFault in rw (← p) (orElse-some f _ (omega arith))
 
-  -- of two tests under 16 and 9 the number stands, whatever follows
+  -- of the two tests of 16 and 9, where one gives its number, that stands whatever follows
   chain : (a b : Bool) (x g : ℕ) → g ≡ unless a 16 (unless b 9 0) → (g ≡ 0 → ⊥) → unless a 16 (unless b 9 x) ≡ g
   chain true true x g p n = absurd (n p)
   chain true false x g p n = sym p

@@ -1,10 +1,13 @@
-// Test k as a live run (01, "Test k and a live run"). The three entry points, `open_test`, `step` and `take_report`, take any content
-// and answer, or refuse with a number.
+// Test k as a live run (01, "Test k and a live run"). The three entry points, `open_test`, `step` and `take_report`,
+// take any content and answer, or refuse with a number.
+mod offers;
+mod reports;
+
 ghost use mathlib.Core.Path.{_≡_};
 ghost use Rattle.tests_spec.specs.Flags.{flagOf};
 ghost use Rattle.tests_spec.specs.Runs.{openOf, stepOf};
 ghost use Rattle.tests_spec.specs.Numbers.{said};
-ghost use Rattle.tests.specs.Shapes.{notOpened};
+ghost use Rattle.tests.specs.OpenShapes.{notOpened};
 use sheet_spec::Sheet;
 use tests_spec::Answer;
 use tests_spec::Report;
@@ -20,7 +23,7 @@ fn not_opened(number: u8) -> Stepped
     let run = Run {
         k: 0,
         h: 0,
-        traces: 0,
+        trace_only: 0,
         ended: 0,
         node: 0,
         depth: 0,
@@ -43,7 +46,8 @@ fn flag_of(set: bool) -> u8
 
 // Opens test `k` with the choice number `h`: the first offer and the record, or the number of a refusal.
 pub fn open_test(sheet: Sheet, k: u16, h: u16, trace_only: bool) -> Stepped
-    ensures { λ r. ⌜ (r ≡ openOf sheet k h «trace_only») × (said (r .answer) ≡ said (openOf sheet k h «trace_only» .answer)) ⌝ }
+    ensures { λ r. ⌜ (r ≡ openOf «trace_only» sheet k h)
+        × (said (r .answer) ≡ said (openOf «trace_only» sheet k h .answer)) ⌝ }
 {
     let fault = sheet::check(sheet);
     if fault != 0 {
@@ -55,7 +59,7 @@ pub fn open_test(sheet: Sheet, k: u16, h: u16, trace_only: bool) -> Stepped
     let run = Run {
         k: k,
         h: h,
-        traces: flag_of(trace_only),
+        trace_only: flag_of(trace_only),
         ended: 0,
         node: 0,
         depth: 0,
@@ -103,7 +107,9 @@ pub fn step(sheet: Sheet, run: Run, report: Report) -> Stepped
 
 // Answers a report on the record that the bench holds, and stores the record after it there.
 pub fn take_report(run: &mut Run, sheet: Sheet, report: Report) -> Answer
-    ensures { λ r. ⌜ (r ≡ stepOf sheet (now (run .entry)) report .answer) × (said r ≡ said (stepOf sheet (now (run .entry)) report .answer)) × (now (run .exit) ≡ stepOf sheet (now (run .entry)) report .run) ⌝ }
+    ensures { λ r. ⌜ (r ≡ stepOf sheet (now (run .entry)) report .answer)
+        × (said r ≡ said (stepOf sheet (now (run .entry)) report .answer))
+        × (now (run .exit) ≡ stepOf sheet (now (run .entry)) report .run) ⌝ }
 {
     let stepped = step(sheet, *run, report);
     *run = stepped.run;

@@ -1,45 +1,12 @@
--- What a device cannot report, on the device of 01's example; the record of a refused opening; the bytes of a flag. (The worked
--- cases of runs compute through the probe lists, so they stand in `worked_cases`; those of verdicts are in `verdicts_spec`.)
+-- The record of a refused opening, and the bytes of a flag. (The worked cases of runs compute through the probe lists,
+-- so they stand in `cases_worked`; those of verdicts are in `verdicts_spec`.)
 use mathlib.Core.Path.{_≡_, refl}
 use mathlib.Core.Bool.{true, false}
-use Prim.Native.Nat.{ℕ, zero, suc, _+_, _≤_, _<_}
-use native.Mathlib.Omega.{arith}
-use Rattle.base.specs.Range.{all, any}
-use Rattle.base.specs.Table.{upTo}
-use Rattle.events.specs.Bit.{bit, setOf}
-use Rattle.events.specs.Sets.{inside, meets}
-use Rattle.walks.specs.Reach.{nearer, leads}
-use Rattle.sheet_spec.specs.Kept.{row, successor, acceptance, initials, step}
-use Rattle.sheet_spec.specs.Rules.{rangesOk, countOk, successorsOk, rowSuccessorsOk, successorOk, setsOk, rowSetsOk, setOk, ascends, noneInside}
-use Rattle.sheet_spec.specs.Rules.{reachedOk}
-use Rattle.sheet_spec.specs.Reading.{readSheet, answer, bytesFault, headFault, lengthField, layoutFault, nextAt}
-use Rattle.sheet_spec.specs.Reading.{startOf, succOf, setsOf, rowAt, rowOf, sheetOf, graphFault}
-use Rattle.sheet_spec.specs.Examples.{exampleDevice, sheet}
-use Rattle.tests_spec.specs.declared.Report.the-variants.{Event, Blocked}
 use Rattle.tests_spec.specs.Flags.{flag}
 use Rattle.tests_spec.specs.Runs.{zeroRun}
-use Rattle.tests_spec.specs.Verdicts.{CanReport}
-
--- what the device cannot report: at node 0 event 0 where only event 1 is offered; at node 2, which has event 0 alone, event 1;
--- and there it cannot block where event 0 is offered
-pub unreported :
-    (¬ CanReport (sheet exampleDevice) 0 2 (Event 0)) × (¬ CanReport (sheet exampleDevice) 2 3 (Event 1)) × (¬ CanReport (sheet exampleDevice) 2 1 Blocked)
-unfolding CanReport sheet exampleDevice readSheet answer bytesFault headFault lengthField layoutFault nextAt startOf succOf setsOf rowAt rowOf sheetOf graphFault rangesOk countOk successorsOk rowSuccessorsOk successorOk setsOk rowSetsOk setOk ascends noneInside reachedOk successor acceptance initials step bit inside meets setOf nearer leads all any upTo
-unreported = (
-  λ (x : CanReport (sheet exampleDevice) 0 2 (Event 0)). zero-one (x .0),
-  λ (x : CanReport (sheet exampleDevice) 2 3 (Event 1)). x .1 .1 refl,
-  λ (x : CanReport (sheet exampleDevice) 2 1 Blocked). alone (x .0) (x .1) (x .2),
-)
-  where
-    zero-one : _≡_ {A = ℕ} 0 1 → ⊥
-    zero-one e = omega arith
-
-    alone : (j : ℕ) → j < 1 → ((i : ℕ) → bit (acceptance (row (sheet exampleDevice) 2) j) i + bit 1 i ≤ 1) → ⊥
-    alone zero l f = let z : 2 ≤ 1 = f 0 in omega arith
-    alone (suc j) l f = omega arith
 
 -- a record of zeros: it has 0 in every place
-pub zero-record : (zeroRun .k ≡ 0) × (zeroRun .h ≡ 0) × (zeroRun .traces ≡ 0) × (zeroRun .ended ≡ 0) × (zeroRun .node ≡ 0) × (zeroRun .depth ≡ 0)
+pub zero-record : (zeroRun .k ≡ 0) × (zeroRun .h ≡ 0) × (zeroRun .«trace_only» ≡ 0) × (zeroRun .ended ≡ 0) × (zeroRun .node ≡ 0) × (zeroRun .depth ≡ 0)
 zero-record = (refl, refl, refl, refl, refl, refl)
 
 -- a flag: 0 is false; 1, 2 and 255 are true

@@ -14,12 +14,12 @@ flag x = not (eqb x 0)
 unfoldable pub flagOf : Bool → ℕ
 flagOf b = cond b 1 0
 
--- 0 is false
+-- a flag that is 0 is false
 pub flag-clear : flag 0 ≡ false
 unfolding flag
 flag-clear = refl
 
--- any other number is true
+-- a flag that is any other number than 0 is true
 pub flag-set : (x : ℕ) → x ≢ 0 → flag x ≡ true
 unfolding flag
 flag-set x n = rw (ne-eqb x 0 n)

@@ -1,12 +1,7 @@
 pub mod Flags
 pub mod Runs
-pub mod Verdicts
 pub mod Numbers
 pub mod Offers
-pub mod Blocks
 pub mod RunLaws
 pub mod RunRecords
-pub mod Layers
-pub mod VerdictLaws
-pub mod TestLaws
 pub mod Cases

@@ -76,22 +76,22 @@ chosen-some ps h l = rw (ne-eqb (length ps) 0 (λ e. omega arith))
 
 module _ (s : Sheet) (r : Run) where
   -- below depth k, and in a trace-only run, all events are offered
-  pub offer-all : (flag (r .traces) ≡ true) ⊎ (r .depth < r .k) → offerOf s r ≡ allEvents (s .e)
+  pub offer-all : (flag (r .«trace_only») ≡ true) ⊎ (r .depth < r .k) → offerOf s r ≡ allEvents (s .e)
   unfolding offerOf
   offer-all (inl t) = rw t
-  offer-all (inr l) = let q : (flag (r .traces) || ltb (r .depth) (r .k)) ≡ true = or-r (flag (r .traces)) (lt-ltb _ _ l) in rw q
+  offer-all (inr l) = let q : (flag (r .«trace_only») || ltb (r .depth) (r .k)) ≡ true = or-r (flag (r .«trace_only»)) (lt-ltb _ _ l) in rw q
 
-  -- so an event is offered there exactly if it is one of the sheet's
-  pub offer-below : (flag (r .traces) ≡ true) ⊎ (r .depth < r .k) → (i : ℕ) → (bit (offerOf s r) i ≡ 1) ↔ (i < s .e)
+  -- below depth k, and in a trace-only run, an event is offered exactly if it is one of the sheet's
+  pub offer-below : (flag (r .«trace_only») ≡ true) ⊎ (r .depth < r .k) → (i : ℕ) → (bit (offerOf s r) i ≡ 1) ↔ (i < s .e)
   offer-below c i = rw (offer-all c) (all-means (s .e) i)
 
   -- at depth k the chosen probe and the events outside the initials are offered
-  offer-last : flag (r .traces) ≡ false → r .k ≤ r .depth → offerOf s r ≡ bitOr (chosen (probesAt s (r .node)) (r .h)) (outside s (r .node))
+  offer-last : flag (r .«trace_only») ≡ false → r .k ≤ r .depth → offerOf s r ≡ bitOr (chosen (probesAt s (r .node)) (r .h)) (outside s (r .node))
   unfolding offerOf
   offer-last t l = rw (t, le-ltb (r .depth) (r .k) l)
 
-  -- so an event is offered there exactly if it is of the chosen probe, or one of the sheet's and no initial
-  pub offer-at : s .e ≤ 12 → flag (r .traces) ≡ false → r .k ≤ r .depth → (i : ℕ)
+  -- at depth k an event is offered exactly if it is of the chosen probe, or one of the sheet's and no initial
+  pub offer-at : s .e ≤ 12 → flag (r .«trace_only») ≡ false → r .k ≤ r .depth → (i : ℕ)
       → (bit (offerOf s r) i ≡ 1) ↔ ((bit (chosen (probesAt s (r .node)) (r .h)) i ≡ 1) ⊎ ((i < s .e) × (¬ Initial (s .e) (row s (r .node)) i)))
   offer-at small t l i = rw (offer-last t l) (forth, back)
     where
@@ -114,9 +114,9 @@ module _ (s : Sheet) (r : Run) where
 
   -- an event of the sheet that is no initial is always offered
   pub offer-outside : s .e ≤ 12 → (i : ℕ) → i < s .e → ¬ Initial (s .e) (row s (r .node)) i → bit (offerOf s r) i ≡ 1
-  offer-outside small i l n = go (dec (flag (r .traces))) (lt-or-ge (r .depth) (r .k))
+  offer-outside small i l n = go (dec (flag (r .«trace_only»))) (lt-or-ge (r .depth) (r .k))
     where
-      go : (flag (r .traces) ≡ true) ⊎ (flag (r .traces) ≡ false) → (r .depth < r .k) ⊎ (r .k ≤ r .depth) → bit (offerOf s r) i ≡ 1
+      go : (flag (r .«trace_only») ≡ true) ⊎ (flag (r .«trace_only») ≡ false) → (r .depth < r .k) ⊎ (r .k ≤ r .depth) → bit (offerOf s r) i ≡ 1
       go (inl t) d = offer-below (inl t) i .1 l
       go (inr t) (inl d) = offer-below (inr d) i .1 l
       go (inr t) (inr d) = offer-at small t d i .1 (inr (l, n))

@@ -1,5 +1,5 @@
--- The rules of a live run (01, "Test k and a live run" and "Who can cause a refusal"): what is refused, and what each report is
--- answered.
+-- The rules of a live run (01, "Test k and a live run" and "Who can cause a refusal"): what is refused, and what each
+-- report is answered.
 use mathlib.Core.Path.{_≡_, refl, sym, ap, _∙_}
 use mathlib.Core.Logic.{_⊎_, inl, inr, _≢_, _↔_}
 use mathlib.Core.Bool.{Bool, true, false, not}
@@ -17,7 +17,7 @@ use Rattle.sheet_spec.specs.Kept.{row, initials, mayStop}
 use Rattle.sheet_spec.specs.Faults.{Initial}
 use Rattle.sheet_spec.specs.Rules.{sheetFault}
 use Rattle.sheet_spec.specs.RuleLaws.{initials→, initials←}
-use Rattle.sheet_spec.specs.CheckLaws.{check-other, further, finally}
+use Rattle.sheet_spec.specs.CheckLaws.{Own, NotOwn, check-other, further, finally}
 use Rattle.sheet_spec.specs.Sound.{check-sound}
 use Rattle.tests_spec.specs.declared.Run.{Run}
 use Rattle.tests_spec.specs.declared.Report.{Report}
@@ -29,48 +29,49 @@ use Rattle.tests_spec.specs.Flags.{flag}
 use Rattle.tests_spec.specs.Runs.{offerOf, newRun, zeroRun, answered, openFault, openOf, recordOk, eventFault, reportFault, movedBy, endedRun, answerOf, stepOf}
 use Rattle.tests_spec.specs.Numbers.{said}
 
--- Opening.
+-- the refusals and the answers of an opening
 module _ (s : Sheet) (k : ℕ) where
   -- a sheet that is refused is refused with its own number
-  pub open-sheet : (m : ℕ) → 0 < m → m < 9 → (openFault s k ≡ m) ↔ (sheetFault s ≡ m)
+  pub open-sheet : (m : ℕ) → Own m → (openFault s k ≡ m) ↔ (sheetFault s ≡ m)
   unfolding openFault
-  open-sheet m z l =
+  open-sheet m (z, l) =
       orElse-first (sheetFault s) (unless (leb k 1023) 14 0) m (λ e. omega arith) (unless-other (leb k 1023) (λ e. omega arith) (λ e. omega arith))
 
-  -- 14: k is above 1,023
+  -- 14: an opening with k above 1,023
   pub open-14 : (openFault s k ≡ 14) ↔ ((sheetFault s ≡ 0) × (1023 < k))
   unfolding openFault
   open-14 =
       finally (orElse-then (sheetFault s) (unless (leb k 1023) 14 0) 14 (inl (check-other s 14 (omega arith))))
       (λ h. unless-hit 14 0 (finds-le k 1023) (λ e. omega arith))
 
-  -- no refusal: the sheet is accepted and k is not above 1,023
+  -- no refusal of an opening: the sheet is accepted and k is not above 1,023
   pub open-0 : (openFault s k ≡ 0) ↔ ((sheetFault s ≡ 0) × (¬ (1023 < k)))
   unfolding openFault
   open-0 =
       finally (orElse-then (sheetFault s) (unless (leb k 1023) 14 0) 0 (inr refl)) (λ h. unless-none 14 (finds-le k 1023) (λ e. omega arith))
 
-  module _ (h : ℕ) (to : Bool) where
+  module _ (h : ℕ) (traceOnly : Bool) where
     -- an opening that is not refused has the first offer and the record of a run at its start
-    pub open-going : openFault s k ≡ 0 → openOf s k h to ≡ answered (Going (offerOf s (newRun k h to))) (newRun k h to)
+    pub open-going : openFault s k ≡ 0 → openOf traceOnly s k h ≡ answered (Going (offerOf s (newRun traceOnly k h))) (newRun traceOnly k h)
     unfolding openOf
     open-going z = rw (eq-eqb (openFault s k) 0 z)
 
-    -- one that is refused has its number and a record of zeros
-    pub open-denied : openFault s k ≢ 0 → openOf s k h to ≡ answered (Denied (openFault s k)) zeroRun
+    -- an opening that is refused has its number and a record of zeros
+    pub open-denied : openFault s k ≢ 0 → openOf traceOnly s k h ≡ answered (Denied (openFault s k)) zeroRun
     unfolding openOf
     open-denied z = rw (ne-eqb (openFault s k) 0 z)
 
     -- no run is passed, nor ended in any way, before a report: opening goes on or is refused
-    pub open-answers : ((x : ℕ) × (openOf s k h to .answer ≡ Going x)) ⊎ ((m : ℕ) × (m ≢ 0) × (openOf s k h to .answer ≡ Denied m))
+    pub open-answers : ((x : ℕ) × (openOf traceOnly s k h .answer ≡ Going x)) ⊎ ((m : ℕ) × (m ≢ 0) × (openOf traceOnly s k h .answer ≡ Denied m))
     open-answers = go (dec (eqb (openFault s k) 0))
       where
         go : (eqb (openFault s k) 0 ≡ true) ⊎ (eqb (openFault s k) 0 ≡ false)
-            → ((x : ℕ) × (openOf s k h to .answer ≡ Going x)) ⊎ ((m : ℕ) × (m ≢ 0) × (openOf s k h to .answer ≡ Denied m))
-        go (inl t) = inl (offerOf s (newRun k h to), ap (λ (z : Stepped). z .answer) (open-going (eqb-true _ 0 t)))
+            → ((x : ℕ) × (openOf traceOnly s k h .answer ≡ Going x)) ⊎ ((m : ℕ) × (m ≢ 0) × (openOf traceOnly s k h .answer ≡ Denied m))
+        go (inl t) = inl (offerOf s (newRun traceOnly k h), ap (λ (z : Stepped). z .answer) (open-going (eqb-true _ 0 t)))
         go (inr t) = let n = eqb-false (openFault s k) 0 t in inr (openFault s k, n, ap (λ (z : Stepped). z .answer) (open-denied n))
 
--- A report: what 15, 17 and 9 are.
+-- ---- a report: what 15, 17 and 9 are
+
 -- 15: an event that the sheet has not
 unfoldable pub Beyond : Sheet → Report → Type 0
 Beyond s (Event i) = s .e ≤ i
@@ -89,11 +90,12 @@ WrongRecord s r = (s .n ≤ r .node) ⊎ ((r .k < r .depth) ⊎ (1023 < r .k))
 abbrev pub Shown : Sheet → Run → Type 0
 Shown s r = (sheetFault s ≡ 0) × (¬ (flag (r .ended) ≡ true))
 
--- nor 9: the record fits the sheet
+-- none of the sheet's own refusal, 16 and 9: the sheet is accepted, the run has not ended, and the record fits the
+-- sheet
 abbrev pub Fitting : Sheet → Run → Type 0
 Fitting s r = Shown s r × (¬ WrongRecord s r)
 
--- the tests of 9, 16 and 17 look for these
+-- the tests of 9, 16 and 17 find their faults
 record-finds : (s : Sheet) (r : Run) → Finds (recordOk s r) (WrongRecord s r)
 unfolding recordOk
 record-finds s r = finds-and (finds-lt (r .node) (s .n)) (finds-and (finds-le (r .depth) (r .k)) (finds-le (r .k) 1023))
@@ -104,7 +106,7 @@ ended-finds b = finds-not (λ t. t) (λ t x. clash x t)
 has-finds : (X i : ℕ) → Finds (has X i) (bit X i ≢ 1)
 has-finds X i = record { clear = λ t n. n (has→ X i t); fault = λ t e. clash (has← X i e) t }
 
--- the numbers that come from the event
+-- the numbers that come from the event of a report: 15, 17 or none
 event-15 : (s : Sheet) (r : Run) (x : Report) → (eventFault s r x ≡ 15) ↔ Beyond s x
 unfolding eventFault Beyond
 event-15 s r (Event i) =
@@ -140,28 +142,28 @@ module _ (s : Sheet) (r : Run) (x : Report) where
   after-sheet : ℕ
   after-sheet = unless (not (flag (r .ended))) 16 (unless (recordOk s r) 9 (eventFault s r x))
 
-  pass-sheet : (m : ℕ) → (8 < m) ⊎ (m ≡ 0) → (reportFault s r x ≡ m) ↔ ((sheetFault s ≡ 0) × (after-sheet ≡ m))
+  pass-sheet : (m : ℕ) → NotOwn m ⊎ (m ≡ 0) → (reportFault s r x ≡ m) ↔ ((sheetFault s ≡ 0) × (after-sheet ≡ m))
   unfolding reportFault after-sheet
   pass-sheet m (inl l) = orElse-then (sheetFault s) after-sheet m (inl (check-other s m l))
   pass-sheet m (inr z) = orElse-then (sheetFault s) after-sheet m (inr z)
 
-  pass-16 : (m : ℕ) → (8 < m) ⊎ (m ≡ 0) → 16 ≢ m → (reportFault s r x ≡ m) ↔ (Shown s r × (after16 ≡ m))
+  pass-16 : (m : ℕ) → NotOwn m ⊎ (m ≡ 0) → 16 ≢ m → (reportFault s r x ≡ m) ↔ (Shown s r × (after16 ≡ m))
   unfolding after-sheet after16
   pass-16 m c n = further (pass-sheet m c) (λ h. unless-pass 16 after16 m (ended-finds (flag (r .ended))) n)
 
-  pass-9 : (m : ℕ) → (8 < m) ⊎ (m ≡ 0) → 16 ≢ m → 9 ≢ m → (reportFault s r x ≡ m) ↔ (Fitting s r × (after9 ≡ m))
+  pass-9 : (m : ℕ) → NotOwn m ⊎ (m ≡ 0) → 16 ≢ m → 9 ≢ m → (reportFault s r x ≡ m) ↔ (Fitting s r × (after9 ≡ m))
   unfolding after16 after9
   pass-9 m c n o = further (pass-16 m c n) (λ h. unless-pass 9 after9 m (record-finds s r) o)
 
   -- a sheet that is refused is refused with its own number
-  pub report-sheet : (m : ℕ) → 0 < m → m < 9 → (reportFault s r x ≡ m) ↔ (sheetFault s ≡ m)
+  pub report-sheet : (m : ℕ) → Own m → (reportFault s r x ≡ m) ↔ (sheetFault s ≡ m)
   unfolding reportFault
-  report-sheet m z l =
+  report-sheet m (z, l) =
       orElse-first (sheetFault s) _ m (λ e. omega arith)
       (unless-other (not (flag (r .ended))) (λ e. omega arith)
       (unless-other (recordOk s r) (λ e. omega arith) (event-numbers s r x m (λ e. omega arith) (λ e. omega arith) (λ e. omega arith))))
 
-  -- 16: the run has ended
+  -- 16: a report on a run that has ended
   pub report-16 : (reportFault s r x ≡ 16) ↔ ((sheetFault s ≡ 0) × (flag (r .ended) ≡ true))
   unfolding after-sheet
   report-16 =
@@ -169,24 +171,25 @@ module _ (s : Sheet) (r : Run) (x : Report) where
       (λ h. unless-hit 16 _ (ended-finds (flag (r .ended)))
       (unless-other (recordOk s r) (λ e. omega arith) (event-numbers s r x 16 (λ e. omega arith) (λ e. omega arith) (λ e. omega arith))))
 
-  -- 9: the record does not fit the sheet
+  -- 9: a report on a record that does not fit the sheet
   pub report-9 : (reportFault s r x ≡ 9) ↔ (Shown s r × WrongRecord s r)
   unfolding after16
   report-9 =
       finally (pass-16 9 (inl (omega arith)) (λ e. omega arith))
       (λ h. unless-hit 9 _ (record-finds s r) (event-numbers s r x 9 (λ e. omega arith) (λ e. omega arith) (λ e. omega arith)))
 
-  -- 15: an event that the sheet has not
+  -- 15: a report of an event that the sheet has not
   pub report-15 : (reportFault s r x ≡ 15) ↔ (Fitting s r × Beyond s x)
   unfolding after9
   report-15 = finally (pass-9 15 (inl (omega arith)) (λ e. omega arith) (λ e. omega arith)) (λ h. event-15 s r x)
 
-  -- 17: an event that is not offered
+  -- 17: a report of an event that is not offered
   pub report-17 : (reportFault s r x ≡ 17) ↔ ((Fitting s r × (¬ Beyond s x)) × NotOffered s r x)
   unfolding after9
   report-17 = further (pass-9 17 (inl (omega arith)) (λ e. omega arith) (λ e. omega arith)) (λ h. event-17 s r x)
 
-  -- no refusal: none of these holds
+  -- no refusal of a report: the record fits the sheet, which is accepted, and the event is one of the sheet's and
+  -- offered
   pub report-0 : (reportFault s r x ≡ 0) ↔ ((Fitting s r × (¬ Beyond s x)) × (¬ NotOffered s r x))
   unfolding after9
   report-0 = further (pass-9 0 (inr refl) (λ e. omega arith) (λ e. omega arith)) (λ h. event-0 s r x)
@@ -196,12 +199,12 @@ module _ (s : Sheet) (r : Run) (x : Report) where
   unfolding stepOf
   step-denied n = rw (ne-eqb (reportFault s r x) 0 n)
 
-  -- one that is not refused is answered by the rules
+  -- a report that is not refused is answered by the rules
   pub step-answers : reportFault s r x ≡ 0 → stepOf s r x ≡ answerOf s r x
   unfolding stepOf
   step-answers z = rw (eq-eqb (reportFault s r x) 0 z)
 
--- what a report that is not refused says of the run and the sheet
+-- where a report is not refused, the sheet is accepted and the run has not ended
 pub unrefused : (s : Sheet) (r : Run) (x : Report) → reportFault s r x ≡ 0 → (sheetFault s ≡ 0) × (¬ (flag (r .ended) ≡ true))
 unrefused s r x z = report-0 s r x .0 z .0 .0 .0
 
@@ -217,30 +220,30 @@ module _ (s : Sheet) (r : Run) where
       out : has (initials (s .e) (row s (r .node))) i ≡ false
       out = not-i (λ t. n (initials→ (s .e) (row s (r .node)) small i (has→ _ i t)))
 
-  -- an event inside them is found among them
+  -- a reported event that is an initial is found among the initials
   inner : (i : ℕ) → reportFault s r (Event i) ≡ 0 → Initial (s .e) (row s (r .node)) i → has (initials (s .e) (row s (r .node))) i ≡ true
   inner i z a = has← _ i (initials← (s .e) (row s (r .node)) (check-sound s (unrefused s r (Event i) z .0) .ranges .e-high) i a)
 
-  -- an event inside them below depth k: the run moves on and the depth grows by one
+  -- an event inside the initials below depth k: the run moves on and the depth grows by one
   pub moving-step : (i : ℕ) → reportFault s r (Event i) ≡ 0 → Initial (s .e) (row s (r .node)) i → r .depth < r .k
       → stepOf s r (Event i) ≡ answered (Going (offerOf s (movedBy s r i))) (movedBy s r i)
   unfolding answerOf
   moving-step i z a l = step-answers s r (Event i) z ∙ rw (inner i z a, lt-ltb (r .depth) (r .k) l)
 
-  -- an event inside them at depth k: the run has passed
+  -- an event inside the initials at depth k: the run has passed
   pub passing-step : (i : ℕ) → reportFault s r (Event i) ≡ 0 → Initial (s .e) (row s (r .node)) i → r .k ≤ r .depth
       → stepOf s r (Event i) ≡ answered Passed (endedRun r)
   unfolding answerOf
   passing-step i z a l = step-answers s r (Event i) z ∙ rw (inner i z a, le-ltb (r .depth) (r .k) l)
 
   -- blocked: passed in a trace-only run and where the node may stop
-  pub blocked-passes : reportFault s r Blocked ≡ 0 → (flag (r .traces) ≡ true) ⊎ (mayStop (row s (r .node)) ≡ true) → stepOf s r Blocked ≡ answered Passed (endedRun r)
+  pub blocked-passes : reportFault s r Blocked ≡ 0 → (flag (r .«trace_only») ≡ true) ⊎ (mayStop (row s (r .node)) ≡ true) → stepOf s r Blocked ≡ answered Passed (endedRun r)
   unfolding answerOf
   blocked-passes z (inl t) = step-answers s r Blocked z ∙ rw t
-  blocked-passes z (inr m) = step-answers s r Blocked z ∙ rw (or-r (flag (r .traces)) m)
+  blocked-passes z (inr m) = step-answers s r Blocked z ∙ rw (or-r (flag (r .«trace_only»)) m)
 
-  -- blocked otherwise: ended, failed as refused, with the set offered
-  pub blocked-refused : reportFault s r Blocked ≡ 0 → flag (r .traces) ≡ false → mayStop (row s (r .node)) ≡ false
+  -- blocked in a run with refusals where the node may not stop: ended, failed as refused, with the set offered
+  pub blocked-refused : reportFault s r Blocked ≡ 0 → flag (r .«trace_only») ≡ false → mayStop (row s (r .node)) ≡ false
       → stepOf s r Blocked ≡ answered (Refused (offerOf s r)) (endedRun r)
   unfolding answerOf
   blocked-refused z t m = step-answers s r Blocked z ∙ rw (t, m)
@@ -251,11 +254,11 @@ pub data Taken (s : Sheet) (r : Run) (x : Report) : Type 0 where
   moves : (i : ℕ) → x ≡ Event i → reportFault s r x ≡ 0 → Initial (s .e) (row s (r .node)) i → r .depth < r .k
       → stepOf s r x ≡ answered (Going (offerOf s (movedBy s r i))) (movedBy s r i) → Taken s r x
   strays : (i : ℕ) → x ≡ Event i → reportFault s r x ≡ 0 → ¬ Initial (s .e) (row s (r .node)) i → stepOf s r x ≡ answered (Stray i) (endedRun r) → Taken s r x
-  refuses : x ≡ Blocked → reportFault s r x ≡ 0 → flag (r .traces) ≡ false → mayStop (row s (r .node)) ≡ false
+  refuses : x ≡ Blocked → reportFault s r x ≡ 0 → flag (r .«trace_only») ≡ false → mayStop (row s (r .node)) ≡ false
       → stepOf s r x ≡ answered (Refused (offerOf s r)) (endedRun r) → Taken s r x
   passes : reportFault s r x ≡ 0 → stepOf s r x ≡ answered Passed (endedRun r) → Taken s r x
 
--- every report is one of these
+-- every report is refused, moves the run on, or ends it
 pub taken : (s : Sheet) (r : Run) (x : Report) → Taken s r x
 taken s r x = go (dec (eqb (reportFault s r x) 0))
   where
@@ -275,9 +278,9 @@ taken s r x = go (dec (eqb (reportFault s r x) 0))
         pick (inr t) d =
             let n : ¬ Initial (s .e) (row s (r .node)) i = λ a. clash (inner s r i z a) t in
             strays i refl z n (stray-step s r i z n)
-    given Blocked z = pick (dec (flag (r .traces))) (dec (mayStop (row s (r .node))))
+    given Blocked z = pick (dec (flag (r .«trace_only»))) (dec (mayStop (row s (r .node))))
       where
-        pick : (flag (r .traces) ≡ true) ⊎ (flag (r .traces) ≡ false) → (mayStop (row s (r .node)) ≡ true) ⊎ (mayStop (row s (r .node)) ≡ false) → Taken s r Blocked
+        pick : (flag (r .«trace_only») ≡ true) ⊎ (flag (r .«trace_only») ≡ false) → (mayStop (row s (r .node)) ≡ true) ⊎ (mayStop (row s (r .node)) ≡ false) → Taken s r Blocked
         pick (inl t) m = passes z (blocked-passes s r z (inl t))
         pick (inr t) (inl m) = passes z (blocked-passes s r z (inr m))
         pick (inr t) (inr m) = refuses refl z t m (blocked-refused s r z t m)
@@ -290,7 +293,7 @@ taken s r x = go (dec (eqb (reportFault s r x) 0))
 pub answer-of : {z : Stepped} {a : Answer} {r : Run} → z ≡ answered a r → z .answer ≡ a
 answer-of e = ap (λ (z : Stepped). z .answer) e
 
--- and the record beside it
+-- the record, read off an equation of a step
 pub run-of : {z : Stepped} {a : Answer} {r : Run} → z ≡ answered a r → z .run ≡ r
 run-of e = ap (λ (z : Stepped). z .run) e
 
@@ -298,21 +301,21 @@ run-of e = ap (λ (z : Stepped). z .run) e
 pub kind-same : {a b : Answer} → a ≡ b → said a .kind ≡ said b .kind
 kind-same e = ap (λ (z : Answer). said z .kind) e
 
--- and the same value
+-- the same answer has the same value
 pub value-same : {a b : Answer} → a ≡ b → said a .value ≡ said b .value
 value-same e = ap (λ (z : Answer). said z .value) e
 
 -- an opening is answered with a refusal exactly if it has that number
-pub open-refused : (s : Sheet) (k h : ℕ) (to : Bool) (m : ℕ) → (openOf s k h to .answer ≡ Denied m) ↔ ((openFault s k ≡ m) × (m ≢ 0))
+pub open-refused : (s : Sheet) (k h : ℕ) (traceOnly : Bool) (m : ℕ) → (openOf traceOnly s k h .answer ≡ Denied m) ↔ ((openFault s k ≡ m) × (m ≢ 0))
 unfolding said
-open-refused s k h to m = (λ e. forth e (dec (eqb (openFault s k) 0)), back)
+open-refused s k h traceOnly m = (λ e. forth e (dec (eqb (openFault s k) 0)), back)
   where
-    forth : openOf s k h to .answer ≡ Denied m → (eqb (openFault s k) 0 ≡ true) ⊎ (eqb (openFault s k) 0 ≡ false) → (openFault s k ≡ m) × (m ≢ 0)
-    forth e (inl t) = absurd (omega (arith, kind-same (sym (answer-of (open-going s k h to (eqb-true _ 0 t))) ∙ e)))
+    forth : openOf traceOnly s k h .answer ≡ Denied m → (eqb (openFault s k) 0 ≡ true) ⊎ (eqb (openFault s k) 0 ≡ false) → (openFault s k ≡ m) × (m ≢ 0)
+    forth e (inl t) = absurd (omega (arith, kind-same (sym (answer-of (open-going s k h traceOnly (eqb-true _ 0 t))) ∙ e)))
     forth e (inr t) =
         let n = eqb-false (openFault s k) 0 t in
-        let q : openFault s k ≡ m = ap (λ (z : Answer). said z .refusal) (sym (answer-of (open-denied s k h to n)) ∙ e) in
+        let q : openFault s k ≡ m = ap (λ (z : Answer). said z .refusal) (sym (answer-of (open-denied s k h traceOnly n)) ∙ e) in
         (q, λ z. n (q ∙ z))
 
-    back : (openFault s k ≡ m) × (m ≢ 0) → openOf s k h to .answer ≡ Denied m
-    back (e, n) = answer-of (open-denied s k h to (λ z. n (sym e ∙ z))) ∙ ap Denied e
+    back : (openFault s k ≡ m) × (m ≢ 0) → openOf traceOnly s k h .answer ≡ Denied m
+    back (e, n) = answer-of (open-denied s k h traceOnly (λ z. n (sym e ∙ z))) ∙ ap Denied e

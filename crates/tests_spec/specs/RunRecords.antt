@@ -1,8 +1,8 @@
--- What a report does to the record: refused it stays, going on it moves, an ending marks it; and that a run ends within k + 1 accepted
--- reports.
+-- What the record of a run is after its opening, and what a report does to it: refused it stays, going on it moves, an
+-- ending marks it; and that a run ends within k + 1 accepted reports.
 use mathlib.Core.Path.{_≡_, refl, sym, ap, _∙_}
 use mathlib.Core.Logic.{_⊎_, inl, inr, _≢_, _↔_}
-use mathlib.Core.Bool.{true, false}
+use mathlib.Core.Bool.{Bool, true, false}
 use mathlib.Core.List.{List, [], _∷_}
 use Prim.Native.Nat.{ℕ, _+_, _-_, _≤_, _<_}
 use native.Mathlib.Omega.{arith}
@@ -18,10 +18,28 @@ use Rattle.tests_spec.specs.declared.Report.{Report}
 use Rattle.tests_spec.specs.declared.Report.the-variants.{Event}
 use Rattle.tests_spec.specs.declared.Answer.{Answer}
 use Rattle.tests_spec.specs.declared.Answer.the-variants.{Going, Stray, Refused, Passed, Denied}
-use Rattle.tests_spec.specs.Flags.{flag, flag-set}
-use Rattle.tests_spec.specs.Runs.{answered, offerOf, reportFault, movedBy, endedRun, stepOf}
+use Rattle.tests_spec.specs.Flags.{flag, flag-clear, flag-set, flag-of}
+use Rattle.tests_spec.specs.Runs.{answered, offerOf, newRun, openFault, openOf, reportFault, movedBy, endedRun, stepOf}
+use Rattle.tests_spec.specs.declared.Stepped.{Stepped}
 use Rattle.tests_spec.specs.Numbers.{said}
-use Rattle.tests_spec.specs.RunLaws.{Taken, answer-of, denies, kind-same, moves, passes, refuses, report-16, run-of, step-denied, strays, taken, unrefused, value-same}
+use Rattle.tests_spec.specs.RunLaws.{Taken, open-going, answer-of, denies, kind-same, moves, passes, refuses, report-16, run-of, step-denied, strays, taken, unrefused, value-same}
+
+-- the record q is that of a run at its start: test k with the choice number h, trace-only or not, which has not ended
+-- and is at node 0 and depth 0
+pub record Started (traceOnly : Bool) (k h : ℕ) (q : Run) : Type 0 where
+  pub test : q .k ≡ k
+  pub choice : q .h ≡ h
+  pub kind : flag (q .«trace_only») ≡ traceOnly
+  pub going : flag (q .ended) ≡ false
+  pub node : q .node ≡ 0
+  pub depth : q .depth ≡ 0
+
+-- an opening that is not refused has the record of a run at its start
+pub opening-starts : (traceOnly : Bool) (s : Sheet) (k h : ℕ) → openFault s k ≡ 0 → Started traceOnly k h (openOf traceOnly s k h .run)
+unfolding newRun
+opening-starts traceOnly s k h z =
+    rw (ap (λ (x : Stepped). x .run) (open-going s k h traceOnly z))
+    (record { test = refl; choice = refl; kind = flag-of traceOnly; going = flag-clear; node = refl; depth = refl })
 
 -- the record q is r moved on by event i
 pub record Moved (s : Sheet) (r : Run) (i : ℕ) (q : Run) : Type 0 where
@@ -29,7 +47,7 @@ pub record Moved (s : Sheet) (r : Run) (i : ℕ) (q : Run) : Type 0 where
   pub node : q .node ≡ successor (row s (r .node)) i
   pub k : q .k ≡ r .k
   pub h : q .h ≡ r .h
-  pub traces : q .traces ≡ r .traces
+  pub «trace_only» : q .«trace_only» ≡ r .«trace_only»
   pub ended : q .ended ≡ r .ended
 
 -- the record q is r, marked with 1 as ended
@@ -39,7 +57,7 @@ pub record Marked (r q : Run) : Type 0 where
   pub depth : q .depth ≡ r .depth
   pub k : q .k ≡ r .k
   pub h : q .h ≡ r .h
-  pub traces : q .traces ≡ r .traces
+  pub «trace_only» : q .«trace_only» ≡ r .«trace_only»
 
 module _ (s : Sheet) (r : Run) (x : Report) where
   -- a refusal is answered exactly with the number of the report's refusal
@@ -74,7 +92,7 @@ module _ (s : Sheet) (r : Run) (x : Report) where
       q : reportFault s r x ≡ sheetFault s
       q = unfold reportFault in orElse-some (sheetFault s) _ (omega (arith, n))
 
-  -- so an ended run's record never changes
+  -- an ended run's record never changes
   pub ended-still : flag (r .ended) ≡ true → stepOf s r x .run ≡ r
   ended-still t = go (dec (eqb (sheetFault s) 0))
     where
@@ -83,9 +101,9 @@ module _ (s : Sheet) (r : Run) (x : Report) where
       go (inr z) = run-of (sheet-refused (eqb-false (sheetFault s) 0 z))
 
   -- a trace-only run never answers "refused"
-  pub traces-unrefused : flag (r .traces) ≡ true → (X : ℕ) → stepOf s r x .answer ≢ Refused X
+  pub trace-only-unrefused : flag (r .«trace_only») ≡ true → (X : ℕ) → stepOf s r x .answer ≢ Refused X
   unfolding said
-  traces-unrefused t X e = go (taken s r x)
+  trace-only-unrefused t X e = go (taken s r x)
     where
       go : Taken s r x → ⊥
       go (denies n p) = omega (arith, kind-same (sym (answer-of p) ∙ e))
@@ -94,8 +112,8 @@ module _ (s : Sheet) (r : Run) (x : Report) where
       go (refuses _ z f m p) = clash t f
       go (passes z p) = omega (arith, kind-same (sym (answer-of p) ∙ e))
 
-  -- a report with which the run goes on is an event; the run, at most k deep, is one deeper and at the event's successor, and
-  -- nothing else of it alters; the answer has its next offer
+  -- a report with which the run goes on is an event; the run, at most k deep, is one deeper and at the event's
+  -- successor, and nothing else of it alters; the answer has its next offer
   pub going-deeper : (X : ℕ) → stepOf s r x .answer ≡ Going X
       → (i : ℕ) × (x ≡ Event i) × (r .depth < r .k) × Moved s r i (stepOf s r x .run) × (X ≡ offerOf s (stepOf s r x .run))
   unfolding said movedBy
@@ -107,7 +125,7 @@ module _ (s : Sheet) (r : Run) (x : Report) where
         i,
         q,
         l,
-        rw (run-of p) (record { depth = refl; node = refl; k = refl; h = refl; traces = refl; ended = refl }),
+        rw (run-of p) (record { depth = refl; node = refl; k = refl; h = refl; «trace_only» = refl; ended = refl }),
         sym (value-same (sym (answer-of p) ∙ e)) ∙ ap (offerOf s) (sym (run-of p)),
       )
       go (strays i _ z n p) = absurd (omega (arith, kind-same (sym (answer-of p) ∙ e)))
@@ -120,7 +138,7 @@ module _ (s : Sheet) (r : Run) (x : Report) where
   ending-marks a b = go (taken s r x)
     where
       marked : {a : Answer} → stepOf s r x ≡ answered a (endedRun r) → Marked r (stepOf s r x .run)
-      marked p = rw (run-of p) (record { ended = refl; node = refl; depth = refl; k = refl; h = refl; traces = refl })
+      marked p = rw (run-of p) (record { ended = refl; node = refl; depth = refl; k = refl; h = refl; «trace_only» = refl })
 
       go : Taken s r x → Marked r (stepOf s r x .run)
       go (denies n p) = absurd (a (reportFault s r x) (answer-of p))
@@ -143,11 +161,11 @@ counts Passed = 1
 counts (Denied m) = 0
 
 -- how many of a sequence of reports, each shown some sheet, are not denied
-unfoldable pub takenReports : Run → List (Sheet × Report) → ℕ
-takenReports r [] = 0
-takenReports r (l ∷ ls) = counts (stepOf (l .0) r (l .1) .answer) + takenReports (stepOf (l .0) r (l .1) .run) ls
+unfoldable pub takenCount : Run → List (Sheet × Report) → ℕ
+takenCount r [] = 0
+takenCount r (l ∷ ls) = counts (stepOf (l .0) r (l .1) .answer) + takenCount (stepOf (l .0) r (l .1) .run) ls
 
--- the record after all of them
+-- the record after a sequence of reports
 unfoldable pub runAfter : Run → List (Sheet × Report) → Run
 runAfter r [] = r
 runAfter r (l ∷ ls) = runAfter (stepOf (l .0) r (l .1) .run) ls
@@ -158,49 +176,50 @@ unfolding runAfter
 ended-stays [] r t = refl
 ended-stays (l ∷ ls) r t = rw (ended-still (l .0) r (l .1) t) (ended-stays ls r t)
 
--- and it accepts nothing
-pub ended-none : (ls : List (Sheet × Report)) (r : Run) → flag (r .ended) ≡ true → takenReports r ls ≡ 0
-unfolding takenReports counts
+-- whatever an ended run is shown, it accepts nothing
+pub ended-none : (ls : List (Sheet × Report)) (r : Run) → flag (r .ended) ≡ true → takenCount r ls ≡ 0
+unfolding takenCount counts
 ended-none [] r t = refl
 ended-none (l ∷ ls) r t = go (taken (l .0) r (l .1)) (ended-none ls r t)
   where
     live : reportFault (l .0) r (l .1) ≢ 0
     live z = unrefused (l .0) r (l .1) z .1 t
 
-    go : Taken (l .0) r (l .1) → takenReports r ls ≡ 0 → counts (stepOf (l .0) r (l .1) .answer) + takenReports (stepOf (l .0) r (l .1) .run) ls ≡ 0
+    go : Taken (l .0) r (l .1) → takenCount r ls ≡ 0 → counts (stepOf (l .0) r (l .1) .answer) + takenCount (stepOf (l .0) r (l .1) .run) ls ≡ 0
     go (denies n p) ih = rw p (omega arith)
     go (moves i _ z a h p) ih = absurd (live z)
     go (strays i _ z n p) ih = absurd (live z)
     go (refuses _ z f m p) ih = absurd (live z)
     go (passes z p) ih = absurd (live z)
 
--- over any sequence of sheets and reports a record with depth at most k has at most k + 1 - depth reports that are not denied
-pub taken-bound : (ls : List (Sheet × Report)) (r : Run) → r .depth ≤ r .k → takenReports r ls ≤ r .k + 1 - r .depth
-unfolding takenReports counts movedBy endedRun
+-- over any sequence of sheets and reports a record with depth at most k has at most k + 1 - depth reports that are not
+-- denied
+pub taken-bound : (ls : List (Sheet × Report)) (r : Run) → r .depth ≤ r .k → takenCount r ls ≤ r .k + 1 - r .depth
+unfolding takenCount counts movedBy endedRun
 taken-bound [] r d = omega arith
 taken-bound (l ∷ ls) r d = go (taken (l .0) r (l .1)) (taken-bound ls)
   where
-    last : takenReports (endedRun r) ls ≡ 0
+    last : takenCount (endedRun r) ls ≡ 0
     last = ended-none ls (endedRun r) (ended-marked r)
 
-    go : Taken (l .0) r (l .1) → ((r : Run) → r .depth ≤ r .k → takenReports r ls ≤ r .k + 1 - r .depth)
-        → counts (stepOf (l .0) r (l .1) .answer) + takenReports (stepOf (l .0) r (l .1) .run) ls ≤ r .k + 1 - r .depth
+    go : Taken (l .0) r (l .1) → ((r : Run) → r .depth ≤ r .k → takenCount r ls ≤ r .k + 1 - r .depth)
+        → counts (stepOf (l .0) r (l .1) .answer) + takenCount (stepOf (l .0) r (l .1) .run) ls ≤ r .k + 1 - r .depth
     go (denies n p) ih = rw p (omega (arith, ih r d))
     go (moves i _ z a h p) ih = rw p (omega (arith, ih (movedBy (l .0) r i) (omega arith)))
     go (strays i _ z n p) ih = rw p (omega (arith, last))
     go (refuses _ z f m p) ih = rw p (omega (arith, last))
     go (passes z p) ih = rw p (omega (arith, last))
 
--- with as many as that the run has ended: it ends within k + 1 accepted reports
-pub taken-ends : (ls : List (Sheet × Report)) (r : Run) → r .depth ≤ r .k → takenReports r ls ≡ r .k + 1 - r .depth → flag (runAfter r ls .ended) ≡ true
-unfolding takenReports counts movedBy endedRun runAfter
+-- with k + 1 - depth reports that are not denied the run has ended: it ends within k + 1 accepted reports
+pub taken-ends : (ls : List (Sheet × Report)) (r : Run) → r .depth ≤ r .k → takenCount r ls ≡ r .k + 1 - r .depth → flag (runAfter r ls .ended) ≡ true
+unfolding takenCount counts movedBy endedRun runAfter
 taken-ends [] r d e = absurd (omega arith)
 taken-ends (l ∷ ls) r d e = go (taken (l .0) r (l .1)) (taken-ends ls)
   where
     last : flag (runAfter (endedRun r) ls .ended) ≡ true
     last = rw (ended-stays ls (endedRun r) (ended-marked r)) (ended-marked r)
 
-    go : Taken (l .0) r (l .1) → ((r : Run) → r .depth ≤ r .k → takenReports r ls ≡ r .k + 1 - r .depth → flag (runAfter r ls .ended) ≡ true)
+    go : Taken (l .0) r (l .1) → ((r : Run) → r .depth ≤ r .k → takenCount r ls ≡ r .k + 1 - r .depth → flag (runAfter r ls .ended) ≡ true)
         → flag (runAfter (stepOf (l .0) r (l .1) .run) ls .ended) ≡ true
     go (denies n p) ih = rw p (ih r d (omega (arith, rw p at e)))
     go (moves i _ z a h p) ih = rw p (ih (movedBy (l .0) r i) (omega arith) (omega (arith, rw p at e)))

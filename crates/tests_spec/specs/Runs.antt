@@ -1,4 +1,5 @@
--- Test k as a live run (01, "Test k and a live run"): what is offered, what a report is answered, and the record after it.
+-- Test k as a live run (01, "Test k and a live run"): what is offered, what a report is answered, and the record after
+-- it.
 use mathlib.Core.Bool.{Bool, not, _&&_, _||_, cond}
 use mathlib.Core.List.{List}
 use Prim.Native.Nat.{ℕ, _+_, _-_, _%_, _^_}
@@ -35,17 +36,18 @@ probesAt s v = probes (acceptances (row s v)) (s .e)
 unfoldable pub chosen : List ℕ → ℕ → ℕ
 chosen ps h = cond (eqb (length ps) 0) 0 (getD ps (h % length ps) 0)
 
--- below depth k, and in a trace-only run, all events are offered; at depth k the chosen probe and all events outside the initials
+-- what a run offers: below depth k, and in a trace-only run, all events; at depth k the chosen probe and all events
+-- outside the initials
 unfoldable pub offerOf : Sheet → Run → ℕ
-offerOf s r = cond (flag (r .traces) || ltb (r .depth) (r .k)) (allEvents (s .e)) (bitOr (chosen (probesAt s (r .node)) (r .h)) (outside s (r .node)))
+offerOf s r = cond (flag (r .«trace_only») || ltb (r .depth) (r .k)) (allEvents (s .e)) (bitOr (chosen (probesAt s (r .node)) (r .h)) (outside s (r .node)))
 
 -- a run at its start
-unfoldable pub newRun : ℕ → ℕ → Bool → Run
-newRun k h traceOnly = record { k = k; h = h; traces = flagOf traceOnly; ended = 0; node = 0; depth = 0 }
+unfoldable pub newRun : Bool → ℕ → ℕ → Run
+newRun traceOnly k h = record { k = k; h = h; «trace_only» = flagOf traceOnly; ended = 0; node = 0; depth = 0 }
 
 -- a record with 0 in every place
 abbrev pub zeroRun : Run
-zeroRun = record { k = 0; h = 0; traces = 0; ended = 0; node = 0; depth = 0 }
+zeroRun = record { k = 0; h = 0; «trace_only» = 0; ended = 0; node = 0; depth = 0 }
 
 -- an answer beside a record
 abbrev pub answered : Answer → Run → Stepped
@@ -56,35 +58,37 @@ unfoldable pub openFault : Sheet → ℕ → ℕ
 openFault s k = orElse (sheetFault s) (unless (leb k 1023) 14 0)
 
 -- opening answers with the first offer; refused, it has the number and a record of zeros
-unfoldable pub openOf : Sheet → ℕ → ℕ → Bool → Stepped
-openOf s k h traceOnly =
+unfoldable pub openOf : Bool → Sheet → ℕ → ℕ → Stepped
+openOf traceOnly s k h =
     cond (eqb (openFault s k) 0)
-    (answered (Going (offerOf s (newRun k h traceOnly))) (newRun k h traceOnly))
+    (answered (Going (offerOf s (newRun traceOnly k h))) (newRun traceOnly k h))
     (answered (Denied (openFault s k)) zeroRun)
 
--- 9: the record's node is not on the sheet, its depth exceeds its k, or its k is above 1,023
+-- 9: the test that the record's node is on the sheet, its depth does not exceed its k, and its k is not above 1,023
 unfoldable pub recordOk : Sheet → Run → Bool
 recordOk s r = ltb (r .node) (s .n) && (leb (r .depth) (r .k) && leb (r .k) 1023)
 
--- 15: an event not below E; 17: an event not offered; "blocked" is always a report
+-- the refusal that comes from the event of a report: 15: it is not below E; 17: it is not offered; "blocked" is always
+-- a report
 unfoldable pub eventFault : Sheet → Run → Report → ℕ
 eventFault s r (Event i) = unless (ltb i (s .e)) 15 (unless (has (offerOf s r) i) 17 0)
 eventFault s r Blocked = 0
 
--- the refusal of a report: the sheet's own; 16: the run has ended; 9; 15; 17
+-- the refusal of a report: the sheet's own; 16: the run has ended; 9: the record does not fit; 15 and 17: the event
 unfoldable pub reportFault : Sheet → Run → Report → ℕ
 reportFault s r report = orElse (sheetFault s) (unless (not (flag (r .ended))) 16 (unless (recordOk s r) 9 (eventFault s r report)))
 
 -- the run moved on by event i: its successor, and one more in depth
 unfoldable pub movedBy : Sheet → Run → ℕ → Run
-movedBy s r i = record { k = r .k; h = r .h; traces = r .traces; ended = r .ended; node = successor (row s (r .node)) i; depth = r .depth + 1 }
+movedBy s r i = record { k = r .k; h = r .h; «trace_only» = r .«trace_only»; ended = r .ended; node = successor (row s (r .node)) i; depth = r .depth + 1 }
 
--- an ending only marks the record, with 1; its node and depth stay
+-- the record of an ended run: only marked, with 1; its node and depth stay
 unfoldable pub endedRun : Run → Run
-endedRun r = record { k = r .k; h = r .h; traces = r .traces; ended = 1; node = r .node; depth = r .depth }
+endedRun r = record { k = r .k; h = r .h; «trace_only» = r .«trace_only»; ended = 1; node = r .node; depth = r .depth }
 
--- an event outside the initials: failed as stray; inside them below depth k the run moves on, at depth k it has passed. Blocked:
--- passed if the node may stop or the run is trace-only, else failed as refused with the set offered
+-- the answer to a report. An event outside the initials: failed as stray; inside them below depth k the run moves on,
+-- at depth k it has passed. Blocked: passed if the node may stop or the run is trace-only, else failed as refused with
+-- the set offered
 unfoldable pub answerOf : Sheet → Run → Report → Stepped
 answerOf s r (Event i) =
     cond (has (initials (s .e) (row s (r .node))) i)
@@ -93,7 +97,7 @@ answerOf s r (Event i) =
     (answered Passed (endedRun r)))
     (answered (Stray i) (endedRun r))
 answerOf s r Blocked =
-    cond (flag (r .traces) || mayStop (row s (r .node)))
+    cond (flag (r .«trace_only») || mayStop (row s (r .node)))
     (answered Passed (endedRun r))
     (answered (Refused (offerOf s r)) (endedRun r))
 

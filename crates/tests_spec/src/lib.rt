@@ -1,14 +1,14 @@
-// Numbered tests (01, "Test k and a live run"; 001's adaptive tests): the record of a live run, the reports of a device, the
-// answers, and the verdict on a device. The crate has the types; its specs say what each call answers and what a verdict means.
-// It has no function.
+// Numbered tests as live runs (01, "Test k and a live run"; 001's adaptive tests): the record of a run, the reports of
+// a device and the answers. The crate has the types; its specs say what each call answers. It has no function.
 
-// A live run: the test's number k, the choice number h, whether it is trace-only (`traces`), whether it has ended, the node reached on the
-// reference and how many events were accepted on the way. A flag is a byte: 0 is false, any other value is true.
+// A live run: the test's number k, the choice number h, whether it is trace-only, whether it has ended, the node
+// reached on the reference and how many events were accepted on the way. A flag is a byte: 0 is false, any other value
+// is true.
 #[repr(C)]
 pub struct Run {
     pub k: u16,
     pub h: u16,
-    pub traces: u8,
+    pub trace_only: u8,
     pub ended: u8,
     pub node: u8,
     pub depth: u16,
@@ -20,8 +20,8 @@ pub enum Report {
     Blocked,
 }
 
-// The answer to an opening or a report: the run goes on with the next offer, or has ended failed as stray with the event,
-// failed as refused with the set offered, or passed; or the call is refused with a number.
+// The answer to an opening or a report: the run goes on with the next offer, or has ended failed as stray with the
+// event, failed as refused with the set offered, or passed; or the call is refused with a number.
 pub enum Answer {
     Going(u16),
     Stray(u8),
@@ -34,11 +34,4 @@ pub enum Answer {
 pub struct Stepped {
     pub answer: Answer,
     pub run: Run,
-}
-
-// The verdict on a device, or the number of the refusal.
-pub enum Verdict {
-    Passes,
-    Fails,
-    Denied(u8),
 }

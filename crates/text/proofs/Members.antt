@@ -12,7 +12,7 @@ use Rattle.text_spec.specs.Adds.{Adds}
 use Rattle.text_spec.specs.AddsLaws.{adds-none, adds-then}
 use Rattle.text.specs.Shapes.{memberWords}
 
--- an event that is in the set, and one that is not
+-- what is put of an event that is in the set, and of one that is not
 pub member-in : {a b c : List ℕ} {k l m : ℕ} (x i : ℕ) → has x i ≡ true → Adds (ascii " ") a k b l → Adds (decimal i) b l c m → Adds (memberWords x i) a k c m
 unfolding memberWords
 member-in x i h p q = rw h (adds-then p q)
@@ -21,7 +21,7 @@ pub member-out : (x i : ℕ) → has x i ≡ false → (out : List ℕ) (at : �
 unfolding memberWords
 member-out x i h out at = rw h (adds-none out at)
 
--- one event more
+-- the events below i, and what is put of event i, are the events below i + 1
 member-words : (x i : ℕ) → eventList (eventsIn x i) ++ memberWords x i ≡ eventList (eventsIn x (suc i))
 unfolding memberWords
 member-words x i = go (has x i) refl

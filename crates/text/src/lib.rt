@@ -1,13 +1,12 @@
-// Text into a lent list, piece by piece, and the parts of an input of two sheets. A function that puts a piece takes the list and the place
-// where the piece begins and answers the place after it; what has no room is left out. Every public function takes every argument.
+// Text into a lent list, piece by piece, and the front of a list. A function that puts a piece takes the list and the
+// place where the piece begins and answers the place after it; what has no room is left out. Every public function
+// takes every argument.
 ghost use mathlib.Core.Path.{_≡_};
 ghost use mathlib.Core.List.{[], _∷_};
 ghost use Prim.Native.Nat.{_≤_, _<_};
 ghost use lib.ListN.{length, take};
-ghost use Rattle.sheet_spec.specs.Reading.{lengthField};
 ghost use Rattle.text_spec.specs.Lines.{decimal, numberLine, numbersText, sheetLine, eventList};
 ghost use Rattle.text_spec.specs.Sets.{members, setWords};
-ghost use Rattle.text_spec.specs.Input.{firstEnd};
 ghost use Rattle.text_spec.specs.Adds.{Adds};
 ghost use Rattle.text.specs.Shapes.{memberWords};
 
@@ -31,7 +30,7 @@ pub fn put_byte(out: &mut [u8], at: usize, b: u8) -> usize
     at
 }
 
-// Puts some words.
+// Puts some words at a place of a list.
 pub fn put(out: &mut [u8], at: usize, words: &[u8]) -> usize
     ensures { λ r. ⌜ Adds (now (words .entry)) (now (out .entry)) at (now (out .exit)) r ⌝ }
 {
@@ -123,7 +122,8 @@ pub fn put_numbers(
     y: u16,
     last: &[u8],
 ) -> usize
-    ensures { λ r. ⌜ Adds (numbersText (now (first .entry)) x (now (between .entry)) y (now (last .entry))) (now (out .entry)) at (now (out .exit)) r ⌝ }
+    ensures { λ r. ⌜ Adds (numbersText (now (first .entry)) x (now (between .entry)) y (now (last .entry)))
+        (now (out .entry)) at (now (out .exit)) r ⌝ }
 {
     let a = put(out, at, first);
     let b = put_number(out, a, x);
@@ -132,16 +132,16 @@ pub fn put_numbers(
     put(out, d, last)
 }
 
-// Puts the line of an accepted sheet.
+// Puts the line of an accepted sheet: whose it is, its nodes and its events.
 pub fn put_sheet_line(out: &mut [u8], at: usize, who: &[u8], n: u16, e: u16) -> usize
     ensures { λ r. ⌜ Adds (sheetLine (now (who .entry)) n e) (now (out .entry)) at (now (out .exit)) r ⌝ }
 {
     put_numbers(out, at, who, n, b" nodes ", e, b" events\n")
 }
 
-// ---- parts of an input
+// ---- the front of a list
 
-// The first n bytes, or all where there are fewer.
+// The first n bytes of a list, or all where there are fewer.
 pub fn front(bytes: &[u8], n: usize) -> &[u8]
     ensures { λ r. ⌜ now r ≡ take n (now (bytes .entry)) ⌝ }
 {
@@ -150,30 +150,4 @@ pub fn front(bytes: &[u8], n: usize) -> &[u8]
         k = n;
     }
     &bytes[..k]
-}
-
-// The first length field.
-fn length_field(input: &[u8]) -> usize
-    requires { ⌜ 4 ≤ length (now input) ⌝ }
-    ensures { λ r. ⌜ (r ≡ lengthField (now (input .entry))) × (r < 4294967296) ⌝ }
-{
-    let a = base::wide(input[0]);
-    let b = base::wide(input[1]);
-    let c = base::wide(input[2]);
-    let d = base::wide(input[3]);
-    (a * 256 + b) * 65536 + (c * 256 + d)
-}
-
-// Where the first sheet ends.
-pub fn first_end(input: &[u8]) -> usize
-    ensures { λ r. ⌜ (r ≡ firstEnd (now (input .entry))) × (r ≤ length (now (input .entry))) ⌝ }
-{
-    if input.len() < 4 {
-        return input.len();
-    }
-    let n = length_field(input) + 4;
-    if input.len() < n {
-        return input.len();
-    }
-    n
 }

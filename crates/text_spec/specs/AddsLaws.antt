@@ -1,4 +1,5 @@
--- A list that texts are added to: one byte, one piece after another, the steps of loops over words and events, and the whole.
+-- A list that texts are added to: one byte, one piece after another, the steps of loops over words and events, and the
+-- whole.
 use mathlib.Core.Path.{_≡_, refl, sym, ap, _∙_}
 use mathlib.Core.List.{List, [], _∷_, _++_, append-assoc, append-nil}
 use Prim.Native.Nat.{ℕ, suc, _+_, _-_, _≤_, _<_, min}
@@ -24,11 +25,11 @@ unfolding over
 over-full text more o h =
     rw (drop-of-length-le o h, take-append-le (length o) text more h, drop-of-length-le o {i = length (text ++ more)} (omega (arith, length-append text more)))
 
--- nothing
+-- adding no text changes nothing
 pub adds-none : (out : List ℕ) (at : ℕ) → Adds [] out at out at
 adds-none out at = record { adds = λ o text h. rw (append-nil text) h; beyond = λ h. (refl, refl) }
 
--- one piece after another
+-- one piece added after another adds both
 pub adds-then : {x y a b c : List ℕ} {i j k : ℕ} → Adds x a i b j → Adds y b j c k → Adds (x ++ y) a i c k
 adds-then {x} {y} {a} {b} {c} {i} {j} {k} p q =
     record {
@@ -39,7 +40,7 @@ adds-then {x} {y} {a} {b} {c} {i} {j} {k} p q =
     go : length a < i → (b ≡ a) × (j ≡ i) → (c ≡ a) × (k ≡ i)
     go h (e, f) = let w = q .beyond (omega (arith, ap length e)) in (w .0 ∙ e, w .1 ∙ f)
 
--- from the front of a list
+-- a text added from the front of a list stands over its front
 pub adds-all : {text out out′ : List ℕ} {r : ℕ} → Adds text out 0 out′ r → (out′ ≡ over text out) × (r ≡ min (length text) (length out))
 unfolding over
 adds-all {text} {out} p = p .adds out [] (rw (take-nil (length out)), omega arith)
@@ -53,7 +54,7 @@ module _ (o text : List ℕ) (b : ℕ) where
       let f : over (text ++ (b ∷ [])) o ≡ (text ++ (b ∷ [])) ++ drop (length (text ++ (b ∷ []))) o = over-fits (text ++ (b ∷ [])) o (omega (arith, one-more)) in
       rw (f, over-fits text o (omega arith), one-more, drop-cons o (length text) 0 h, set-at text (getD o (length text) 0) (drop (suc (length text)) o) b (length text) refl, append-assoc text (b ∷ []) (drop (suc (length text)) o))
 
--- a byte where there is room
+-- a byte is added where there is room
 pub byte-in : (out : List ℕ) (at b : ℕ) → at < length out → Adds (b ∷ []) out at (set out at b) (at + 1)
 byte-in out at b h = record { adds = λ o text w. go o text (w .0) (w .1); beyond = λ g. absurd (omega arith) }
   where
@@ -63,7 +64,7 @@ byte-in out at b h = record { adds = λ o text w. go o text (w .0) (w .1); beyon
         let e : at ≡ length text = omega arith in
         (rw (p, e) (store o text b (omega arith)), omega (arith, one-more o text b))
 
--- a byte where there is none
+-- a byte changes nothing where there is no room
 pub byte-out : (out : List ℕ) (at b : ℕ) → length out ≤ at → Adds (b ∷ []) out at out at
 byte-out out at b h = record { adds = λ o text w. go o text (w .0) (w .1); beyond = λ g. (refl, refl) }
   where
@@ -75,11 +76,11 @@ byte-out out at b h = record { adds = λ o text w. go o text (w .0) (w .1); beyo
 pub take-more : (w : List ℕ) (i : ℕ) → i < length w → take (i + 1) w ≡ take i w ++ (getD w i 0 ∷ [])
 take-more w i h = rw (add-one i, take-suc w i 0 h)
 
--- one byte more of some words
+-- one byte more of some words is added
 pub words-next : {a b c : List ℕ} {k l m : ℕ} (w : List ℕ) (i : ℕ) → i < length w → Adds (take i w) a k b l → Adds (getD w i 0 ∷ []) b l c m → Adds (take (i + 1) w) a k c m
 words-next w i h p q = rw (take-more w i h) (adds-then p q)
 
--- all of them
+-- all bytes of some words are added
 pub words-end : {a b : List ℕ} {k l : ℕ} (w : List ℕ) (i : ℕ) → length w ≤ i → Adds (take i w) a k b l → Adds w a k b l
 words-end w i h p = rw (take-all i w h) at p
 
@@ -89,16 +90,17 @@ events-snoc [] e = append-nil (ascii " " ++ decimal e)
 events-snoc (x ∷ t) e =
     ap (λ (l : List ℕ). (ascii " " ++ decimal x) ++ l) (events-snoc t e) ∙ sym (append-assoc (ascii " " ++ decimal x) (eventList t) (ascii " " ++ decimal e))
 
--- one event more of a trace
+-- one event more of a trace is added
 pub events-next : {a b c d : List ℕ} {k l m n : ℕ} (t : List ℕ) (i : ℕ) → i < length t → Adds (eventList (take i t)) a k b l → Adds (32 ∷ []) b l c m
     → Adds (decimal (getD t i 0)) c m d n → Adds (eventList (take (i + 1) t)) a k d n
 events-next t i h p q r = rw (take-more t i h, events-snoc (take i t) (getD t i 0)) (adds-then p (adds-then q r))
 
--- all of them
+-- all events of a trace are added
 pub events-end : {a b : List ℕ} {k l : ℕ} (t : List ℕ) (i : ℕ) → length t ≤ i → Adds (eventList (take i t)) a k b l → Adds (eventList t) a k b l
 events-end t i h p = rw (take-all i t h) at p
 
--- what is added is settled by the record: from a place inside the list, the text stands from there on; from a place beyond it, nothing changes
+-- what is added is settled by the record: from a place inside the list, the text stands from there on; from a place
+-- beyond it, nothing changes
 pub adds-inside : {more out out′ : List ℕ} {at at′ : ℕ} → Adds more out at out′ at′ → at ≤ length out
     → (out′ ≡ over (take at out ++ more) out) × (at′ ≡ min (at + length more) (length out))
 unfolding over

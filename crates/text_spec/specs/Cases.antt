@@ -7,19 +7,19 @@ use Rattle.events.specs.Sets.{has}
 use Rattle.text_spec.specs.Lines.{ascii, decimalIn, decimal, numberLine, sheetLine, eventList}
 use Rattle.text_spec.specs.Sets.{eventsIn, members, setWords}
 
--- the numbers of one to four digits
+-- texts of numbers of one to four digits
 pub numbers-hold : map decimal (0 ∷ 9 ∷ 10 ∷ 99 ∷ 100 ∷ 1023 ∷ 1024 ∷ 4095 ∷ [])
     ≡ (ascii "0" ∷ ascii "9" ∷ ascii "10" ∷ ascii "99" ∷ ascii "100" ∷ ascii "1023" ∷ ascii "1024" ∷ ascii "4095" ∷ [])
 unfolding decimal decimalIn
 numbers-hold = refl
 
--- sets: the empty one, one event, several, and all of 16 bits
+-- texts of sets: the empty one, one event, several, and all of 16 bits
 pub sets-hold : map setWords (0 ∷ 1 ∷ 5 ∷ 2048 ∷ 65535 ∷ [])
     ≡ (ascii "0 ( )" ∷ ascii "1 ( 0 )" ∷ ascii "5 ( 0 2 )" ∷ ascii "2048 ( 11 )" ∷ ascii "65535 ( 0 1 2 3 4 5 6 7 8 9 10 11 12 13 14 15 )" ∷ [])
 unfolding setWords members eventsIn select gather eventList decimal decimalIn has bit
 sets-hold = refl
 
--- lines
+-- texts of lines
 pub number-line : numberLine (ascii "device refused ") 7 ≡ ascii "device refused 7\n"
 unfolding numberLine decimal decimalIn
 number-line = refl

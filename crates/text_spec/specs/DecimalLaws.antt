@@ -1,4 +1,5 @@
--- What a number in base ten is: its digits give the number back, each is one of 0 to 9, and the first is 0 only for the number 0.
+-- What a number in base ten is: its digits give the number back, each is one of 0 to 9, and the first is 0 only for the
+-- number 0.
 use mathlib.Core.Path.{_≡_, refl, ap}
 use mathlib.Core.Logic.{_⊎_, inl, inr}
 use mathlib.Core.Bool.{cond}
@@ -25,12 +26,12 @@ fuel (suc f) (suc g) n p q = go (lt-or-ge n 10) (fuel f g (n / 10))
     go (inl l) ih = rw (lt-ltb n 10 l)
     go (inr l) ih = rw (le-ltb n 10 l, ih (omega arith) (omega arith))
 
--- one digit
+-- a number below ten is one digit
 pub decimal-small : (n : ℕ) → n < 10 → decimal n ≡ (48 + n) ∷ []
 unfolding decimal decimalIn
 decimal-small n h = rw (lt-ltb n 10 h)
 
--- the last digit of several
+-- a number from ten on is the digits of its tenth part, and its last digit
 pub decimal-large : (n : ℕ) → 10 ≤ n → decimal n ≡ decimal (n / 10) ++ ((48 + n % 10) ∷ [])
 unfolding decimal decimalIn
 decimal-large n h = rw (le-ltb n 10 h) (ap (λ (l : List ℕ). l ++ ((48 + n % 10) ∷ [])) (fuel n (suc (n / 10)) (n / 10) (omega arith) (omega arith)))
@@ -45,7 +46,7 @@ unfolding valueFrom
 value-snoc v [] x = refl
 value-snoc v (y ∷ t) x = value-snoc (v * 10 + (y - 48)) t x
 
--- by as many steps as the number is large
+-- the digits give the number back, by as many steps as the number is large
 value-in : (k n : ℕ) → n < k → valueFrom 0 (decimal n) ≡ n
 unfolding valueFrom
 value-in zero n h = absurd (omega arith)
@@ -59,7 +60,7 @@ value-in (suc k) n h = go (lt-or-ge n 10) (λ (l : 10 ≤ n). value-in k (n / 10
 pub decimal-value : (n : ℕ) → valueFrom 0 (decimal n) ≡ n
 decimal-value n = value-in (suc n) n (omega arith)
 
--- there are some, and not more than the number needs
+-- a number has some digits, and not more than it needs
 pub decimal-some : (n : ℕ) → 0 < length (decimal n)
 decimal-some n = go (lt-or-ge n 10)
   where
@@ -77,7 +78,7 @@ decimal-few (suc k) n h = go (lt-or-ge n 10) (decimal-few k (n / 10) (omega (ari
     go (inl s) ih = rw (decimal-small n s) (omega arith)
     go (inr s) ih = rw (decimal-large n s, length-append (decimal (n / 10)) ((48 + n % 10) ∷ [])) (omega arith)
 
--- no leading zero: the first digit is 0 (code 48) only where the number is 0
+-- a number has no leading zero: its first digit is 0 (code 48) only where the number is 0
 first-in : (k n : ℕ) → n < k → 0 < n → 48 < getD (decimal n) 0 0
 first-in zero n h z = absurd (omega arith)
 first-in (suc k) n h z = go (lt-or-ge n 10) (λ (l : 10 ≤ n). first-in k (n / 10) (omega arith) (omega arith))
@@ -89,7 +90,7 @@ first-in (suc k) n h z = go (lt-or-ge n 10) (λ (l : 10 ≤ n). first-in k (n / 
 pub decimal-first : (n : ℕ) → 0 < n → 48 < getD (decimal n) 0 0
 decimal-first n z = first-in (suc n) n (omega arith) z
 
--- every digit is the code of one of 0 to 9
+-- every digit of a number is the code of one of 0 to 9
 digits-in : (k n : ℕ) → n < k → (i : ℕ) → i < length (decimal n) → (48 ≤ getD (decimal n) i 0) × (getD (decimal n) i 0 < 58)
 digits-in zero n h i l = absurd (omega arith)
 digits-in (suc k) n h i l = go (lt-or-ge n 10) (λ (g : 10 ≤ n). digits-in k (n / 10) (omega arith) i)

@@ -9,15 +9,15 @@ use Rattle.text_spec.specs.Adds.{Holds, Adds}
 use Rattle.text_spec.specs.AddsLaws.{length-over, adds-all}
 
 module _ (o text : List ℕ) {out : List ℕ} {at : ℕ} where
-  -- the end lies within the list
+  -- the end of a text that a list holds lies within the list
   pub holds-inside : Holds o text out at → at ≤ length out
   holds-inside h = omega (arith, h .1, ap length (h .0), length-over text o)
 
-  -- so as many bytes stand before it
+  -- before the end of a text that a list holds stand as many bytes
   pub holds-front : Holds o text out at → at ≡ length (take at out)
   holds-front h = sym (length-take-le at out (holds-inside h))
 
-  -- the same of a text that was added from the front
+  -- the end of a text that was added from the front lies within the list, and as many bytes stand before it
   pub adds-within : Adds text o 0 out at → at ≤ length out
   adds-within p = holds-inside (adds-all p)
 

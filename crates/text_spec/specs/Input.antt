@@ -1,25 +1,8 @@
--- How an input of two sheets, back to back, is read (01, "The program `compare`").
-use mathlib.Core.Bool.{_||_, cond}
+-- How much of an input counts (01, "The program `compare`").
 use mathlib.Core.List.{List}
-use Prim.Native.Nat.{ℕ, _+_}
-use lib.Dec.{ltb}
-use lib.ListN.{length, take, drop}
-use Rattle.sheet_spec.specs.Reading.{lengthField}
+use Prim.Native.Nat.{ℕ}
+use lib.ListN.{take}
 
--- no more than 4,096 bytes are read; later bytes count as absent
+-- what counts of an input: no more than 4,096 bytes are read; later bytes count as absent
 unfoldable pub cutInput : List ℕ → List ℕ
 cutInput input = take 4096 input
-
--- where the first sheet ends: if the input has under 4 bytes, or the first length field plus 4 exceeds it, all of it is the first
--- sheet
-unfoldable pub firstEnd : List ℕ → ℕ
-firstEnd input =
-    cond (ltb (length input) 4 || ltb (length input) (lengthField input + 4)) (length input) (lengthField input + 4)
-
--- the first sheet's bytes
-unfoldable pub firstSheet : List ℕ → List ℕ
-firstSheet input = take (firstEnd input) input
-
--- the rest is the second sheet
-unfoldable pub secondSheet : List ℕ → List ℕ
-secondSheet input = drop (firstEnd input) input

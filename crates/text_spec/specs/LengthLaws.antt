@@ -12,12 +12,12 @@ use Rattle.text_spec.specs.Sets.{eventsIn, members, setWords}
 use Rattle.text_spec.specs.DecimalLaws.{decimal-few}
 use Rattle.text_spec.specs.SetLaws.{members-more, members-same}
 
--- a line of some words and a number
+-- the length of a line of some words and a number
 pub number-length : (words : List ℕ) (k n : ℕ) → n < 10 ^ suc k → length (numberLine words n) ≤ length words + suc k + 1
 unfolding numberLine
 number-length words k n h = omega (arith, length-append words (decimal n ++ ascii "\n"), length-append (decimal n) (ascii "\n"), decimal-few k n h)
 
--- the line of an accepted sheet
+-- the length of the line of an accepted sheet
 pub sheet-length : (who : List ℕ) (n e : ℕ) → n < 100 → e < 100 → length (sheetLine who n e) ≤ length who + 19
 unfolding sheetLine
 sheet-length who n e h k =
@@ -31,7 +31,7 @@ sheet-length who n e h k =
       decimal-few 1 e k,
     )
 
--- the events of a set, each of at most two digits
+-- the length of the events of a set, each of at most two digits
 pub events-length : (x n : ℕ) → n ≤ 100 → length (eventList (eventsIn x n)) ≤ 3 * n
 unfolding eventList eventsIn select gather
 events-length x zero h = omega arith
@@ -41,7 +41,7 @@ events-length x (suc n) h = go (has x n) refl (events-length x n (omega arith))
     go true e ih = rw (members-more x n e, length-append (eventList (eventsIn x n)) (ascii " " ++ decimal n)) (omega (arith, decimal-few 1 n (omega arith)))
     go false e ih = rw (members-same x n e) (omega arith)
 
--- a set of 16 bits
+-- the length of the words of a set of 16 bits
 pub set-length : (x : ℕ) → x < 100000 → length (setWords x) ≤ 57
 unfolding setWords members
 set-length x h =

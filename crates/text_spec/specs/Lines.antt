@@ -1,5 +1,5 @@
--- The lines that programs print, as the codes of their characters (01, "The program `compare`"). Each line ends with one newline, words stand one
--- blank apart, and numbers are in base ten.
+-- The lines that programs print, as the codes of their characters (01, "The program `compare`"). Each line ends with
+-- one newline, words stand one blank apart, and numbers are in base ten.
 use mathlib.Core.Bool.{cond}
 use mathlib.Core.List.{List, [], _∷_, _++_}
 use Prim.Native.Nat.{ℕ, zero, suc, _+_, _/_, _%_}
@@ -21,7 +21,7 @@ decimalIn (suc most) n = cond (ltb n 10) ((48 + n) ∷ []) (decimalIn most (n / 
 unfoldable pub decimal : ℕ → List ℕ
 decimal n = decimalIn (suc n) n
 
--- some words and a number, as in `reference refused k`, `refines cleared c`, `stray e`
+-- a line of some words and a number, as in `reference refused k`, `refines cleared c`, `stray e`
 unfoldable pub numberLine : List ℕ → ℕ → List ℕ
 numberLine words k = words ++ (decimal k ++ ascii "\n")
 
@@ -29,11 +29,11 @@ numberLine words k = words ++ (decimal k ++ ascii "\n")
 abbrev pub numbersText : List ℕ → ℕ → List ℕ → ℕ → List ℕ → List ℕ
 numbersText first x between y last = first ++ (decimal x ++ (between ++ (decimal y ++ last)))
 
--- the size of a sheet, as in `reference p nodes e events`
+-- the line of a sheet's size, as in `reference p nodes e events`
 unfoldable pub sheetLine : List ℕ → ℕ → ℕ → List ℕ
 sheetLine who n e = numbersText who n (ascii " nodes ") e (ascii " events\n")
 
--- the events in order, a blank before each
+-- a list of events in order, a blank before each
 unfoldable pub eventList : List ℕ → List ℕ
 eventList [] = []
 eventList (e ∷ t) = (ascii " " ++ decimal e) ++ eventList t

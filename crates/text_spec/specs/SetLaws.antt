@@ -29,7 +29,7 @@ pub events-all : (x n i : ℕ) → i < n → has x i ≡ true → (j : ℕ) × (
 unfolding eventsIn select
 events-all x n i l h = (length (gather (has x) (λ i. i) i), gather-room (has x) (λ i. i) i n l h, gather-has (has x) (λ i. i) i n l h)
 
--- they ascend
+-- the events of the list ascend
 pub events-ascend : (x n j k : ℕ) → j < k → k < length (eventsIn x n) → getD (eventsIn x n) j 0 < getD (eventsIn x n) k 0
 unfolding eventsIn
 events-ascend x n j k l h = select-ascends (has x) n j k l h

@@ -13,6 +13,6 @@ eventsIn x n = select (has x) n
 unfoldable pub members : ℕ → List ℕ
 members x = eventList (eventsIn x 16)
 
--- `x ( e e )`: the number, and its events
+-- a set as `x ( e e )`: the number, and its events
 unfoldable pub setWords : ℕ → List ℕ
 setWords x = decimal x ++ (ascii " (" ++ (members x ++ ascii " )"))

@@ -10,16 +10,16 @@ use Rattle.base.specs.Front.{atFront-count}
 use Rattle.sheet_spec.specs.declared.Sheet.{Sheet}
 use Rattle.sheet_spec.specs.Rules.{sheetFault}
 use Rattle.sheet_spec.specs.Sound.{Sound, check-sound, nodes-most}
-use Rattle.tests_spec.specs.declared.Verdict.{Verdict}
-use Rattle.tests_spec.specs.declared.Verdict.the-variants.{Passes, Fails}
-use Rattle.tests_spec.specs.Verdicts.{failsFrom}
-use Rattle.tests_spec.specs.Numbers.{judged}
-use Rattle.tests_spec.specs.VerdictLaws.{verdict-given}
+use Rattle.verdicts_spec.specs.declared.Verdict.{Verdict}
+use Rattle.verdicts_spec.specs.declared.Verdict.the-variants.{Passes, Fails}
+use Rattle.verdicts_spec.specs.Verdicts.{failsFrom}
+use Rattle.verdicts_spec.specs.Numbers.{judged}
+use Rattle.verdicts_spec.specs.VerdictLaws.{verdict-given}
 use Rattle.sheet_spec.specs.Kept.{sheetWith}
-use Rattle.layers.specs.Shapes.{kindOf}
+use Rattle.verdicts_layers.specs.LayerShapes.{kindOf}
 use Rattle.verdicts_spec.specs.declared.Suite.{Suite}
 use Rattle.verdicts_spec.specs.declared.Suite.the-variants.{Judged, Denied}
-use Rattle.verdicts_spec.specs.Suites.{tests, verdictNumber, suiteFault, suiteOf, verdictsAfter}
+use Rattle.verdicts_spec.specs.Suites.{testCount, verdictNumber, suiteFault, suiteOf, verdictsAfter}
 use Rattle.verdicts_spec.specs.Numbers.{suited}
 use Rattle.verdicts_spec.specs.SuiteLaws.{suite-reference, suite-device, suite-11, suite-10, suite-fits, denied-suite, denied-verdicts, given-suite, given-verdicts}
 use Rattle.verdicts_spec.specs.Complete.{none-refused}
@@ -50,16 +50,16 @@ module _ (P Q : Sheet) {f g e p′ q′ : ℕ} (p : f ≡ sheetFault P) (z : f �
   pub few : p′ * q′ ≤ 1024
   few = rw (dp, dq) (nodes-most sound-P sound-Q)
 
-module _ (P Q : Sheet) (to : Bool) (o : List ℕ) where
+module _ (P Q : Sheet) (traceOnly : Bool) (o : List ℕ) where
   -- what the contract says of an answer and the list at exit
   abbrev pub Says : Suite → List ℕ → Type 0
-  Says r after = (r ≡ suiteOf P Q o) × (suited r ≡ suited (suiteOf P Q o)) × (after ≡ verdictsAfter to P Q o)
+  Says r after = (r ≡ suiteOf P Q o) × (suited r ≡ suited (suiteOf P Q o)) × (after ≡ verdictsAfter traceOnly P Q o)
 
   refused : {m : ℕ} → suiteFault P Q o ≡ m → (m ≡ 0 → ⊥) → Says (Denied m) o
   refused {m} p n =
       let z : suiteFault P Q o ≡ 0 → ⊥ = λ e. n (sym p ∙ e) in
       let d : Denied m ≡ suiteOf P Q o = sym (denied-suite P Q o z ∙ ap Denied p) in
-      (d, ap suited d, sym (denied-verdicts P Q o z to))
+      (d, ap suited d, sym (denied-verdicts P Q o z traceOnly))
 
   module _ {f : ℕ} (p : f ≡ sheetFault P) where
     pub by-reference : (f ≡ 0 → ⊥) → Says (Denied f) o
@@ -83,8 +83,8 @@ module _ (P Q : Sheet) (to : Bool) (o : List ℕ) where
           same : P .e ≡ Q .e
           same = sym de ∙ s ∙ dd
 
-          count : p′ * q′ ≡ tests P Q
-          unfolding tests
+          count : p′ * q′ ≡ testCount P Q
+          unfolding testCount
           count = rw (dp, dq)
 
           pub by-room : length o < p′ * q′ → Says (Denied 10) o
@@ -94,27 +94,27 @@ module _ (P Q : Sheet) (to : Bool) (o : List ℕ) where
             fits : suiteFault P Q o ≡ 0
             fits = suite-fits P Q o accP accQ same (omega (arith, count))
 
-            -- the test over the rows is the test over the sheets, and so is its number
-            number : (k : ℕ) → k < p′ * q′ → kindOf (failsFrom to (sheetWith (P .rows) e p′) (sheetWith (Q .rows) e q′) k 0 0) ≡ verdictNumber to P Q k
+            -- the test over the rows is the test over the sheets, so its number is that of the verdict
+            number : (k : ℕ) → k < p′ * q′ → kindOf (failsFrom traceOnly (sheetWith (P .rows) e p′) (sheetWith (Q .rows) e q′) k 0 0) ≡ verdictNumber traceOnly P Q k
             unfolding verdictNumber
             number k h =
-                ap kindOf test ∙ sym (number-of (failsFrom to P Q k 0 0))
-                ∙ ap (λ (v : Verdict). judged v .kind) (sym (verdict-given P Q k to (none-refused P Q accP accQ same k (omega (arith, count)))))
+                ap kindOf test ∙ sym (number-of (failsFrom traceOnly P Q k 0 0))
+                ∙ ap (λ (v : Verdict). judged v .kind) (sym (verdict-given P Q k traceOnly (none-refused P Q accP accQ same k (omega (arith, count)))))
               where
-                test : failsFrom to (sheetWith (P .rows) e p′) (sheetWith (Q .rows) e q′) k 0 0 ≡ failsFrom to P Q k 0 0
+                test : failsFrom traceOnly (sheetWith (P .rows) e p′) (sheetWith (Q .rows) e q′) k 0 0 ≡ failsFrom traceOnly P Q k 0 0
                 test =
                     rw (dp, dq)
-                    (ap (λ (x : ℕ). failsFrom to (sheetWith (P .rows) x (P .n)) (sheetWith (Q .rows) e (Q .n)) k 0 0) de
-                    ∙ ap (λ (x : ℕ). failsFrom to P (sheetWith (Q .rows) x (Q .n)) k 0 0) (s ∙ dd))
+                    (ap (λ (x : ℕ). failsFrom traceOnly (sheetWith (P .rows) x (P .n)) (sheetWith (Q .rows) e (Q .n)) k 0 0) de
+                    ∙ ap (λ (x : ℕ). failsFrom traceOnly P (sheetWith (Q .rows) x (Q .n)) k 0 0) (s ∙ dd))
 
             pub by-pass : {after : List ℕ}
-                → after ≡ upTo (λ k. kindOf (failsFrom to (sheetWith (P .rows) e p′) (sheetWith (Q .rows) e q′) k 0 0)) (p′ * q′) ++ drop (p′ * q′) o
+                → after ≡ upTo (λ k. kindOf (failsFrom traceOnly (sheetWith (P .rows) e p′) (sheetWith (Q .rows) e q′) k 0 0)) (p′ * q′) ++ drop (p′ * q′) o
                 → Says (Judged (p′ * q′)) after
             by-pass {after} h =
                 let d : Judged (p′ * q′) ≡ suiteOf P Q o = ap Judged count ∙ sym (given-suite P Q o fits) in
-                let t = upTo-ext (λ k. kindOf (failsFrom to (sheetWith (P .rows) e p′) (sheetWith (Q .rows) e q′) k 0 0)) (verdictNumber to P Q) (p′ * q′) number in (
+                let t = upTo-ext (λ k. kindOf (failsFrom traceOnly (sheetWith (P .rows) e p′) (sheetWith (Q .rows) e q′) k 0 0)) (verdictNumber traceOnly P Q) (p′ * q′) number in (
                   d,
                   ap suited d,
-                  h ∙ ap (λ (x : List ℕ). x ++ drop (p′ * q′) o) t ∙ ap (λ (n : ℕ). upTo (verdictNumber to P Q) n ++ drop n o) count
-                      ∙ sym (given-verdicts P Q o fits to ∙ atFront-count o (upTo (verdictNumber to P Q) (tests P Q)) (length-upTo (verdictNumber to P Q) (tests P Q))),
+                  h ∙ ap (λ (x : List ℕ). x ++ drop (p′ * q′) o) t ∙ ap (λ (n : ℕ). upTo (verdictNumber traceOnly P Q) n ++ drop n o) count
+                      ∙ sym (given-verdicts P Q o fits traceOnly ∙ atFront-count o (upTo (verdictNumber traceOnly P Q) (testCount P Q)) (length-upTo (verdictNumber traceOnly P Q) (testCount P Q))),
                 )

@@ -1,17 +1,18 @@
-// The verdict of a reference on a device: for one test, and for all tests from one pass over the layers of node pairs. The entry
-// points, `judge` and `judge_all`, take any content and answer, or refuse with a number.
+// The verdict of a reference on a device: for one test, and for all tests from one pass over the layers of node pairs.
+// The entry points, `judge` and `judge_all`, take any content and answer, or refuse with a number.
 ghost use mathlib.Core.Path.{_≡_};
-ghost use Rattle.tests_spec.specs.Verdicts.{verdictOf};
-ghost use Rattle.tests_spec.specs.Numbers.{judged};
+ghost use Rattle.verdicts_spec.specs.Verdicts.{verdictOf};
+ghost use Rattle.verdicts_spec.specs.Numbers.{judged};
 ghost use Rattle.verdicts_spec.specs.Suites.{suiteOf, verdictsAfter};
 ghost use Rattle.verdicts_spec.specs.Numbers.{suited};
 use sheet_spec::Sheet;
-use tests_spec::Verdict;
 use verdicts_spec::Suite;
+use verdicts_spec::Verdict;
 
 // The verdict of a reference on a device for test `k`, or the number of a refusal.
 pub fn judge(reference: Sheet, device: Sheet, k: u16, trace_only: bool) -> Verdict
-    ensures { λ r. ⌜ (r ≡ verdictOf reference device k «trace_only») × (judged r ≡ judged (verdictOf reference device k «trace_only»)) ⌝ }
+    ensures { λ r. ⌜ (r ≡ verdictOf «trace_only» reference device k)
+        × (judged r ≡ judged (verdictOf «trace_only» reference device k)) ⌝ }
 {
     let fault = sheet::check(reference);
     if fault != 0 {
@@ -32,17 +33,19 @@ pub fn judge(reference: Sheet, device: Sheet, k: u16, trace_only: bool) -> Verdi
     let q = base::wide(device.n);
     let mine = reference.rows;
     let theirs = device.rows;
-    if layers::is_failing(mine, p, theirs, q, e, k as usize, trace_only) {
+    if verdicts_layers::is_failing(mine, p, theirs, q, e, k as usize, trace_only) {
         return Verdict::Fails;
     }
     Verdict::Passes
 }
 
-// Judges tests 0 to p·q − 1: writes 1 for "passes" or 2 for "fails" for each from the front of the lent list, and answers how many
-// there are; or the number of the refusal, and the list is as it was: the reference's own, the device's own; 11, E differs; 10, a
-// list shorter than the tests.
+// Judges tests 0 to p·q − 1: writes 1 for "passes" or 2 for "fails" for each from the front of the lent list, and
+// answers how many there are; or the number of the refusal, and the list is as it was: the reference's own, the
+// device's own; 11, E differs; 10, a list shorter than the tests.
 pub fn judge_all(reference: Sheet, device: Sheet, trace_only: bool, out: &mut [u8]) -> Suite
-    ensures { λ r. ⌜ (r ≡ suiteOf reference device (now (out .entry))) × (suited r ≡ suited (suiteOf reference device (now (out .entry)))) × (now (out .exit) ≡ verdictsAfter «trace_only» reference device (now (out .entry))) ⌝ }
+    ensures { λ r. ⌜ (r ≡ suiteOf reference device (now (out .entry)))
+        × (suited r ≡ suited (suiteOf reference device (now (out .entry))))
+        × (now (out .exit) ≡ verdictsAfter «trace_only» reference device (now (out .entry))) ⌝ }
 {
     let first = sheet::check(reference);
     if first != 0 {
@@ -58,12 +61,12 @@ pub fn judge_all(reference: Sheet, device: Sheet, trace_only: bool, out: &mut [u
     }
     let p = base::wide(reference.n);
     let q = base::wide(device.n);
-    let tests = p * q;
-    if out.len() < tests {
+    let total = p * q;
+    if out.len() < total {
         return Suite::Denied(10);
     }
     let mine = reference.rows;
     let theirs = device.rows;
-    layers::failing_all(mine, p, theirs, q, e, trace_only, tests, out);
-    Suite::Judged(tests as u16)
+    verdicts_layers::failing_all(mine, p, theirs, q, e, trace_only, total, out);
+    Suite::Judged(total as u16)
 }

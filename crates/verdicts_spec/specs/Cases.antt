@@ -1,5 +1,5 @@
--- 01's example pair: of its six tests the first five pass and the last fails; trace-only all pass; a list of five places is too short,
--- and sheets with different E are refused first.
+-- 01's example pair: of its six tests the first five pass and the last fails; trace-only all pass; a list of five
+-- places is too short, and sheets with different E are refused first.
 use mathlib.Core.Path.{_≡_, refl}
 use mathlib.Core.Bool.{Bool, true, false}
 use mathlib.Core.List.{List, [], _∷_}
@@ -14,17 +14,18 @@ use Rattle.sheet_spec.specs.Kept.{successor, acceptance, acceptances, initials,
 use Rattle.sheet_spec.specs.Rules.{rangesOk, countOk, countsOk, successorsOk, rowSuccessorsOk, successorOk, setsOk, rowSetsOk, setOk, ascends, noneInside, blank, unusedOk, blanksOk, reachedOk, sheetFault}
 use Rattle.sheet_spec.specs.Reading.{readSheet, answer, bytesFault, headFault, lengthField, layoutFault, nextAt, startOf, succOf, setsOf, rowAt, rowOf, sheetOf, graphFault}
 use Rattle.sheet_spec.specs.Examples.{exampleReference, exampleDevice, stopped, sheet}
-use Rattle.refinement_spec.specs.PairTests.{strays, hasStray, covers, hasRefusal, violates, violating}
-use Rattle.tests_spec.specs.Verdicts.{failsFrom, verdictFault, verdictOf}
-use Rattle.tests_spec.specs.Numbers.{judged}
-use Rattle.verdicts_spec.specs.Suites.{tests, verdictNumber, suiteFault, suiteOf, verdictsAfter}
+use Rattle.refinement_spec.specs.ViolatingPairs.{strays, hasStray, covers, hasRefusal, violates, violating}
+use Rattle.verdicts_spec.specs.Verdicts.{failsFrom, verdictFault, verdictOf}
+use Rattle.verdicts_spec.specs.Numbers.{judged}
+use Rattle.verdicts_spec.specs.Suites.{testCount, verdictNumber, suiteFault, suiteOf, verdictsAfter}
 use Rattle.verdicts_spec.specs.Numbers.{suited}
 
--- the example's reference against a device, with a list of some places that hold 9: the refusal, how many tests, and the list at exit
+-- the example's reference against a device, with a list of some places that hold 9: the refusal, how many tests, and
+-- the list at exit
 unfoldable pub suiteNumbers : Bool → List ℕ → ℕ → List ℕ
-suiteNumbers to Q places =
+suiteNumbers traceOnly Q places =
     let r = suited (suiteOf (sheet exampleReference) (sheet Q) (replicate places 9)) in
-    r .refusal ∷ r .count ∷ verdictsAfter to (sheet exampleReference) (sheet Q) (replicate places 9)
+    r .refusal ∷ r .count ∷ verdictsAfter traceOnly (sheet exampleReference) (sheet Q) (replicate places 9)
 
 pub example-suite :
     (suiteNumbers false exampleDevice 8 ≡ 0 ∷ 6 ∷ 1 ∷ 1 ∷ 1 ∷ 1 ∷ 1 ∷ 2 ∷ 9 ∷ 9 ∷ [])
@@ -33,5 +34,5 @@ pub example-suite :
     × (suiteNumbers false exampleReference 5 ≡ 0 ∷ 4 ∷ 1 ∷ 1 ∷ 1 ∷ 1 ∷ 9 ∷ [])
     × (suiteNumbers false exampleDevice 5 ≡ 10 ∷ 0 ∷ 9 ∷ 9 ∷ 9 ∷ 9 ∷ 9 ∷ [])
     × (suiteNumbers false stopped 1 ≡ 11 ∷ 0 ∷ 9 ∷ [])
-unfolding suiteNumbers tests verdictNumber suiteFault suiteOf verdictsAfter suited sheet exampleReference exampleDevice stopped readSheet answer bytesFault headFault lengthField layoutFault nextAt startOf succOf setsOf rowAt rowOf sheetOf graphFault rangesOk countOk countsOk successorsOk rowSuccessorsOk successorOk setsOk rowSetsOk setOk ascends noneInside blank unusedOk blanksOk reachedOk sheetFault successor acceptance acceptances initials mayStop step bit has inside meets setOf nearer leads all any upTo strays hasStray covers hasRefusal violates violating failsFrom verdictFault verdictOf judged
+unfolding suiteNumbers testCount verdictNumber suiteFault suiteOf verdictsAfter suited sheet exampleReference exampleDevice stopped readSheet answer bytesFault headFault lengthField layoutFault nextAt startOf succOf setsOf rowAt rowOf sheetOf graphFault rangesOk countOk countsOk successorsOk rowSuccessorsOk successorOk setsOk rowSetsOk setOk ascends noneInside blank unusedOk blanksOk reachedOk sheetFault successor acceptance acceptances initials mayStop step bit has inside meets setOf nearer leads all any upTo strays hasStray covers hasRefusal violates violating failsFrom verdictFault verdictOf judged
 example-suite = (refl, refl, refl, refl, refl, refl)

@@ -1,5 +1,5 @@
--- What the list of verdicts means: each place is the verdict of its test, never a refusal, and all places hold 1 exactly if the device
--- refines the reference (the mission's demand 3).
+-- What the list of verdicts means: each place is the verdict of its test, never a refusal, and all places hold 1
+-- exactly if the device refines the reference (the mission's demand 3).
 use mathlib.Core.Path.{_≡_, refl, sym, ap, _∙_}
 use mathlib.Core.Logic.{_⊎_, inl, inr, _≢_, _↔_}
 use mathlib.Core.Bool.{Bool}
@@ -11,13 +11,13 @@ use Rattle.sheet_spec.specs.declared.Sheet.{Sheet}
 use Rattle.sheet_spec.specs.Rules.{sheetFault}
 use Rattle.sheet_spec.specs.Sound.{check-sound, nodes-most}
 use Rattle.refinement_spec.specs.Refinement.{RefinesIn}
-use Rattle.tests_spec.specs.declared.Verdict.{Verdict}
-use Rattle.tests_spec.specs.declared.Verdict.the-variants.{Passes, Fails, Denied as NoVerdict}
-use Rattle.tests_spec.specs.Verdicts.{FailsTest, verdictFault, verdictOf}
-use Rattle.tests_spec.specs.Numbers.{judged}
-use Rattle.tests_spec.specs.VerdictLaws.{verdict-0, verdict-means, verdict-undenied}
-use Rattle.tests_spec.specs.TestLaws.{verdicts-complete}
-use Rattle.verdicts_spec.specs.Suites.{tests, verdictNumber, verdictsAfter}
+use Rattle.verdicts_spec.specs.declared.Verdict.{Verdict}
+use Rattle.verdicts_spec.specs.declared.Verdict.the-variants.{Passes, Fails, Denied as NoVerdict}
+use Rattle.verdicts_spec.specs.Verdicts.{FailsTest, verdictFault, verdictOf}
+use Rattle.verdicts_spec.specs.Numbers.{judged}
+use Rattle.verdicts_spec.specs.VerdictLaws.{verdict-0, verdict-means, verdict-undenied}
+use Rattle.verdicts_spec.specs.TestLaws.{verdicts-complete}
+use Rattle.verdicts_spec.specs.Suites.{testCount, verdictNumber, verdictsAfter}
 use Rattle.verdicts_spec.specs.SuiteLaws.{suite-fits, verdict-place}
 
 -- a verdict's number is 1 exactly if it is "passes", and 2 exactly if it is "fails"
@@ -40,50 +40,50 @@ two-fails v = (forth v, λ e. ap (λ (w : Verdict). judged w .kind) e)
     forth (NoVerdict m) e = absurd (omega arith)
 
 module _ (P Q : Sheet) (accP : sheetFault P ≡ 0) (accQ : sheetFault Q ≡ 0) (same : P .e ≡ Q .e) where
-  -- p q is at most 1,024, so every test has a number that a test may have
-  pub tests-few : tests P Q ≤ 1024
-  unfolding tests
+  -- there are at most 1,024 tests, so every test has a number that a test may have
+  pub tests-few : testCount P Q ≤ 1024
+  unfolding testCount
   tests-few = nodes-most (check-sound P accP) (check-sound Q accQ)
 
   -- 14, or any other refusal, is never given for a test of the suite
-  pub none-refused : (k : ℕ) → k < tests P Q → verdictFault P Q k ≡ 0
+  pub none-refused : (k : ℕ) → k < testCount P Q → verdictFault P Q k ≡ 0
   none-refused k l = verdict-0 P Q k .1 (((accP, accQ), λ n. n same), λ h. omega (arith, h, tests-few))
 
-  pub none-denied : (to : Bool) (k : ℕ) → k < tests P Q → (m : ℕ) → verdictOf P Q k to ≢ NoVerdict m
-  none-denied to k l = verdict-undenied P Q accP accQ same to k (omega (arith, tests-few))
+  pub none-denied : (traceOnly : Bool) (k : ℕ) → k < testCount P Q → (m : ℕ) → verdictOf traceOnly P Q k ≢ NoVerdict m
+  none-denied traceOnly k l = verdict-undenied P Q accP accQ same traceOnly k (omega (arith, tests-few))
 
-  module _ (out : List ℕ) (room : tests P Q ≤ length out) (to : Bool) where
-    at : (k : ℕ) → k < tests P Q → getD (verdictsAfter to P Q out) k 0 ≡ judged (verdictOf P Q k to) .kind
+  module _ (out : List ℕ) (room : testCount P Q ≤ length out) (traceOnly : Bool) where
+    at : (k : ℕ) → k < testCount P Q → getD (verdictsAfter traceOnly P Q out) k 0 ≡ judged (verdictOf traceOnly P Q k) .kind
     unfolding verdictNumber
-    at = verdict-place P Q out (suite-fits P Q out accP accQ same room) to
+    at = verdict-place P Q out (suite-fits P Q out accP accQ same room) traceOnly
 
     -- place k holds 1 exactly if the verdict on test k is "passes", and 2 exactly if it is "fails"
-    pub place-passes : (k : ℕ) → k < tests P Q → (getD (verdictsAfter to P Q out) k 0 ≡ 1) ↔ (verdictOf P Q k to ≡ Passes)
-    place-passes k l = let w = one-passes (verdictOf P Q k to) in (λ e. w .0 (sym (at k l) ∙ e), λ e. at k l ∙ w .1 e)
+    pub place-passes : (k : ℕ) → k < testCount P Q → (getD (verdictsAfter traceOnly P Q out) k 0 ≡ 1) ↔ (verdictOf traceOnly P Q k ≡ Passes)
+    place-passes k l = let w = one-passes (verdictOf traceOnly P Q k) in (λ e. w .0 (sym (at k l) ∙ e), λ e. at k l ∙ w .1 e)
 
-    pub place-fails : (k : ℕ) → k < tests P Q → (getD (verdictsAfter to P Q out) k 0 ≡ 2) ↔ (verdictOf P Q k to ≡ Fails)
-    place-fails k l = let w = two-fails (verdictOf P Q k to) in (λ e. w .0 (sym (at k l) ∙ e), λ e. at k l ∙ w .1 e)
+    pub place-fails : (k : ℕ) → k < testCount P Q → (getD (verdictsAfter traceOnly P Q out) k 0 ≡ 2) ↔ (verdictOf traceOnly P Q k ≡ Fails)
+    place-fails k l = let w = two-fails (verdictOf traceOnly P Q k) in (λ e. w .0 (sym (at k l) ∙ e), λ e. at k l ∙ w .1 e)
 
-    -- it holds nothing else
-    pub place-either : (k : ℕ) → k < tests P Q → (getD (verdictsAfter to P Q out) k 0 ≡ 1) ⊎ (getD (verdictsAfter to P Q out) k 0 ≡ 2)
+    -- place k holds 1 or 2, nothing else
+    pub place-either : (k : ℕ) → k < testCount P Q → (getD (verdictsAfter traceOnly P Q out) k 0 ≡ 1) ⊎ (getD (verdictsAfter traceOnly P Q out) k 0 ≡ 2)
     unfolding judged
-    place-either k l = go (verdictOf P Q k to) refl
+    place-either k l = go (verdictOf traceOnly P Q k) refl
       where
-        go : (v : Verdict) → verdictOf P Q k to ≡ v → (getD (verdictsAfter to P Q out) k 0 ≡ 1) ⊎ (getD (verdictsAfter to P Q out) k 0 ≡ 2)
+        go : (v : Verdict) → verdictOf traceOnly P Q k ≡ v → (getD (verdictsAfter traceOnly P Q out) k 0 ≡ 1) ⊎ (getD (verdictsAfter traceOnly P Q out) k 0 ≡ 2)
         go Passes e = inl (place-passes k l .1 e)
         go Fails e = inr (place-fails k l .1 e)
-        go (NoVerdict m) e = absurd (none-denied to k l m e)
+        go (NoVerdict m) e = absurd (none-denied traceOnly k l m e)
 
-    -- 2 stands where some run of the test against the device can end failed
-    pub place-means : (k : ℕ) → k < tests P Q → (getD (verdictsAfter to P Q out) k 0 ≡ 2) ↔ FailsTest to P Q k
+    -- place k holds 2 exactly if some run of test k against the device can end failed
+    pub place-means : (k : ℕ) → k < testCount P Q → (getD (verdictsAfter traceOnly P Q out) k 0 ≡ 2) ↔ FailsTest traceOnly P Q k
     place-means k l =
         let v = place-fails k l in
-        let w = verdict-means P Q accP accQ same to k (omega (arith, tests-few)) in
+        let w = verdict-means P Q accP accQ same traceOnly k (omega (arith, tests-few)) in
         (λ e. w .0 (v .0 e), λ f. v .1 (w .1 f))
 
     -- all places below p q hold 1 exactly if the device refines the reference
-    pub suite-complete : ((k : ℕ) → k < tests P Q → getD (verdictsAfter to P Q out) k 0 ≡ 1) ↔ RefinesIn to P Q
-    unfolding tests
+    pub suite-complete : ((k : ℕ) → k < testCount P Q → getD (verdictsAfter traceOnly P Q out) k 0 ≡ 1) ↔ RefinesIn traceOnly P Q
+    unfolding testCount
     suite-complete =
-        let w = verdicts-complete P Q accP accQ same to in
+        let w = verdicts-complete P Q accP accQ same traceOnly in
         (λ f. w .0 (λ k l. place-passes k l .0 (f k l)), λ r k l. place-passes k l .1 (w .1 r k l))

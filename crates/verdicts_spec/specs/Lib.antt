@@ -1,5 +1,11 @@
-pub mod Suites
+pub mod Verdicts
 pub mod Numbers
+pub mod Suites
+pub mod Blocks
+pub mod FaultyPairs
+pub mod VerdictLaws
+pub mod TestLaws
 pub mod SuiteLaws
 pub mod Complete
+pub mod Reported
 pub mod Cases

@@ -1,23 +1,48 @@
--- The numbers of each answer. Of a refusal the other part is 0.
-use mathlib.Core.Path.{_≡_, refl}
+-- The numbers of a verdict and of the answer for all tests. Of a refusal every other part is 0.
+use mathlib.Core.Path.{_≡_, refl, sym, ap, _∙_}
+use mathlib.Core.Bool.{cond}
 use Prim.Native.Nat.{ℕ}
+use lib.Dec.{eqb}
+use Rattle.tests_spec.specs.Numbers.{Said}
+use Rattle.verdicts_spec.specs.declared.Verdict.{Verdict}
+use Rattle.verdicts_spec.specs.declared.Verdict.the-variants.{Passes, Fails, Denied as NoVerdict}
 use Rattle.verdicts_spec.specs.declared.Suite.{Suite}
 use Rattle.verdicts_spec.specs.declared.Suite.the-variants.{Judged, Denied}
 
--- the number of the refusal, 0 for none; how many tests were judged
+-- the numbers of a verdict: passes is 1, fails is 2
+unfoldable pub judged : Verdict → Said
+judged (NoVerdict m) = record { refusal = m; kind = 0; value = 0 }
+judged Passes = record { refusal = 0; kind = 1; value = 0 }
+judged Fails = record { refusal = 0; kind = 2; value = 0 }
+
+-- the verdict that has the given numbers
+verdictFrom : Said → Verdict
+verdictFrom n = cond (eqb (n .kind) 0) (NoVerdict (n .refusal)) (cond (eqb (n .kind) 1) Passes Fails)
+
+verdict-back : (a : Verdict) → verdictFrom (judged a) ≡ a
+unfolding judged verdictFrom
+verdict-back (NoVerdict m) = refl
+verdict-back Passes = refl
+verdict-back Fails = refl
+
+-- two verdicts with the same numbers are one
+pub judged-once : (a b : Verdict) → judged a ≡ judged b → a ≡ b
+judged-once a b e = sym (verdict-back a) ∙ ap verdictFrom e ∙ verdict-back b
+
+-- the numbers of an answer for all tests: the refusal's, 0 for none; how many tests were judged
 pub record Suited : Type 0 where
   pub refusal : ℕ
   pub count : ℕ
 
--- the numbers of an answer
+-- the numbers of the answer for all tests
 unfoldable pub suited : Suite → Suited
 suited (Judged n) = record { refusal = 0; count = n }
 suited (Denied m) = record { refusal = m; count = 0 }
 
-pub judged-numbers : (n : ℕ) → suited (Judged n) ≡ record { refusal = 0; count = n }
+pub suited-judged : (n : ℕ) → suited (Judged n) ≡ record { refusal = 0; count = n }
 unfolding suited
-judged-numbers n = refl
+suited-judged n = refl
 
-pub denied-numbers : (m : ℕ) → suited (Denied m) ≡ record { refusal = m; count = 0 }
+pub suited-denied : (m : ℕ) → suited (Denied m) ≡ record { refusal = m; count = 0 }
 unfolding suited
-denied-numbers m = refl
+suited-denied m = refl

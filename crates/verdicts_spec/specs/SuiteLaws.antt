@@ -15,16 +15,16 @@ use Rattle.base.specs.Table.{upTo, length-upTo, getD-upTo}
 use Rattle.base.specs.Front.{atFront, atFront-length, atFront-before, atFront-behind}
 use Rattle.sheet_spec.specs.declared.Sheet.{Sheet}
 use Rattle.sheet_spec.specs.Rules.{sheetFault}
-use Rattle.sheet_spec.specs.CheckLaws.{finally}
+use Rattle.sheet_spec.specs.CheckLaws.{Own, finally}
 use Rattle.sheet_spec.specs.PairFaults.{BothAccepted, pair-reference, pair-device, pair-sheet, pair-11, pair-rest}
 use Rattle.verdicts_spec.specs.declared.Suite.the-variants.{Judged, Denied}
-use Rattle.verdicts_spec.specs.Suites.{tests, verdictNumber, suiteFault, suiteOf, verdictsAfter}
+use Rattle.verdicts_spec.specs.Suites.{testCount, verdictNumber, suiteFault, suiteOf, verdictsAfter}
 use Rattle.verdicts_spec.specs.Numbers.{suited}
 
 module _ (P Q : Sheet) (out : List ℕ) where
-  -- what is tested after 11
+  -- what is tested after the refusal 11
   abbrev after11 : ℕ
-  after11 = unless (leb (tests P Q) (length out)) 10 0
+  after11 = unless (leb (testCount P Q) (length out)) 10 0
 
   -- the reference's own refusal comes first, then the device's
   pub suite-reference : sheetFault P ≢ 0 → suiteFault P Q out ≡ sheetFault P
@@ -38,27 +38,27 @@ module _ (P Q : Sheet) (out : List ℕ) where
   -- 11: of sheets that are not refused, E differs
   pub suite-11 : (suiteFault P Q out ≡ 11) ↔ (BothAccepted P Q × (P .e ≢ Q .e))
   unfolding suiteFault
-  suite-11 = pair-11 P Q after11 (unless-other (leb (tests P Q) (length out)) (λ p. omega arith) (λ p. omega arith))
+  suite-11 = pair-11 P Q after11 (unless-other (leb (testCount P Q) (length out)) (λ p. omega arith) (λ p. omega arith))
 
-  -- 10: .. E does not differ, and the list is shorter than the tests
-  pub suite-10 : (suiteFault P Q out ≡ 10) ↔ ((BothAccepted P Q × (¬ (P .e ≢ Q .e))) × (length out < tests P Q))
+  -- 10: of sheets that are not refused, E does not differ, and the list is shorter than the tests
+  pub suite-10 : (suiteFault P Q out ≡ 10) ↔ ((BothAccepted P Q × (¬ (P .e ≢ Q .e))) × (length out < testCount P Q))
   unfolding suiteFault
   suite-10 =
       finally (pair-rest P Q after11 10 (inl (omega arith)) (λ p. omega arith))
-      (λ f. unless-hit 10 0 (finds-le (tests P Q) (length out)) (λ p. omega arith))
+      (λ f. unless-hit 10 0 (finds-le (testCount P Q) (length out)) (λ p. omega arith))
 
-  -- none: .. and it is long enough
-  pub suite-0 : (suiteFault P Q out ≡ 0) ↔ ((BothAccepted P Q × (¬ (P .e ≢ Q .e))) × (¬ (length out < tests P Q)))
+  -- no refusal: of sheets that are not refused, E does not differ, and the list is long enough
+  pub suite-0 : (suiteFault P Q out ≡ 0) ↔ ((BothAccepted P Q × (¬ (P .e ≢ Q .e))) × (¬ (length out < testCount P Q)))
   unfolding suiteFault
-  suite-0 = finally (pair-rest P Q after11 0 (inr refl) (λ p. omega arith)) (λ f. unless-none 10 (finds-le (tests P Q) (length out)) (λ p. omega arith))
+  suite-0 = finally (pair-rest P Q after11 0 (inr refl) (λ p. omega arith)) (λ f. unless-none 10 (finds-le (testCount P Q) (length out)) (λ p. omega arith))
 
   -- a sheet's own number is given exactly for that sheet, the reference before the device
-  pub suite-sheet : (m : ℕ) → 0 < m → m ≤ 8 → (suiteFault P Q out ≡ m) ↔ ((sheetFault P ≡ m) ⊎ ((sheetFault P ≡ 0) × (sheetFault Q ≡ m)))
+  pub suite-sheet : (m : ℕ) → Own m → (suiteFault P Q out ≡ m) ↔ ((sheetFault P ≡ m) ⊎ ((sheetFault P ≡ 0) × (sheetFault Q ≡ m)))
   unfolding suiteFault
-  suite-sheet m z l = pair-sheet P Q after11 m z l (unless-other (leb (tests P Q) (length out)) (λ e. omega arith) (λ e. omega arith))
+  suite-sheet m (z, l) = pair-sheet P Q after11 m (z, l) (unless-other (leb (testCount P Q) (length out)) (λ e. omega arith) (λ e. omega arith))
 
-  -- two sheets that are not refused, with equal event counts and a list that is long enough
-  pub suite-fits : sheetFault P ≡ 0 → sheetFault Q ≡ 0 → P .e ≡ Q .e → tests P Q ≤ length out → suiteFault P Q out ≡ 0
+  -- two sheets that are not refused, with equal event counts and a list that is long enough, get no refusal
+  pub suite-fits : sheetFault P ≡ 0 → sheetFault Q ≡ 0 → P .e ≡ Q .e → testCount P Q ≤ length out → suiteFault P Q out ≡ 0
   suite-fits p q e l = suite-0 .1 (((p, q), λ n. n e), λ h. omega arith)
 
   module _ (n : suiteFault P Q out ≢ 0) where
@@ -71,51 +71,52 @@ module _ (P Q : Sheet) (out : List ℕ) where
     unfolding suited
     denied-suited = rw denied-suite
 
-    pub denied-verdicts : (to : Bool) → verdictsAfter to P Q out ≡ out
+    pub denied-verdicts : (traceOnly : Bool) → verdictsAfter traceOnly P Q out ≡ out
     unfolding verdictsAfter
-    denied-verdicts to = rw (ne-eqb (suiteFault P Q out) 0 n)
+    denied-verdicts traceOnly = rw (ne-eqb (suiteFault P Q out) 0 n)
 
   module _ (z : suiteFault P Q out ≡ 0) where
-    -- without one the number of tests is answered
-    pub given-suite : suiteOf P Q out ≡ Judged (tests P Q)
+    -- without a refusal the number of tests is answered
+    pub given-suite : suiteOf P Q out ≡ Judged (testCount P Q)
     unfolding suiteOf
     given-suite = rw (eq-eqb (suiteFault P Q out) 0 z)
 
-    pub given-suited : suited (suiteOf P Q out) ≡ record { refusal = 0; count = tests P Q }
+    pub given-suited : suited (suiteOf P Q out) ≡ record { refusal = 0; count = testCount P Q }
     unfolding suited
     given-suited = rw given-suite
 
-    -- there is room for every verdict
-    pub given-room : tests P Q ≤ length out
-    given-room = go (lt-or-ge (length out) (tests P Q))
+    -- without a refusal there is room for every verdict
+    pub given-room : testCount P Q ≤ length out
+    given-room = go (lt-or-ge (length out) (testCount P Q))
       where
-        go : (length out < tests P Q) ⊎ (tests P Q ≤ length out) → tests P Q ≤ length out
+        go : (length out < testCount P Q) ⊎ (testCount P Q ≤ length out) → testCount P Q ≤ length out
         go (inl l) = absurd (suite-0 .0 z .1 l)
         go (inr l) = l
 
-    module _ (to : Bool) where
-      -- the verdicts stand at the front of the list
-      pub given-verdicts : verdictsAfter to P Q out ≡ atFront out (upTo (verdictNumber to P Q) (tests P Q))
+    module _ (traceOnly : Bool) where
+      -- without a refusal the verdicts stand at the front of the list
+      pub given-verdicts : verdictsAfter traceOnly P Q out ≡ atFront out (upTo (verdictNumber traceOnly P Q) (testCount P Q))
       unfolding verdictsAfter
       given-verdicts = rw (eq-eqb (suiteFault P Q out) 0 z)
 
-      -- .. place by place, and behind them the list is as it was
-      pub verdict-place : (k : ℕ) → k < tests P Q → getD (verdictsAfter to P Q out) k 0 ≡ verdictNumber to P Q k
+      -- without a refusal each place below the number of tests holds its verdict's number, and behind these the list is
+      -- as it was
+      pub verdict-place : (k : ℕ) → k < testCount P Q → getD (verdictsAfter traceOnly P Q out) k 0 ≡ verdictNumber traceOnly P Q k
       verdict-place k l =
           rw given-verdicts
-          (atFront-before out (upTo (verdictNumber to P Q) (tests P Q)) k 0 (omega (arith, length-upTo (verdictNumber to P Q) (tests P Q)))
-          ∙ getD-upTo (verdictNumber to P Q) (tests P Q) k 0 l)
+          (atFront-before out (upTo (verdictNumber traceOnly P Q) (testCount P Q)) k 0 (omega (arith, length-upTo (verdictNumber traceOnly P Q) (testCount P Q)))
+          ∙ getD-upTo (verdictNumber traceOnly P Q) (testCount P Q) k 0 l)
 
-      pub verdict-rest : (x : ℕ) → tests P Q ≤ x → getD (verdictsAfter to P Q out) x 0 ≡ getD out x 0
-      verdict-rest x l = rw given-verdicts (atFront-behind out (upTo (verdictNumber to P Q) (tests P Q)) x 0 (omega (arith, length-upTo (verdictNumber to P Q) (tests P Q))))
+      pub verdict-rest : (x : ℕ) → testCount P Q ≤ x → getD (verdictsAfter traceOnly P Q out) x 0 ≡ getD out x 0
+      verdict-rest x l = rw given-verdicts (atFront-behind out (upTo (verdictNumber traceOnly P Q) (testCount P Q)) x 0 (omega (arith, length-upTo (verdictNumber traceOnly P Q) (testCount P Q))))
 
-  -- the list keeps its length
-  pub verdicts-length : (to : Bool) → length (verdictsAfter to P Q out) ≡ length out
+  -- the list keeps its length in every call
+  pub verdicts-length : (traceOnly : Bool) → length (verdictsAfter traceOnly P Q out) ≡ length out
   unfolding verdictsAfter
-  verdicts-length to = go (eqb (suiteFault P Q out) 0) refl
+  verdicts-length traceOnly = go (eqb (suiteFault P Q out) 0) refl
     where
-      go : (b : Bool) → eqb (suiteFault P Q out) 0 ≡ b → length (cond b (atFront out (upTo (verdictNumber to P Q) (tests P Q))) out) ≡ length out
+      go : (b : Bool) → eqb (suiteFault P Q out) 0 ≡ b → length (cond b (atFront out (upTo (verdictNumber traceOnly P Q) (testCount P Q))) out) ≡ length out
       go true e =
           let room = given-room (eqb-true (suiteFault P Q out) 0 e) in
-          atFront-length out (upTo (verdictNumber to P Q) (tests P Q)) (omega (arith, room, length-upTo (verdictNumber to P Q) (tests P Q)))
+          atFront-length out (upTo (verdictNumber traceOnly P Q) (testCount P Q)) (omega (arith, room, length-upTo (verdictNumber traceOnly P Q) (testCount P Q)))
       go false e = refl

@@ -1,6 +1,13 @@
-// All tests of a device at once (01, "Test k and a live run"): tests 0 to p·q − 1, which together decide whether the device refines
-// the reference. The crate has the type of the answer; its specs say what is answered, what the lent list then holds, and what
-// that means. It has no function.
+// Verdicts on a device (01, "Test k and a live run"): of one test, and of tests 0 to p·q − 1 at once, which together
+// decide whether the device refines the reference. The crate has the types of the answers; its specs say what is
+// answered, what a lent list then holds, and what a verdict means: whether some run can end failed. It has no function.
+
+// The verdict on a device, or the number of the refusal.
+pub enum Verdict {
+    Passes,
+    Fails,
+    Denied(u8),
+}
 
 // What a judgement of all tests answers.
 pub enum Suite {

@@ -123,7 +123,7 @@ module _ {g : Graph} (w : WellFormed g) where
   unfolding cleared
   cleared-listed d L Q l = count-means (nearer g d) (g .size) L .1 (Q, lists-same (λ v k. (nearer-means w d v k .1, nearer-means w d v k .0)) l)
 
-  -- and the count is the length of such a listing
+  -- the count of the nodes reached by a list of fewer than d events is the length of a listing of them
   pub cleared-lists : (d : ℕ) → (Q : ℕ → ℕ) × Lists (g .size) (ReachedBefore g d) (cleared g d) Q
   unfolding cleared
   cleared-lists d = let l = count-lists (nearer g d) (g .size) in (l .0, lists-same (nearer-means w d) (l .1))

@@ -8,8 +8,8 @@ use lib.ListN.{length, length-append}
 use lib.Seq.{append-snoc}
 use Rattle.base.specs.Truth.{lt-or-ge}
 
--- A node is a number below `size`, 0 is the start. `next n i` is the successor of n on event i; a number not below
--- `size` stands for none.
+-- A graph: a node is a number below `size`, 0 is the start. `next n i` is the successor of n on event i; a number not
+-- below `size` stands for none.
 pub record Graph : Type 0 where
   -- how many events there are: they are the numbers below it
   pub events : ℕ

@@ -34,7 +34,7 @@ module _ (g : Graph) (bad : ℕ → Bool) where
   unfoldable pub later : ℕ → ℕ → ℕ → Bool
   later j n i = ltb (g .next n i) (g .size) && meetsIn j (g .next n i)
 
-  -- The smallest such event.
+  -- The smallest event that leads from n to a node from which a bad node is reached in exactly j events.
   unfoldable pub choice : ℕ → ℕ → ℕ
   choice j n = first (later j n) (g .events)
 
@@ -78,7 +78,7 @@ module _ (g : Graph) (bad : ℕ → Bool) where
   leastFrom-length zero n = refl
   leastFrom-length (suc j) n = ap suc (leastFrom-length j (g .next n (choice j n)))
 
-  -- where there is such an event, the choice is one
+  -- where some event leads from n to a node from which a bad node is reached in exactly j events, the choice is one
   pub choice-later : (j n : ℕ) → meetsIn (suc j) n ≡ true → later j n (choice j n) ≡ true
   unfolding choice meetsIn later
   choice-later j n e =
@@ -131,13 +131,13 @@ module _ (g : Graph) (bad : ℕ → Bool) (w : WellFormed g) where
       forth : distance g bad < g .size → (t : List ℕ) × LeadsToBad g bad 0 t
       forth h = let v = distance→ g bad w h in (v .0, v .2)
 
-  -- the event chosen is no greater than that of any other list of its length to a bad node
+  -- the event chosen at n is no greater than the first of any list that leads from n to a bad node in as many events
   pub choice-le : (n i : ℕ) (t : List ℕ) → LeadsToBad g bad n (i ∷ t) → choice g bad (length t) n ≤ i
   unfolding choice later walk
   choice-le n i t l = first-le (later g bad (length t) n) (g .events) i
       (and-i (lt-ltb _ _ (ahead w (g .next n i) t (l .inside))) (meetsIn← (g .next n i) t (leads-tail g bad n i t l)))
 
-  -- no other list of its length to a bad node comes before it
+  -- no list to a bad node comes before the least one of its length
   pub leastFrom-least : (n : ℕ) (t : List ℕ) → LeadsToBad g bad n t → Lex (leastFrom g bad (length t) n) t
   unfolding leastFrom
   leastFrom-least n [] l = tt
@@ -156,12 +156,12 @@ module _ (g : Graph) (bad : ℕ → Bool) (w : WellFormed g) where
   unfolding leastTrace
   leastTrace-leads h = leastFrom-leads g bad (distance g bad) 0 (w .start) (distance-meets g bad h)
 
-  -- and comes first in event order among all lists of its length that do
+  -- the least trace comes first in event order among all lists of its length that lead to a bad node
   pub leastTrace-least : (t : List ℕ) → length t ≡ distance g bad → LeadsToBad g bad 0 t → Lex (leastTrace g bad) t
   unfolding leastTrace
   leastTrace-least t e l = rw (← e) (leastFrom-least 0 t l)
 
-  -- it is the only one that does
+  -- the least trace is the only list that comes first among those of its length that lead to a bad node
   pub leastTrace-unique : (s : List ℕ) → length s ≡ distance g bad → LeadsToBad g bad 0 s
       → ((t : List ℕ) → length t ≡ distance g bad → LeadsToBad g bad 0 t → Lex s t) → s ≡ leastTrace g bad
   leastTrace-unique s e l h =

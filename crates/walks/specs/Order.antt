@@ -1,5 +1,5 @@
--- The order of traces: shorter first, and among traces of one length the first difference decides. The whole order is also
--- given as one number, `rank`, so that comparing traces is comparing numbers.
+-- The order of traces: shorter first, and among traces of one length the first difference decides. The whole order is
+-- also given as one number, `rank`, so that comparing traces is comparing numbers.
 use mathlib.Core.Path.{_≡_, refl, sym, _∙_}
 use mathlib.Core.Logic.{_⊎_, inl, inr}
 use mathlib.Core.List.{List, [], _∷_, _++_}
@@ -29,7 +29,7 @@ lex-antisym (a ∷ s) (b ∷ t) e (inl x) (inr y) = absurd (omega (arith, y .0))
 lex-antisym (a ∷ s) (b ∷ t) e (inr x) (inl y) = absurd (omega (arith, x .0))
 lex-antisym (a ∷ s) (b ∷ t) e (inr x) (inr y) = let p = x .0 in let q = lex-antisym s t (omega arith) (x .1) (y .1) in cc
 
--- of three in order the first and the last are
+-- of three lists in event order the first and the last are in order
 pub lex-trans : (s t u : List ℕ) → Lex s t → Lex t u → Lex s u
 lex-trans [] t u x y = tt
 lex-trans (a ∷ s) [] u x y = absurd x
@@ -82,7 +82,7 @@ module _ (E : ℕ) where
   rank-lt a b (i ∷ s) [] h e l = absurd (omega arith)
   rank-lt a b (i ∷ s) (j ∷ t) h e l = rank-lt (a * E + i + 1) (b * E + j + 1) s t (digit-lt a b i j h (l .0)) (omega arith) (l .1)
 
-  -- the number grows with the event order
+  -- among lists of one length the number `rankFrom` grows with the event order
   pub rank-lex : (a : ℕ) (s t : List ℕ) → Lex s t → length s ≡ length t → Below E s → (s ≡ t) ⊎ (rankFrom a s < rankFrom a t)
   unfolding rankFrom
   rank-lex a [] [] x e l = inl refl
@@ -100,7 +100,7 @@ module _ (E : ℕ) where
   rank-le a b [] h = h
   rank-le a b (i ∷ t) h = rank-le (a * E + i + 1) (b * E + i + 1) t (digit-le a b i h)
 
-  -- and with the length
+  -- a shorter list has the smaller number
   pub rank-short : (a : ℕ) (s t : List ℕ) → 0 < E → length s < length t → Below E s → rankFrom a s < rankFrom a t
   unfolding rankFrom
   rank-short a s [] p h l = absurd (omega arith)
@@ -113,7 +113,7 @@ module _ (E : ℕ) where
       go (inl k) ih = omega (arith, ih k, rank-le a (a * E + j + 1) t (omega (arith, grows)))
       go (inr k) ih = rank-lt a (a * E + j + 1) s t grows (omega arith) l
 
-  -- so a list that is no greater is no longer
+  -- a list whose number is no greater is no longer
   pub rank-length : (s t : List ℕ) → 0 < E → Below E t → rank s ≤ rank t → length s ≤ length t
   unfolding rank
   rank-length s t p l h = go (lt-or-ge (length t) (length s))

@@ -1,5 +1,5 @@
--- Two graphs side by side: common traces, the nearest bad pair and the least trace to one, and how many pairs are reached.
--- All of it is the theory of one graph, at the product.
+-- Two graphs side by side: common traces, the nearest bad pair and the least trace to one, and how many pairs are
+-- reached. All of it is the theory of one graph, at the product.
 use mathlib.Core.Path.{_≡_, refl, sym, ap, _∙_}
 use mathlib.Core.Logic.{_↔_}
 use mathlib.Core.Bool.{Bool, true}
@@ -103,7 +103,7 @@ module _ {r d : Graph} (wr : WellFormed r) (wd : WellFormed d) where
     to : (t : List ℕ) → PairLeads r d bad 0 0 t → LeadsToBad (product r d) (onCodes d bad) 0 t
     to t l = rw (code-start d) at (pair-leads→ bad 0 0 t l)
 
-    -- and back
+    -- a list to a bad node of the product, in the two graphs
     from : (t : List ℕ) → LeadsToBad (product r d) (onCodes d bad) 0 t → PairLeads r d bad 0 0 t
     from t l = pair-leads← bad 0 0 t (wr .start) (wd .start) (rw (code-start d) l)
 
@@ -134,18 +134,18 @@ module _ {r d : Graph} (wr : WellFormed r) (wd : WellFormed d) where
     unfolding pairTrace pairDistance product
     pairTrace-leads h = from (leastTrace (product r d) (onCodes d bad)) (leastTrace-leads (product r d) (onCodes d bad) w h)
 
-    -- and comes first in event order among all common traces of its length to a bad pair
+    -- the least trace comes first in event order among all common traces of its length to a bad pair
     pub pairTrace-least : (t : List ℕ) → length t ≡ pairDistance r d bad → PairLeads r d bad 0 0 t → Lex (pairTrace r d bad) t
     unfolding pairTrace pairDistance
     pairTrace-least t e l = leastTrace-least (product r d) (onCodes d bad) w t e (to t l)
 
-    -- it is the only one that does
+    -- the least trace is the only common trace that comes first among those of its length to a bad pair
     pub pairTrace-unique : (s : List ℕ) → length s ≡ pairDistance r d bad → PairLeads r d bad 0 0 s
         → ((t : List ℕ) → length t ≡ pairDistance r d bad → PairLeads r d bad 0 0 t → Lex s t) → s ≡ pairTrace r d bad
     unfolding pairTrace pairDistance
     pairTrace-unique s e l h = leastTrace-unique (product r d) (onCodes d bad) w s e (to s l) (λ t f k. h t f (from t k))
 
-  -- reached before k in the product, and as a pair
+  -- a pair is reached before k as a node of the product exactly if it is as a pair
   before : (k n m : ℕ) → n < r .size → m < d .size → ReachedBefore (product r d) k (code d n m) ↔ PairReachedBefore r d k n m
   before k n m h l = (forth, back)
     where
@@ -155,7 +155,7 @@ module _ {r d : Graph} (wr : WellFormed r) (wd : WellFormed d) where
       back : PairReachedBefore r d k n m → ReachedBefore (product r d) k (code d n m)
       back (t, s, a, b) = (t, s, product-at wr wd t n m h l .1 (a, b))
 
-  -- reached at all in the product, and as a pair
+  -- a pair is reached at all as a node of the product exactly if it is as a pair
   ever : (n m : ℕ) → n < r .size → m < d .size → Reachable (product r d) (code d n m) ↔ PairReachable r d n m
   ever n m h l = (forth, back)
     where
@@ -184,7 +184,7 @@ module _ {r d : Graph} (wr : WellFormed r) (wd : WellFormed d) where
             → code d (Q x / d .size) (Q x % d .size) ≡ code d (Q y / d .size) (Q y % d .size)
         pair x y e f = rw (e, f)
 
-    -- and a listing of pairs lists their codes
+    -- a listing of pairs lists their codes
     encode : {L : ℕ} {N M : ℕ → ℕ} → PairLists r d R L N M → Lists (r .size * d .size) P L (λ x. code d (N x) (M x))
     encode {L} {N} {M} l = record {
       below = λ x k. code-lt r d (N x) (M x) (l .in-r x k) (l .in-d x k);

@@ -1,5 +1,5 @@
--- The product of two graphs: its walks are the walks that both graphs have. With p and q nodes in the two graphs, the pair of
--- n and m is the node n * q + m of the product.
+-- The product of two graphs: its walks are the walks that both graphs have. With p and q nodes in the two graphs, the
+-- pair of n and m is the node n * q + m of the product.
 use mathlib.Core.Path.{_≡_, refl, sym, ap, _∙_}
 use mathlib.Core.Logic.{_⊎_, inl, inr, _↔_}
 use mathlib.Core.Bool.{true, false, cond, _&&_}
@@ -17,7 +17,8 @@ use Rattle.walks.specs.Graph.{Graph, WellFormed, walk, Trace, ahead}
 unfoldable pub code : Graph → ℕ → ℕ → ℕ
 code d n m = n * d .size + m
 
--- The pair that event i leads to from (n, m): both successors, if both graphs have one; else the number of pairs, for none.
+-- The pair that event i leads to from (n, m): both successors, if both graphs have one; else the number of pairs, for
+-- none.
 unfoldable pub pairNext : Graph → Graph → ℕ → ℕ → ℕ → ℕ
 pairNext r d n m i = cond (ltb (r .next n i) (r .size) && ltb (d .next m i) (d .size)) (code d (r .next n i) (d .next m i)) (r .size * d .size)
 
@@ -37,12 +38,12 @@ pub code-lt : (r d : Graph) (n m : ℕ) → n < r .size → m < d .size → code
 unfolding code
 code-lt r d n m h k = digits-lt h k
 
--- different pairs have different numbers
+-- different pairs have different codes
 pub code-unique : (d : Graph) (n m n′ m′ : ℕ) → m < d .size → m′ < d .size → code d n m ≡ code d n′ m′ → (n ≡ n′) × (m ≡ m′)
 code-unique d n m n′ m′ h k e =
     (sym (code-div d n m h) ∙ ap (λ (x : ℕ). x / d .size) e ∙ code-div d n′ m′ k, sym (code-mod d n m h) ∙ ap (λ (x : ℕ). x % d .size) e ∙ code-mod d n′ m′ k)
 
--- every number below the number of pairs is the number of a pair
+-- every number is the code of its quotient and its remainder by the size of d
 pub code-split : (d : Graph) (c : ℕ) → code d (c / d .size) (c % d .size) ≡ c
 unfolding code
 code-split d c = div-add-mod' c (d .size)
@@ -104,7 +105,7 @@ module _ {r d : Graph} (wr : WellFormed r) (wd : WellFormed d) where
       ap (λ (x : ℕ). walk (product r d) x t) (product-next r d n m i (ahead wd m (i ∷ t) k) ∙ pairNext← r d n m i a b)
       ∙ product-walk (r .next n i) (d .next m i) t h k
 
-  -- and what the product walks, both graphs walk
+  -- what the product walks, both graphs walk
   pub product-both : (n m : ℕ) (t : List ℕ) → n < r .size → m < d .size → walk (product r d) (code d n m) t < r .size * d .size
       → (walk r n t < r .size) × (walk d m t < d .size)
   unfolding walk

@@ -47,7 +47,7 @@ pub leads← : {g : Graph} → WellFormed g → (u v i : ℕ) → v < g .size �
 unfolding leads
 leads← {g} w u v i l e = any← (λ i. eqb (g .next u i) v) (g .events) i (w .labels u i (omega (arith, e))) (eq-eqb _ _ e)
 
--- one event more on a list that leads to u
+-- one event more on a list that leads to u leads to a successor of u
 further : (g : Graph) (u v : ℕ) (t : List ℕ) (i : ℕ) → walk g 0 t ≡ u → g .next u i ≡ v → walk g 0 (t ++ (i ∷ [])) ≡ v
 further g u v t i p q = walk-snoc g 0 t i ∙ ap (λ (x : ℕ). g .next x i) p ∙ q
 
@@ -72,7 +72,7 @@ reached← {g} w = snoc-ind (λ t. Trace g t → reached g (length t) (walk g 0 
         any← (λ u. leads g u (walk g 0 (t ++ (i ∷ []))) && reached g (length t) u) (g .size) (walk g 0 t) (trace-front w t (i ∷ []) a)
         (and-i (leads← w (walk g 0 t) (walk g 0 (t ++ (i ∷ []))) i a (sym (walk-snoc g 0 t i))) (ih (trace-front w t (i ∷ []) a))))
 
--- the test says what it is to say
+-- the test `reached` passes exactly if a list of j events leads to v
 pub reached-means : {g : Graph} → WellFormed g → (j v : ℕ) → v < g .size → (reached g j v ≡ true) ↔ ReachedIn g j v
 reached-means {g} w j v l = (reached→ g j v, back)
   where
@@ -115,7 +115,7 @@ nearer-means {g} w k v l = (nearer→ g k v, back)
     back : ReachedBefore g k v → nearer g k v ≡ true
     back (t, p, q) = rw (← q) (nearer← w t k p (omega (arith, q)))
 
--- as many events as there are nodes reach all that any number of events reaches
+-- fewer events than there are nodes reach all that any number of events reaches
 pub nearer-all : {g : Graph} → WellFormed g → (k v : ℕ) → g .size ≤ k → v < g .size → (nearer g k v ≡ true) ↔ Reachable g v
 nearer-all {g} w k v m l = (forth, back)
   where
@@ -125,7 +125,7 @@ nearer-all {g} w k v m l = (forth, back)
     back : Reachable g v → nearer g k v ≡ true
     back (t, q) = let s = bound w t (omega (arith, q)) in nearer-means w k v l .1 (s .0, omega (arith, s .1), s .2 ∙ q)
 
--- fewer than k events: exactly j, for some j below k
+-- a node is reached in fewer than k events exactly if it is in exactly j, for some j below k
 pub nearer-any : {g : Graph} → WellFormed g → (k v : ℕ) → v < g .size → nearer g k v ≡ any (λ j. reached g j v) k
 nearer-any {g} w k v l = same (nearer g k v) (any (λ j. reached g j v) k) forth back
   where

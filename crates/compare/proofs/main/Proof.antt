@@ -2,7 +2,7 @@
 use mathlib.Core.Path.{sym}
 use borrow.Author.Needs.{needs}
 use lib.Seq.{length-take-le}
-use Rattle.lines_spec.specs.ProgramLaws.{kept-inside}
+use Rattle.compare_lines_spec.specs.ProgramLaws.{kept-inside}
 use Rattle.compare.proofs.main.Statement.{statement}
 use Rattle.compare.proofs.main.Tie as tie
 

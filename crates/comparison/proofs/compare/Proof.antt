@@ -13,8 +13,8 @@ returns c =
     let a = c .before .before .before .before .args in
     compares-denied (a .reference) (a .device) (now (a .work)) (now (a .trace)) (a .trace-only) _ (c .before .fault-on .ensures) (c .if1 .taken)
 
-judge-requires : tie.Need-judge-requires
-judge-requires c κs =
+compare-accepted-requires : tie.Need-compare-accepted-requires
+compare-accepted-requires c κs =
     let a = c .before .before .before .before .before .before .args in
     passed (a .reference) (a .device) (now (a .work)) (now (a .trace)) _ (c .before .before .before .fault-on .ensures) (c .before .before .if1 .left)
 
@@ -25,7 +25,7 @@ same-length-2 : tie.Need-same-length-2
 same-length-2 c = omega arith
 
 returns-2 : tie.Need-returns-2
-returns-2 c = c .before .before .before .before .judge .ensures
+returns-2 c = c .before .before .before .before .compare-accepted .ensures
 
 pub compare-spec : {M : Type 1} → statement M
 compare-spec =
@@ -33,7 +33,7 @@ compare-spec =
     (tie.spec
     fault-on-requires
     returns
-    judge-requires
+    compare-accepted-requires
     same-length
     same-length-2
     returns-2)

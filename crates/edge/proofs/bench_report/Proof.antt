@@ -1,5 +1,5 @@
--- `bench_report` meets its contract: a walk of its MIR, by hand. The reference is given to `take_report` for good, whose
--- contract says its last value.
+-- `bench_report` meets its contract: a walk of its MIR, by hand. The reference is given to `take_report` for good,
+-- whose contract says its last value.
 use mathlib.Core.Path.{_≡_, refl, ap, _∙_}
 use Prim.Native.Nat.{ℕ, _<_, _^_}
 use mathlib.Core.List.{[], _∷_, List}

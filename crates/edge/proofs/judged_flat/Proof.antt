@@ -1,5 +1,5 @@
 use native.Mathlib.Omega.{arith}
-use Rattle.tests_spec.specs.Numbers.{judged}
+use Rattle.verdicts_spec.specs.Numbers.{judged}
 use Rattle.edge.specs.Flat.{saidFlat}
 use Rattle.edge.proofs.judged_flat.Statement.{statement}
 use Rattle.edge.proofs.judged_flat.Tie as tie

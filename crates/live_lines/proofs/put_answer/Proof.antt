@@ -1,4 +1,4 @@
--- From the front of the list.
+-- The line of the answer is put from the front of the list.
 use native.Mathlib.Omega.{arith}
 use Rattle.text_spec.specs.AddsLaws.{adds-all}
 use Rattle.live_lines_spec.specs.Answers.{answerLine}

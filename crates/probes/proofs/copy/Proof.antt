@@ -5,7 +5,7 @@ use native.Mathlib.Omega.{arith}
 use denote.Ref.{now}
 use lib.ListN.{length, getD, take, length-set}
 use Rattle.base.specs.Front.{atFront}
-use Rattle.probes.proofs.Turns.{front-none, copy-more}
+use Rattle.probes.proofs.Seen.{front-none, copy-more}
 use Rattle.probes.proofs.copy.Statement.{statement}
 use Rattle.probes.proofs.copy.Tie as tie
 

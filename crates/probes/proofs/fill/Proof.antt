@@ -1,13 +1,13 @@
--- `probes::fill`. The loop's invariant: it stands at a turn that lists its set, or at the end, and the `at` sets listed before are
--- the front of the list, the rest of which is as it was.
+-- `probes::fill`. The loop's invariant: it stands at a candidate that is a probe, or at the end, and the `at` probes
+-- before are the front of the list, the rest of which is as it was.
 use mathlib.Core.Path.{_≡_, sym, ap, _∙_}
 use Prim.Native.Nat.{_+_, _-_, _≤_}
 use native.Mathlib.Omega.{arith}
 use denote.Ref.{now}
 use lib.ListN.{length, take, set, length-set}
 use Rattle.base.specs.Front.{atFront}
-use Rattle.probes_spec.specs.Shapes.{turns, turn}
-use Rattle.probes.proofs.Turns.{next-low, Stands, seen, stands-next, seen-start, seen-count, seen-room, seen-short, seen-end, front-none, fill-more}
+use Rattle.probes_spec.specs.Shapes.{candidateCount, listed}
+use Rattle.probes.proofs.Seen.{next-low, Stands, seen, stands-next, seen-start, seen-count, seen-room, seen-short, seen-end, front-none, fill-more}
 use Rattle.probes.proofs.fill.Statement.{statement}
 use Rattle.probes.proofs.fill.Tie as tie
 
@@ -18,21 +18,21 @@ Inv-loop sets c e out₀ last at₀ x₀ out at x =
 abbrev μ-loop : tie.MeasureT-loop
 μ-loop sets c e out₀ last at₀ x₀ out at x = last - x
 
-turns-of-requires : tie.Need-turns-of-requires Inv-loop μ-loop
-turns-of-requires c κs = omega arith
+candidate-count-requires : tie.Need-candidate-count-requires Inv-loop μ-loop
+candidate-count-requires c κs = omega arith
 
-next-turn-requires : tie.Need-next-turn-requires Inv-loop μ-loop
-next-turn-requires c κs = omega arith
+next-listed-requires : tie.Need-next-listed-requires Inv-loop μ-loop
+next-listed-requires c κs = omega arith
 
 loop-holds : tie.Need-loop-holds Inv-loop μ-loop
 loop-holds c =
     let a = c .before .before .before .args in
-    let s = stands-next (take (a .c) (a .sets)) (a .e) 0 (c .next-turn .result) (omega arith) (c .next-turn .ensures) in
-    let q = seen-start (take (a .c) (a .sets)) (a .e) (c .next-turn .result) (c .next-turn .ensures) in
+    let s = stands-next (take (a .c) (a .sets)) (a .e) 0 (c .next-listed .result) (omega arith) (c .next-listed .ensures) in
+    let q = seen-start (take (a .c) (a .sets)) (a .e) (c .next-listed .result) (c .next-listed .ensures) in
     (omega (arith, s .most), s, sym (ap length q), front-none (now (a .out)) ∙ ap (atFront (now (a .out))) (sym q), omega arith)
 
-set-of-requires : tie.Need-set-of-requires Inv-loop μ-loop
-set-of-requires c κs = tt
+candidate-requires : tie.Need-candidate-requires Inv-loop μ-loop
+candidate-requires c κs = tt
 
 mul-out : tie.Need-mul-out Inv-loop μ-loop
 mul-out c =
@@ -52,24 +52,24 @@ add-at c =
     let a = l .before .before .before .before .args in
     omega (arith, seen-short (take (a .c) (a .sets)) (a .e) (l .loop .x))
 
-add-next-turn : tie.Need-add-next-turn Inv-loop μ-loop
-add-next-turn c = omega arith
+add-next-listed : tie.Need-add-next-listed Inv-loop μ-loop
+add-next-listed c = omega arith
 
-next-turn-requires-2 : tie.Need-next-turn-requires-2 Inv-loop μ-loop
-next-turn-requires-2 c κs = omega arith
+next-listed-requires-2 : tie.Need-next-listed-requires-2 Inv-loop μ-loop
+next-listed-requires-2 c κs = omega arith
 
 loop-less : tie.Need-loop-less Inv-loop μ-loop
 loop-less c =
     let l = c .before .before .before in
     let a = l .before .before .before .before .args in
-    omega (arith, next-low (turn (take (a .c) (a .sets)) (a .e)) (turns (a .e)) (l .loop .x + 1) (omega arith) (c .next-turn2 .result) (c .next-turn2 .ensures))
+    omega (arith, next-low (listed (take (a .c) (a .sets)) (a .e)) (candidateCount (a .e)) (l .loop .x + 1) (omega arith) (c .next-listed2 .result) (c .next-listed2 .ensures))
 
 loop-again : tie.Need-loop-again Inv-loop μ-loop
 loop-again c =
     let l = c .before .before .before in
     let a = l .before .before .before .before .args in
-    let y = c .next-turn2 in
-    let v = c .before .set-of in
+    let y = c .next-listed2 in
+    let v = c .before .candidate in
     let s = stands-next (take (a .c) (a .sets)) (a .e) (l .loop .x + 1) (y .result) (omega arith) (y .ensures) in (
       omega (arith, s .most),
       s,
@@ -95,15 +95,15 @@ fill-spec =
     (tie.spec
     Inv-loop
     μ-loop
-    turns-of-requires
-    next-turn-requires
+    candidate-count-requires
+    next-listed-requires
     loop-holds
-    set-of-requires
+    candidate-requires
     mul-out
     slice-write-out
     add-at
-    add-next-turn
-    next-turn-requires-2
+    add-next-listed
+    next-listed-requires-2
     loop-less
     loop-again
     same-length

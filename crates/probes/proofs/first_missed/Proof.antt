@@ -1,5 +1,5 @@
--- `probes::first_missed`. The outer loop's invariant: it stands at a probe, or at the end, and every probe before is met by all
--- acceptances of the device. The inner loop's: what is left of these names what all of them name.
+-- `probes::first_missed`. The outer loop's invariant: it stands at a probe, or at the end, and every probe before is
+-- met by all acceptances of the device. The inner loop's: what is left of these names what all of them name.
 use mathlib.Core.Path.{_≡_, refl, sym, ap, ap₂, _∙_}
 use mathlib.Core.Logic.{⊎-elim}
 use mathlib.Core.Bool.{false, true≢false}
@@ -7,9 +7,9 @@ use Prim.Native.Nat.{ℕ, _+_, _-_, _≤_}
 use native.Mathlib.Omega.{arith}
 use lib.ListN.{take, drop, getD}
 use Rattle.probes_spec.specs.declared.Missed.the-variants.{Nothing, Found}
-use Rattle.probes_spec.specs.Shapes.{turns, turn}
+use Rattle.probes_spec.specs.Shapes.{candidateCount, listed}
 use Rattle.probes_spec.specs.FirstMissed.{missing, firstMissing}
-use Rattle.probes.proofs.Turns.{next-low, Stands, seen, stands-next}
+use Rattle.probes.proofs.Seen.{next-low, Stands, seen, stands-next}
 use Rattle.probes.proofs.Misses.{miss-at, miss-more, miss-end, named-start, named-at, named-more, named-end}
 use Rattle.probes.proofs.first_missed.Statement.{statement}
 use Rattle.probes.proofs.first_missed.Tie as tie
@@ -28,21 +28,21 @@ Inv-probes sets c e d device end probe₀ acceptance₀ missed₀ x₀ probe acc
 abbrev μ-probes : tie.MeasureT-probes
 μ-probes sets c e d device end probe₀ acceptance₀ missed₀ x₀ probe acceptance missed x = end - x
 
-turns-of-requires : tie.Need-turns-of-requires Inv-loop μ-loop Inv-probes μ-probes
-turns-of-requires c κs = omega arith
+candidate-count-requires : tie.Need-candidate-count-requires Inv-loop μ-loop Inv-probes μ-probes
+candidate-count-requires c κs = omega arith
 
-next-turn-requires : tie.Need-next-turn-requires Inv-loop μ-loop Inv-probes μ-probes
-next-turn-requires c κs = omega arith
+next-listed-requires : tie.Need-next-listed-requires Inv-loop μ-loop Inv-probes μ-probes
+next-listed-requires c κs = omega arith
 
 probes-holds : tie.Need-probes-holds Inv-loop μ-loop Inv-probes μ-probes
 probes-holds c =
     let g = c .before .before .args in
-    let y = c .next-turn in
+    let y = c .next-listed in
     let s = stands-next (take (g .c) (g .sets)) (g .e) 0 (y .result) (omega arith) (y .ensures) in
     (omega (arith, s .most), refl, s, named-start (take (g .c) (g .sets)) (g .e) (take (g .d) (g .t4)) (y .result) (y .ensures))
 
-set-of-requires : tie.Need-set-of-requires Inv-loop μ-loop Inv-probes μ-probes
-set-of-requires c κs = tt
+candidate-requires : tie.Need-candidate-requires Inv-loop μ-loop Inv-probes μ-probes
+candidate-requires c κs = tt
 
 loop-holds : tie.Need-loop-holds Inv-loop μ-loop Inv-probes μ-probes
 loop-holds c = (omega arith, c .before .before .probes .inv .1, refl)
@@ -62,30 +62,30 @@ loop-less c = omega arith
 loop-again : tie.Need-loop-again Inv-loop μ-loop Inv-probes μ-probes
 loop-again c =
     let l = c .before .before in
-    let p = l .before .set-of in
+    let p = l .before .candidate in
     let g = l .before .before .before .before .before .before .args in
     (omega arith, l .loop .inv .1, sym (miss-more (g .d) (g .t4) (l .loop .k) (p .result) (c .before .loop-test .taken) (omega arith) (c .if1 .left)) ∙ l .loop .inv .2)
 
-add-next-turn : tie.Need-add-next-turn Inv-loop μ-loop Inv-probes μ-probes
-add-next-turn c = omega arith
+add-next-listed : tie.Need-add-next-listed Inv-loop μ-loop Inv-probes μ-probes
+add-next-listed c = omega arith
 
-next-turn-requires-2 : tie.Need-next-turn-requires-2 Inv-loop μ-loop Inv-probes μ-probes
-next-turn-requires-2 c κs = omega arith
+next-listed-requires-2 : tie.Need-next-listed-requires-2 Inv-loop μ-loop Inv-probes μ-probes
+next-listed-requires-2 c κs = omega arith
 
 probes-less : tie.Need-probes-less Inv-loop μ-loop Inv-probes μ-probes
 probes-less c =
     let o = c .before .before .before .before .before in
     let g = o .before .before .before .args in
-    let y = c .next-turn2 in
-    omega (arith, next-low (turn (take (g .c) (g .sets)) (g .e)) (turns (g .e)) (o .probes .x + 1) (omega arith) (y .result) (y .ensures))
+    let y = c .next-listed2 in
+    omega (arith, next-low (listed (take (g .c) (g .sets)) (g .e)) (candidateCount (g .e)) (o .probes .x + 1) (omega arith) (y .result) (y .ensures))
 
 probes-again : tie.Need-probes-again Inv-loop μ-loop Inv-probes μ-probes
 probes-again c =
     let l = c .before .before in
-    let p = l .before .set-of in
+    let p = l .before .candidate in
     let o = l .before .before .before in
     let g = o .before .before .before .args in
-    let y = c .next-turn2 in
+    let y = c .next-listed2 in
     let s = stands-next (take (g .c) (g .sets)) (g .e) (o .probes .x + 1) (y .result) (omega arith) (y .ensures) in
     let m = ap (λ (q : ℕ). missing q (take (g .d) (g .t4))) (sym (p .ensures)) ∙ sym (l .loop .inv .2) ∙ miss-end (g .d) (g .t4) (l .loop .k) (p .result) (c .before .loop-test .left) in
     (omega (arith, s .most), l .loop .inv .1, s, named-more (take (g .c) (g .sets)) (g .e) (take (g .d) (g .t4)) (o .probes .x) (o .probes .inv .2) (o .probes .inv .3) (omega arith) m (y .result) (y .ensures))
@@ -120,18 +120,18 @@ first-missed-spec =
     μ-loop
     Inv-probes
     μ-probes
-    turns-of-requires
-    next-turn-requires
+    candidate-count-requires
+    next-listed-requires
     probes-holds
-    set-of-requires
+    candidate-requires
     loop-holds
     mul-a
     array-read-a
     add-k
     loop-less
     loop-again
-    add-next-turn
-    next-turn-requires-2
+    add-next-listed
+    next-listed-requires-2
     probes-less
     probes-again
     returns

@@ -7,9 +7,9 @@ use lib.ListN.{length, replicate}
 use Rattle.base.specs.Front.{atFront}
 use Rattle.sheet_spec.specs.Rules.{sheetFault}
 use Rattle.sheet_spec.specs.Form.{SheetForm}
-use Rattle.rows.proofs.Shape.{sheet-form}
+use Rattle.sheet_rows.proofs.Shape.{sheet-form}
 use Rattle.probes_spec.specs.Listing.{nodeProbes}
-use Rattle.probes.proofs.Turns.{front-taken}
+use Rattle.probes.proofs.Seen.{front-taken}
 use Rattle.probes.proofs.Lists.{told-own, told-9, told-10, told-all, node-ranges, node-list, node-small, node-place}
 use Rattle.probes.proofs.list.Statement.{statement}
 use Rattle.probes.proofs.list.Tie as tie
@@ -76,7 +76,7 @@ fill-requires c κs =
     let r = ranges d in
     (r .0, r .1, node-small (a .t1) (sheet-good w) (a .node) (w .wide2 .result) (w .before .wide .result) (d .wide3 .result) (node-good w) (w .wide2 .ensures) (w .before .wide .ensures) (d .wide3 .ensures) (form w))
 
--- at most 4,096 are found
+-- at most 4,096 probes are found
 few : (c : tie.After-fill) → c .fill .result ≤ 4096
 few c =
     let d = c .before .before .before in

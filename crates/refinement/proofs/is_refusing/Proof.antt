@@ -11,7 +11,7 @@ use Rattle.refinement.specs.Shapes.{covering, refusing}
 use Rattle.refinement.proofs.is_refusing.Statement.{statement}
 use Rattle.refinement.proofs.is_refusing.Tie as tie
 
--- the one at place j includes none of the sets
+-- the other set at place j includes none of the sets
 abbrev lacks : List ℕ → ℕ → List ℕ → ℕ → Bool
 lacks sets c others j = not (covering sets c (getD others j 0))
 

@@ -1,6 +1,6 @@
 -- `refinement::is_violating` tests the strays first, and the refusals only where they count.
 use borrow.Author.Tests.{eq-eqb, ne-eqb}
-use Rattle.refinement_spec.specs.PairTests.{hasStray, violates}
+use Rattle.refinement_spec.specs.ViolatingPairs.{hasStray, violates}
 use Rattle.refinement.proofs.is_violating.Statement.{statement}
 use Rattle.refinement.proofs.is_violating.Tie as tie
 

@@ -2,7 +2,7 @@
 use mathlib.Core.Path.{refl}
 use native.Mathlib.Omega.{arith}
 use lib.Bits.{and-le-r}
-use Rattle.refinement_spec.specs.PairTests.{strays}
+use Rattle.refinement_spec.specs.ViolatingPairs.{strays}
 use Rattle.refinement.proofs.stray_events.Statement.{statement}
 use Rattle.refinement.proofs.stray_events.Tie as tie
 

@@ -1,11 +1,11 @@
--- `search::search`: the links are cleared, the queue run, the answer read off, the work list cleared.
+-- `search::search`: the links are cleared, the queue explored, the answer read off, the work list cleared.
 use mathlib.Core.Path.{sym, _∙_}
 use native.Mathlib.Omega.{arith}
 use lib.Seq.{length-take-le, length-front}
 use Prim.Native.Nat.{_-_, _*_}
 use borrow.Rule.Slice.PartMut.{same-len-mid}
-use Rattle.search_spec.specs.Words.{wordsFor}
-use Rattle.search_spec.specs.Read.{search-small, search-run-ok, search-settle-ok, search-whole}
+use Rattle.search_theory.specs.Words.{wordsFor}
+use Rattle.search_theory.specs.Read.{search-small, search-run-ok, search-settle-ok, search-whole}
 use Rattle.search.proofs.Cleared.{cleared-part, cleared-front}
 use Rattle.search.proofs.search.Statement.{statement}
 use Rattle.search.proofs.search.Tie as tie
@@ -31,8 +31,8 @@ part-clear-end c = c .before .before .pre .words
 clear-requires : tie.Need-clear-requires
 clear-requires c κs = tt
 
-run-requires : tie.Need-run-requires
-run-requires c κs =
+explore-requires : tie.Need-explore-requires
+explore-requires c κs =
     let s = c .before .before .before .before .before .before .before in
     let a = s .args in
     let l = c .before .before .before .clear in
@@ -42,14 +42,14 @@ run-requires c κs =
 settle-requires : tie.Need-settle-requires
 settle-requires c κs =
     let o = c .before .before .before .before .before .before .before .before .before .before .before .before .pre in
-    (o .second-some, search-settle-ok _ _ _ _ _ o _ _ _ _ _ _ _ (c .before .before .before .before .run .ensures .0))
+    (o .second-some, search-settle-ok _ _ _ _ _ o _ _ _ _ _ _ _ (c .before .before .before .before .explore .ensures .0))
 
 slice-relend-prefix-clear : tie.Need-slice-relend-prefix-clear
 slice-relend-prefix-clear c =
     let s = c .before .before .before .before .before .before .before .before .before .before .before .before .before .before .before .before .before in
     let a = s .args in
     let l = c .before .before .before .before .before .before .before .before .before .before .before .before .before .clear in
-    let r = c .before .before .before .before .before .before .before .before .before .run in
+    let r = c .before .before .before .before .before .before .before .before .before .explore in
     let f = c .before .before .before .before .settle in
     let m = same-len-mid (a .p * a .q) (wordsFor (a .p * a .q) - a .p * a .q) (a .work .now) (l .last .0) (l .kept .0) in
     let k = r .kept .1 .1 .1 .1 .1 .1 .0 in
@@ -61,7 +61,7 @@ slice-aggregate-clear c =
     let s = c .before .before .before .before .before .before .before .before .before .before .before .before .before .before .before .before .before .before in
     let a = s .args in
     let l = c .before .before .before .before .before .before .before .before .before .before .before .before .before .before .clear in
-    let r = c .before .before .before .before .before .before .before .before .before .before .run in
+    let r = c .before .before .before .before .before .before .before .before .before .before .explore in
     let f = c .before .before .before .before .before .settle in
     let m = same-len-mid (a .p * a .q) (wordsFor (a .p * a .q) - a .p * a .q) (a .work .now) (l .last .0) (l .kept .0) in
     let k = r .kept .1 .1 .1 .1 .1 .1 .0 in
@@ -76,7 +76,7 @@ same-length c =
     let s = c .before .before .before .before .before .before .before .before .before .before .before .before .before .before .before .before .before .before .before .before .before in
     let a = s .args in
     let l = c .before .before .before .before .before .before .before .before .before .before .before .before .before .before .before .before .before .clear in
-    let r = c .before .before .before .before .before .before .before .before .before .before .before .before .before .run in
+    let r = c .before .before .before .before .before .before .before .before .before .before .before .before .before .explore in
     let f = c .before .before .before .before .before .before .before .before .settle in
     let m = same-len-mid (a .p * a .q) (wordsFor (a .p * a .q) - a .p * a .q) (a .work .now) (l .last .0) (l .kept .0) in
     let k = r .kept .1 .1 .1 .1 .1 .1 .0 in
@@ -91,7 +91,7 @@ returns c =
     let s = c .before .before .before .before .before .before .before .before .before .before .before .before .before .before .before .before .before .before .before .before .before in
     let a = s .args in
     let l = c .before .before .before .before .before .before .before .before .before .before .before .before .before .before .before .before .before .clear in
-    let r = c .before .before .before .before .before .before .before .before .before .before .before .before .before .run in
+    let r = c .before .before .before .before .before .before .before .before .before .before .before .before .before .explore in
     let f = c .before .before .before .before .before .before .before .before .settle in
     let m = same-len-mid (a .p * a .q) (wordsFor (a .p * a .q) - a .p * a .q) (a .work .now) (l .last .0) (l .kept .0) in
     let k = r .kept .1 .1 .1 .1 .1 .1 .0 in
@@ -111,7 +111,7 @@ search-spec =
     part-clear-start
     part-clear-end
     clear-requires
-    run-requires
+    explore-requires
     settle-requires
     slice-relend-prefix-clear
     slice-aggregate-clear

@@ -1,7 +1,7 @@
 -- `search::settle`: the answer at the first bad entry, or without one.
 use mathlib.Core.Path.{refl}
 use native.Mathlib.Omega.{arith}
-use Rattle.search_spec.specs.Read.{settle-bad, settle-clear, settle-rest}
+use Rattle.search_theory.specs.Read.{settle-bad, settle-clear, settle-rest}
 use Rattle.search.proofs.settle.Statement.{statement}
 use Rattle.search.proofs.settle.Tie as tie
 

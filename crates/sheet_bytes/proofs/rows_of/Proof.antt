@@ -1,4 +1,4 @@
--- After v turns the first v rows are filled and the place is where node v begins.
+-- After v rounds the first v rows are filled and the place is where node v begins.
 use mathlib.Core.Path.{_≡_, refl}
 use Prim.Native.Nat.{_+_, _-_, _*_, _≤_}
 use native.Mathlib.Omega.{arith}

@@ -1,4 +1,4 @@
--- After j turns the first j places are filled, the others hold 0.
+-- After j rounds the first j places are filled, the others hold 0.
 use Prim.Native.Nat.{_-_}
 use native.Mathlib.Omega.{arith}
 use Rattle.sheet_spec.specs.Reading.{setsOf}

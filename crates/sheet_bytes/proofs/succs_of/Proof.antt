@@ -1,4 +1,4 @@
--- After i turns the first i places are filled, the others hold 255.
+-- After i rounds the first i places are filled, the others hold 255.
 use Prim.Native.Nat.{_-_}
 use native.Mathlib.Omega.{arith}
 use Rattle.sheet_spec.specs.Reading.{succOf}

@@ -2,7 +2,7 @@
 use mathlib.Core.Path.{_≡_, ap, _∙_}
 use native.Mathlib.Omega.{arith}
 use Rattle.sheet_spec.specs.Kept.{acceptance}
-use Rattle.node_lines_spec.specs.Show.{acceptsLine, acceptanceLine}
+use Rattle.text_sheet_spec.specs.Show.{acceptsLine, acceptanceLine}
 use Rattle.text_spec.specs.AddsLaws.{adds-then}
 use Rattle.show_lines.proofs.put_acceptance.Statement.{statement}
 use Rattle.show_lines.proofs.put_acceptance.Tie as tie

@@ -1,6 +1,6 @@
 -- The words and numbers of the line.
 use native.Mathlib.Omega.{arith}
-use Rattle.node_lines_spec.specs.Show.{eventLine}
+use Rattle.text_sheet_spec.specs.Show.{eventLine}
 use Rattle.show_lines.proofs.put_event_line.Statement.{statement}
 use Rattle.show_lines.proofs.put_event_line.Tie as tie
 

@@ -1,7 +1,7 @@
 -- The words of a node that may stop, or the acceptances of another.
 use mathlib.Core.Path.{sym, _∙_}
 use native.Mathlib.Omega.{arith}
-use Rattle.node_lines_spec.specs.ShowLaws.{rest-stop, rest-accepts}
+use Rattle.text_sheet_spec.specs.ShowLaws.{rest-stop, rest-accepts}
 use Rattle.show_lines.proofs.put_rest.Statement.{statement}
 use Rattle.show_lines.proofs.put_rest.Tie as tie
 

@@ -1,6 +1,6 @@
 -- The parts of the text, one after another.
 use native.Mathlib.Omega.{arith}
-use Rattle.node_lines_spec.specs.Show.{rowLines}
+use Rattle.text_sheet_spec.specs.Show.{rowLines}
 use Rattle.text_spec.specs.AddsLaws.{adds-then}
 use Rattle.show_lines.proofs.put_row.Statement.{statement}
 use Rattle.show_lines.proofs.put_row.Tie as tie

@@ -2,7 +2,7 @@
 use mathlib.Core.Path.{_≡_, ap, _∙_}
 use native.Mathlib.Omega.{arith}
 use Rattle.sheet_spec.specs.Kept.{successor}
-use Rattle.node_lines_spec.specs.ShowLaws.{successor-none, successor-some}
+use Rattle.text_sheet_spec.specs.ShowLaws.{successor-none, successor-some}
 use Rattle.text_spec.specs.AddsLaws.{adds-none}
 use Rattle.show_lines.proofs.put_successor.Statement.{statement}
 use Rattle.show_lines.proofs.put_successor.Tie as tie

@@ -10,8 +10,8 @@ slice-aggregate-judge-all c = omega arith
 judge-all-requires : tie.Need-judge-all-requires
 judge-all-requires c κs = tt
 
-tests-of-requires : tie.Need-tests-of-requires
-tests-of-requires c κs = tt
+test-count-requires : tie.Need-test-count-requires
+test-count-requires c κs = tt
 
 slice-aggregate-put-suite : tie.Need-slice-aggregate-put-suite
 slice-aggregate-put-suite c = omega arith
@@ -26,7 +26,7 @@ returns : tie.Need-returns
 returns c =
     let a = c .before .before .before .before .before .before .before .before .before .before .args in
     let k = c .before .before .before .before .before .before .before .judge-all .ensures in
-    rw (c .before .before .before .before .tests-of .ensures, judged-is (a .p) (a .q) _ (k .0) (k .2)) at (c .before .before .put-suite .ensures)
+    rw (c .before .before .before .before .test-count .ensures, judged-is (a .p) (a .q) _ (k .0) (k .2)) at (c .before .before .put-suite .ensures)
 
 pub put-judged-spec : {M : Type 1} → statement M
-put-judged-spec = tie.close (tie.spec slice-aggregate-judge-all judge-all-requires tests-of-requires slice-aggregate-put-suite put-suite-requires same-length returns)
+put-judged-spec = tie.close (tie.spec slice-aggregate-judge-all judge-all-requires test-count-requires slice-aggregate-put-suite put-suite-requires same-length returns)

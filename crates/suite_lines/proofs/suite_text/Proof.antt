@@ -1,8 +1,8 @@
 -- The lines of the sheets are the text, or the verdicts' make it whole; it is put from the front of the list.
 use native.Mathlib.Omega.{arith}
 use Rattle.text_spec.specs.AddsLaws.{adds-all}
-use Rattle.pair_lines_spec.specs.Program.{pairText}
-use Rattle.pair_lines_spec.specs.OpeningLaws.{opens-judged, opens-refused}
+use Rattle.text_pair_spec.specs.Program.{pairText}
+use Rattle.text_pair_spec.specs.OpeningLaws.{opens-found, opens-refused}
 use Rattle.suite_lines_spec.specs.Program.{judgedLines, suiteText}
 use Rattle.suite_lines.proofs.suite_text.Statement.{statement}
 use Rattle.suite_lines.proofs.suite_text.Tie as tie
@@ -18,7 +18,7 @@ same-length c = omega arith
 
 returns : tie.Need-returns
 unfolding suiteText pairText
-returns c = adds-all (opens-judged judgedLines (c .before .before .before .before .before .before .before .before .before .put-pair .ensures) (c .before .before .before .before .before .before .if1 .taken) (c .before .before .put-judged .ensures))
+returns c = adds-all (opens-found judgedLines (c .before .before .before .before .before .before .before .before .before .put-pair .ensures) (c .before .before .before .before .before .before .if1 .taken) (c .before .before .put-judged .ensures))
 
 same-length-2 : tie.Need-same-length-2
 same-length-2 c = omega arith

@@ -1,6 +1,6 @@
 -- The tests are those of the definition, in its order.
 use native.Mathlib.Omega.{arith}
-use Rattle.reports.proofs.Answers.{fits}
+use Rattle.tests.proofs.reports.Answers.{fits}
 use Rattle.tests.proofs.Steps.{told, open-sheet, open-k, opened, first-node}
 use Rattle.tests.proofs.open_test.Statement.{statement}
 use Rattle.tests.proofs.open_test.Tie as tie

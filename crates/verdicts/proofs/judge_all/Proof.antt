@@ -31,8 +31,8 @@ wide-requires-3 c κs = tt
 wide-requires-4 : tie.Need-wide-requires-4
 wide-requires-4 c κs = tt
 
-mul-tests : tie.Need-mul-tests
-mul-tests c = omega (arith, few _ _ (c .before .before .before .before .before .before .before .before .check .ensures) (c .before .before .before .before .before .before .before .if1 .left) (c .before .before .before .before .before .before .check2 .ensures) (c .before .before .before .before .before .if2 .left) (c .before .before .before .before .wide .ensures) (c .before .wide3 .ensures) (c .wide4 .ensures))
+mul-total : tie.Need-mul-total
+mul-total c = omega (arith, few _ _ (c .before .before .before .before .before .before .before .before .check .ensures) (c .before .before .before .before .before .before .before .if1 .left) (c .before .before .before .before .before .before .check2 .ensures) (c .before .before .before .before .before .if2 .left) (c .before .before .before .before .wide .ensures) (c .before .wide3 .ensures) (c .wide4 .ensures))
 
 returns-4 : tie.Need-returns-4
 returns-4 c = by-room _ _ _ _ (c .before .before .before .before .before .before .before .before .before .check .ensures) (c .before .before .before .before .before .before .before .before .if1 .left) (c .before .before .before .before .before .before .before .check2 .ensures) (c .before .before .before .before .before .before .if2 .left) (c .before .before .before .before .before .wide .ensures) (c .before .before .before .before .wide2 .ensures) (c .before .before .before .if3 .left) (c .before .before .wide3 .ensures) (c .before .wide4 .ensures) (c .if4 .taken)
@@ -64,7 +64,7 @@ judge-all-spec =
     returns-3
     wide-requires-3
     wide-requires-4
-    mul-tests
+    mul-total
     returns-4
     failing-all-requires
     cast-t18

@@ -1,0 +1,32 @@
+-- For the programs of cases; nothing to believe.
+-- The sheets that the Run programs name are accepted, no other number names one, and the change for a refusal deserves
+-- it. (The three sheets of 12 events are left out: to compute with them takes too much memory; that they are accepted
+-- is seen when the programs run.)
+use mathlib.Core.Path.{_≡_, refl}
+use mathlib.Core.List.{List, [], _∷_, map}
+use Prim.Native.Nat.{ℕ}
+use Rattle.base.specs.Range.{all, any}
+use Rattle.base.specs.Table.{upTo}
+use Rattle.events.specs.Bit.{bit, setOf}
+use Rattle.events.specs.Sets.{has, inside}
+use Rattle.walks.specs.Reach.{nearer, leads}
+use Rattle.sheet_spec.specs.Kept.{successor, acceptance, initials, step}
+use Rattle.sheet_spec.specs.Rules.{rangesOk, countOk, countsOk, successorOk, rowSuccessorsOk, successorsOk, ascends, noneInside, setOk, rowSetsOk, setsOk, blank, unusedOk, blanksOk, reachedOk, sheetFault}
+use Rattle.sheet_spec.specs.Reading.{lengthField, headFault, nextAt, layoutFault, startOf, succOf, setsOf, rowAt, rowOf, sheetOf, graphFault, bytesFault, answer, readSheet}
+use Rattle.sheet_spec.specs.Examples.{exampleReference, exampleDevice, onlyZero, onlyOne, mayLoop, mustLoop, stopped}
+use Rattle.cases_samples.specs.Samples.{leadsToEnd, smallBytes, sixteenPairs, sixteenOthers, fourTriples, leadsBack, loopsOnBoth, sampleBytes, sampleOf, withNewNode, withCount, withRow, changedTo}
+
+-- the refusal of each of the sheets, 0 for none, and of what no number names
+unfoldable pub faults : List ℕ
+faults = map (λ w. sheetFault (sampleOf w)) (1 ∷ 2 ∷ 3 ∷ 4 ∷ 5 ∷ 6 ∷ 7 ∷ 8 ∷ 12 ∷ 13 ∷ 0 ∷ 14 ∷ [])
+
+-- the refusals of a sheet that is changed for 0, 3, 5, 6, 7 and 8
+unfoldable pub changedFaults : ℕ → List ℕ
+changedFaults w = map (λ m. sheetFault (changedTo (sampleOf w) m)) (0 ∷ 3 ∷ 5 ∷ 6 ∷ 7 ∷ 8 ∷ [])
+
+-- the sheets are accepted, and those that are changed get the refusal that they deserve
+pub samples-hold :
+    (faults ≡ 0 ∷ 0 ∷ 0 ∷ 0 ∷ 0 ∷ 0 ∷ 0 ∷ 0 ∷ 0 ∷ 0 ∷ 3 ∷ 3 ∷ [])
+    × (changedFaults 1 ≡ 0 ∷ 3 ∷ 5 ∷ 6 ∷ 7 ∷ 8 ∷ [])
+unfolding faults changedFaults changedTo withNewNode withCount withRow sampleOf sampleBytes smallBytes leadsToEnd sixteenPairs sixteenOthers fourTriples leadsBack loopsOnBoth exampleReference exampleDevice onlyZero onlyOne mayLoop mustLoop stopped readSheet answer bytesFault headFault lengthField layoutFault nextAt startOf succOf setsOf rowAt rowOf sheetOf graphFault rangesOk countOk countsOk successorOk rowSuccessorsOk successorsOk ascends noneInside setOk rowSetsOk setsOk blank unusedOk blanksOk reachedOk sheetFault successor acceptance initials step bit setOf has inside nearer leads all any upTo
+samples-hold = (refl, refl)

@@ -1,0 +1,82 @@
+-- For the programs of cases; nothing to believe.
+-- The sheets that the Run programs name: their bytes, and how a sheet is changed to deserve a refusal.
+use mathlib.Core.Bool.{cond}
+use mathlib.Core.List.{List, [], _∷_}
+use Prim.Native.Nat.{ℕ, _+_}
+use lib.Dec.{eqb, ltb}
+use lib.ListN.{set}
+use Rattle.sheet_spec.specs.declared.Row.{Row}
+use Rattle.sheet_spec.specs.declared.Sheet.{Sheet}
+use Rattle.sheet_spec.specs.Kept.{row}
+use Rattle.sheet_spec.specs.Reading.{readSheet}
+use Rattle.sheet_spec.specs.Examples.{exampleReference, exampleDevice, onlyZero, onlyOne, mayLoop, mustLoop, stopped}
+
+-- a sheet of two nodes and two events: event 0 leads to a node that has no successor
+unfoldable pub leadsToEnd : List ℕ
+leadsToEnd = 0 ∷ 0 ∷ 0 ∷ 13 ∷ 1 ∷ 2 ∷ 2 ∷ 1 ∷ 255 ∷ 1 ∷ 0 ∷ 1 ∷ 255 ∷ 255 ∷ 1 ∷ 0 ∷ 0 ∷ []
+
+-- the bytes of the small sheets; no other number has bytes
+unfoldable pub smallBytes : ℕ → List ℕ
+smallBytes which =
+    cond (eqb which 1) exampleReference
+    (cond (eqb which 2) exampleDevice
+    (cond (eqb which 3) onlyZero
+    (cond (eqb which 4) onlyOne
+    (cond (eqb which 5) mayLoop
+    (cond (eqb which 6) stopped
+    (cond (eqb which 7) mustLoop
+    (cond (eqb which 8) leadsToEnd [])))))))
+
+-- one node that loops on 12 events, with sixteen pairs of events as acceptances
+unfoldable pub sixteenPairs : List ℕ
+sixteenPairs = 0 ∷ 0 ∷ 0 ∷ 48 ∷ 1 ∷ 12 ∷ 1 ∷ 0 ∷ 0 ∷ 0 ∷ 0 ∷ 0 ∷ 0 ∷ 0 ∷ 0 ∷ 0 ∷ 0 ∷ 0 ∷ 0 ∷ 16 ∷ 0 ∷ 3 ∷ 0 ∷ 5 ∷ 0 ∷ 6 ∷ 0 ∷ 9 ∷ 0 ∷ 10 ∷ 0 ∷ 12 ∷ 0 ∷ 17 ∷ 0 ∷ 18 ∷ 0 ∷ 20 ∷ 0 ∷ 24 ∷ 0 ∷ 33 ∷ 0 ∷ 34 ∷ 0 ∷ 36 ∷ 0 ∷ 40 ∷ 0 ∷ 48 ∷ 0 ∷ 65 ∷ []
+
+-- one node that loops on 12 events, with sixteen other pairs of events as acceptances
+unfoldable pub sixteenOthers : List ℕ
+sixteenOthers = 0 ∷ 0 ∷ 0 ∷ 48 ∷ 1 ∷ 12 ∷ 1 ∷ 0 ∷ 0 ∷ 0 ∷ 0 ∷ 0 ∷ 0 ∷ 0 ∷ 0 ∷ 0 ∷ 0 ∷ 0 ∷ 0 ∷ 16 ∷ 0 ∷ 3 ∷ 0 ∷ 5 ∷ 0 ∷ 6 ∷ 0 ∷ 9 ∷ 0 ∷ 10 ∷ 0 ∷ 12 ∷ 1 ∷ 1 ∷ 1 ∷ 2 ∷ 1 ∷ 4 ∷ 1 ∷ 8 ∷ 2 ∷ 1 ∷ 2 ∷ 2 ∷ 4 ∷ 1 ∷ 4 ∷ 2 ∷ 8 ∷ 1 ∷ 12 ∷ 0 ∷ []
+
+-- one node that loops on 12 events, with four acceptances of three events each
+unfoldable pub fourTriples : List ℕ
+fourTriples = 0 ∷ 0 ∷ 0 ∷ 24 ∷ 1 ∷ 12 ∷ 1 ∷ 0 ∷ 0 ∷ 0 ∷ 0 ∷ 0 ∷ 0 ∷ 0 ∷ 0 ∷ 0 ∷ 0 ∷ 0 ∷ 0 ∷ 4 ∷ 0 ∷ 7 ∷ 0 ∷ 56 ∷ 1 ∷ 192 ∷ 14 ∷ 0 ∷ []
+
+-- two nodes and two events: node 0 loops on one, and the other leads to a node that leads back
+unfoldable pub leadsBack : List ℕ
+leadsBack = 0 ∷ 0 ∷ 0 ∷ 13 ∷ 1 ∷ 2 ∷ 2 ∷ 0 ∷ 1 ∷ 1 ∷ 0 ∷ 1 ∷ 0 ∷ 255 ∷ 1 ∷ 0 ∷ 1 ∷ []
+
+-- one node that loops on both of two events
+unfoldable pub loopsOnBoth : List ℕ
+loopsOnBoth = 0 ∷ 0 ∷ 0 ∷ 8 ∷ 1 ∷ 2 ∷ 1 ∷ 0 ∷ 0 ∷ 1 ∷ 0 ∷ 1 ∷ []
+
+-- the bytes of all sheets, the small ones among them
+unfoldable pub sampleBytes : ℕ → List ℕ
+sampleBytes which =
+    cond (eqb which 9) sixteenPairs
+    (cond (eqb which 10) sixteenOthers
+    (cond (eqb which 11) fourTriples
+    (cond (eqb which 12) leadsBack
+    (cond (eqb which 13) loopsOnBoth (smallBytes which)))))
+
+-- the sheet that a number names
+unfoldable pub sampleOf : ℕ → Sheet
+sampleOf which = readSheet (sampleBytes which) .sheet
+
+-- a sheet with a node more, a copy of node 0, where there is room
+unfoldable pub withNewNode : Sheet → Sheet
+withNewNode s = cond (ltb (s .n) 32) (record { rows = set (s .rows) (s .n) (row s 0); e = s .e; n = s .n + 1 }) s
+
+-- a row with another C
+unfoldable pub withCount : Row → ℕ → Row
+withCount r c = record { succ = r .succ; sets = r .sets; c = c }
+
+-- a sheet with another row v
+unfoldable pub withRow : Sheet → ℕ → Row → Sheet
+withRow s v r = record { rows = set (s .rows) v r; e = s .e; n = s .n }
+
+-- a sheet with the change that deserves a refusal; as it is for any other number
+unfoldable pub changedTo : Sheet → ℕ → Sheet
+changedTo s refusal =
+    cond (eqb refusal 3) (record { rows = s .rows; e = 13; n = s .n })
+    (cond (eqb refusal 5) (withRow s 0 (withCount (row s 0) 17))
+    (cond (eqb refusal 6) (withRow s 0 (record { succ = set (row s 0 .succ) 0 40; sets = row s 0 .sets; c = row s 0 .c }))
+    (cond (eqb refusal 7) (withRow s 31 (withCount (row s 31) 1))
+    (cond (eqb refusal 8) (withNewNode s) s))))

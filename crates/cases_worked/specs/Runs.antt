@@ -1,0 +1,80 @@
+-- A case beyond the table: a run that ends failed, as a term of the definition of a failed test.
+use mathlib.Core.Path.{refl}
+use mathlib.Core.Logic.{inl, inr, _≢_}
+use mathlib.Core.Bool.{false}
+use mathlib.Core.List.{[], _∷_}
+use Prim.Native.Nat.{ℕ, _<_}
+use native.Mathlib.Omega.{arith}
+use Rattle.base.specs.Range.{all, any}
+use Rattle.base.specs.Table.{upTo}
+use Rattle.base.specs.Gather.{gather, select}
+use Rattle.events.specs.Bit.{bit, setOf}
+use Rattle.events.specs.Sets.{has, inside, meets, meets-not}
+use Rattle.walks.specs.Reach.{nearer, leads}
+use Rattle.sheet_spec.specs.Kept.{successor, acceptance, acceptances, initials, mayStop, step}
+use Rattle.sheet_spec.specs.Rules.{rangesOk, countOk, countsOk, successorsOk, rowSuccessorsOk, successorOk, setsOk, rowSetsOk, setOk, ascends, noneInside, blank, unusedOk, blanksOk, reachedOk, sheetFault}
+use Rattle.sheet_spec.specs.Reading.{readSheet, answer, bytesFault, headFault, lengthField, layoutFault, nextAt, startOf, succOf, setsOf, rowAt, rowOf, sheetOf, graphFault}
+use Rattle.probes_spec.specs.Probes.{hits, isProbe, probes}
+use Rattle.tests_spec.specs.declared.Report.the-variants.{Event, Blocked}
+use Rattle.tests_spec.specs.Flags.{flag, flagOf}
+use Rattle.tests_spec.specs.Runs.{allEvents, outside, probesAt, chosen, offerOf, newRun, openFault, openOf, recordOk, eventFault, reportFault, movedBy, endedRun, answerOf, stepOf}
+use Rattle.verdicts_spec.specs.Verdicts.{CanReport, Failed, deviceAfter, EndsFailed, FailsTest}
+use Rattle.sheet_spec.specs.Examples.{exampleReference, exampleDevice, sheet}
+
+-- a number below 255 is a successor
+on : (x : ℕ) → x < 255 → x ≢ 255
+on x l e = omega arith
+
+-- event 0 is one of two events
+some : {A : Type 0} → A → (0 < 2) × A
+some a = (omega arith, a)
+
+-- the device of 01's example fails test 5: with choice number 1 it does event 0 five times, is then offered only event
+-- 1, and blocks
+pub example-fails : FailsTest false (sheet exampleReference) (sheet exampleDevice) 5
+unfolding sheet exampleReference exampleDevice readSheet answer bytesFault headFault lengthField layoutFault nextAt startOf succOf setsOf rowAt rowOf sheetOf graphFault rangesOk countOk countsOk successorsOk rowSuccessorsOk successorOk setsOk rowSetsOk setOk ascends noneInside blank unusedOk blanksOk reachedOk sheetFault successor acceptance acceptances initials mayStop bit has inside meets setOf nearer leads all any upTo hits isProbe gather select probes allEvents outside probesAt chosen flag flagOf offerOf newRun recordOk openFault openOf endedRun eventFault reportFault movedBy answerOf stepOf step CanReport Failed deviceAfter EndsFailed
+example-fails = (
+  1,
+  omega arith,
+  3,
+  refl,
+  (
+    Event 0 ∷ Event 0 ∷ Event 0 ∷ Event 0 ∷ Event 0 ∷ Blocked ∷ [],
+    (
+      (refl, some (on 1 (omega arith))),
+      inr (
+        3,
+        refl,
+        (
+          (refl, some (on 2 (omega arith))),
+          inr (
+            3,
+            refl,
+            (
+              (refl, some (on 0 (omega arith))),
+              inr (
+                3,
+                refl,
+                (
+                  (refl, some (on 1 (omega arith))),
+                  inr (
+                    3,
+                    refl,
+                    (
+                      (refl, some (on 2 (omega arith))),
+                      inr (
+                        2,
+                        refl,
+                        ((0, omega arith, meets-not 1 2 refl), inl (refl, tt)),
+                      ),
+                    ),
+                  ),
+                ),
+              ),
+            ),
+          ),
+        ),
+      ),
+    ),
+  ),
+)

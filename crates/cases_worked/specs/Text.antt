@@ -1,0 +1,51 @@
+-- The text of the program `compare` on 01's example, whole, and on a pair that names a refused probe after the empty
+-- trace.
+use mathlib.Core.Path.{_≡_, refl}
+use mathlib.Core.List.{List, [], _∷_, _++_, map}
+use Prim.Native.Nat.{ℕ}
+use Rattle.base.specs.Count.{count}
+use Rattle.base.specs.Range.{all, any, first}
+use Rattle.base.specs.Table.{upTo}
+use Rattle.base.specs.Gather.{gather, select}
+use Rattle.events.specs.Bit.{bit, setOf}
+use Rattle.events.specs.Sets.{has, inside, meets}
+use Rattle.walks.specs.Graph.{walk}
+use Rattle.walks.specs.Reach.{nearer, leads}
+use Rattle.walks.specs.Near.{meetsIn, distance, later, choice, leastFrom, leastTrace}
+use Rattle.walks.specs.Cleared.{cleared}
+use Rattle.walks.specs.Product.{code, pairNext, product}
+use Rattle.walks.specs.Pairs.{onCodes, pairDistance, pairTrace, pairCleared}
+use Rattle.sheet_spec.specs.Kept.{successor, acceptance, acceptances, initials, step}
+use Rattle.sheet_spec.specs.Rules.{rangesOk, countOk, countsOk, successorOk, rowSuccessorsOk, successorsOk, ascends, noneInside, setOk, rowSetsOk, setsOk, blank, unusedOk, blanksOk, reachedOk, sheetFault}
+use Rattle.sheet_spec.specs.Reading.{lengthField, headFault, nextAt, layoutFault, startOf, succOf, setsOf, rowAt, rowOf, sheetOf, graphFault, bytesFault, answer, readSheet}
+use Rattle.probes_spec.specs.Probes.{hits, isProbe, probes}
+use Rattle.probes_spec.specs.FirstMissed.{missing, orNext, firstMissing, firstMissed}
+use Rattle.refinement_spec.specs.ViolatingPairs.{strays, hasStray, firstStray, covers, hasRefusal, violates, violating}
+use Rattle.comparison_spec.specs.Comparison.{pairCount, nearest, nearestTrace, clearedOf, lastRow, refusalNamed, named, comparisonOf, compareFault, outcomeOf, traceAfter}
+use Rattle.text_spec.specs.Lines.{ascii, decimalIn, decimal, numberLine, sheetLine, eventList}
+use Rattle.text_spec.specs.Input.{cutInput}
+use Rattle.text_pair_spec.specs.Split.{firstEnd, firstSheet, secondSheet}
+use Rattle.text_pair_spec.specs.Program.{deviceLines, sheetsLines, inputLines, pairText}
+use Rattle.compare_lines_spec.specs.Lines.{violatesLine, traceLine, refusedProbeLine, outcomeLines}
+use Rattle.compare_lines_spec.specs.Program.{workList, traceList, comparedLines, compareText}
+use Rattle.sheet_spec.specs.Examples.{exampleReference, exampleDevice, mustLoop, stopped}
+
+-- the input of 01's example
+unfoldable pub exampleInput : List ℕ
+exampleInput = exampleReference ++ exampleDevice
+
+-- the output of 01's example
+unfoldable pub exampleText : List ℕ
+exampleText = ascii "reference 2 nodes 2 events\ndevice 3 nodes 2 events\nviolates after 5 cleared 5\ntrace 0 0 0 0 0\nrefused 2 by 1\n"
+
+-- inputs: 01's example, and a device that may stop where the reference may not
+unfoldable pub inputs : List (List ℕ)
+inputs = exampleInput ∷ (mustLoop ++ stopped) ∷ []
+
+-- what `compare` prints for each of the inputs
+unfoldable pub texts : List (List ℕ)
+texts = exampleText ∷ ascii "reference 1 nodes 1 events\ndevice 1 nodes 1 events\nviolates after 0 cleared 0\ntrace\nrefused 1 by 0\n" ∷ []
+
+pub texts-hold : map compareText inputs ≡ texts
+unfolding inputs texts exampleInput exampleReference exampleDevice exampleText mustLoop stopped compareText pairText cutInput inputLines firstSheet secondSheet firstEnd lengthField sheetsLines deviceLines comparedLines workList traceList outcomeLines numberLine sheetLine violatesLine eventList traceLine refusedProbeLine decimal decimalIn readSheet answer bytesFault headFault layoutFault nextAt startOf succOf setsOf rowAt rowOf sheetOf graphFault rangesOk countOk countsOk successorOk rowSuccessorsOk successorsOk ascends noneInside setOk rowSetsOk setsOk blank unusedOk blanksOk reachedOk sheetFault successor acceptance acceptances initials step bit setOf has inside meets nearer leads walk all any first upTo count outcomeOf traceAfter compareFault comparisonOf named refusalNamed lastRow clearedOf nearestTrace nearest pairCount pairDistance pairTrace pairCleared onCodes product pairNext code cleared meetsIn distance later choice leastFrom leastTrace strays hasStray firstStray covers hasRefusal violates violating hits isProbe gather select probes missing orNext firstMissing firstMissed
+texts-hold = refl

@@ -1,2 +1,0 @@
-pub mod Fails
-pub mod Turns

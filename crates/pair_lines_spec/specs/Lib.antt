@@ -1,5 +1,0 @@
-pub mod Program
-pub mod Opening
-pub mod ProgramLaws
-pub mod OpeningLaws
-pub mod Cases

@@ -1,0 +1,90 @@
+// The lines of the program `probe_list`: the probes of one node, or that it may stop. A function that puts a piece
+// takes the list and the place where the piece begins and answers the place after it.
+ghost use Prim.Native.Nat.{_<_};
+ghost use lib.ListN.{length};
+ghost use Rattle.text_spec.specs.Adds.{Adds, Holds};
+ghost use Rattle.text_sheet_spec.specs.Node.{placeWords, setList, probesLine, mayStopLine, deniedLine, nodeLine};
+ghost use Rattle.probe_list_lines.specs.Shapes.{foundLine};
+use probes_spec::Listed;
+use sheet_spec::Sheet;
+
+// Puts the set at place j of a list, with a blank before it.
+fn put_place(out: &mut [u8], at: usize, sets: &[u16], j: usize) -> usize
+    requires { ⌜ j < length (now sets) ⌝ }
+    ensures { λ r. ⌜ Adds (placeWords (now (sets .entry)) j) (now (out .entry)) at (now (out .exit)) r ⌝ }
+{
+    let x = sets[j];
+    let a = text::put(out, at, b" ");
+    text::put_set(out, a, x)
+}
+
+// Puts the sets of a list in order, a blank before each.
+fn put_sets(out: &mut [u8], at: usize, sets: &[u16]) -> usize
+    ensures { λ r. ⌜ Adds (setList (now (sets .entry))) (now (out .entry)) at (now (out .exit)) r ⌝ }
+{
+    let mut next = at;
+    for j in 0..sets.len() {
+        next = put_place(out, next, sets, j);
+    }
+    next
+}
+
+// Puts the line of a node with these probes.
+fn put_probes_line(out: &mut [u8], at: usize, node: u8, sets: &[u16]) -> usize
+    ensures { λ r. ⌜ Adds (probesLine node (now (sets .entry))) (now (out .entry)) at (now (out .exit)) r ⌝ }
+{
+    let a = text::put(out, at, b"node ");
+    let b = text::put_number(out, a, node as u16);
+    let c = text::put(out, b, b" probes");
+    let d = put_sets(out, c, sets);
+    text::put(out, d, b"\n")
+}
+
+// Puts the line of a node that may stop.
+fn put_stop_line(out: &mut [u8], at: usize, node: u8) -> usize
+    ensures { λ r. ⌜ Adds (mayStopLine node) (now (out .entry)) at (now (out .exit)) r ⌝ }
+{
+    let a = text::put(out, at, b"node ");
+    let b = text::put_number(out, a, node as u16);
+    text::put(out, b, b" may stop\n")
+}
+
+// Puts the line of a node whose probe call is refused.
+fn put_denied_line(out: &mut [u8], at: usize, node: u8, k: u8) -> usize
+    ensures { λ r. ⌜ Adds (deniedLine node k) (now (out .entry)) at (now (out .exit)) r ⌝ }
+{
+    text::put_numbers(
+        out,
+        at,
+        b"node ",
+        node as u16,
+        b" refused ",
+        k as u16,
+        b"\n",
+    )
+}
+
+// Puts the line of a node whose probes were found; a node without probes may stop.
+fn put_found(out: &mut [u8], at: usize, node: u8, sets: &[u16]) -> usize
+    ensures { λ r. ⌜ Adds (foundLine node (now (sets .entry))) (now (out .entry)) at (now (out .exit)) r ⌝ }
+{
+    if sets.len() == 0 {
+        return put_stop_line(out, at, node);
+    }
+    put_probes_line(out, at, node, sets)
+}
+
+// Puts the line of a node over the front of the list and answers where it ends; what has no room is left out.
+pub fn put_node(sheet: Sheet, node: u8, out: &mut [u8]) -> usize
+    ensures { λ r. ⌜ Holds (now (out .entry)) (nodeLine sheet node) (now (out .exit)) r ⌝ }
+{
+    let mut sets = [0u16; 4096];
+    let found = probes::list(sheet, node, &mut sets);
+    match found {
+        Listed::Count(m) => {
+            let n = m as usize;
+            put_found(out, 0, node, &sets[..n])
+        }
+        Listed::Denied(k) => put_denied_line(out, 0, node, k),
+    }
+}

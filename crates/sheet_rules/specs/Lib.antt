@@ -1,0 +1,4 @@
+pub mod ReachShapes
+pub mod RowShapes
+pub mod Targets
+pub mod SetShapes

@@ -1,0 +1,35 @@
+-- The tests are those of the definition.
+use native.Mathlib.Omega.{arith}
+use Rattle.tests.proofs.reports.Answers.{node-fits, node-32, blocked-traces, blocked-stops, blocked-refused}
+use Rattle.tests.proofs.reports.on_blocked.Statement.{statement}
+use Rattle.tests.proofs.reports.on_blocked.Tie as tie
+
+wide-requires : tie.Need-wide-requires
+wide-requires c κs = tt
+
+mul-row : tie.Need-mul-row
+mul-row c = omega (arith, node-32 _ _ (c .before .pre .0) (c .before .pre .1) (c .wide .ensures))
+
+array-copy-out-row : tie.Need-array-copy-out-row
+array-copy-out-row c = omega (arith, node-32 _ _ (c .before .pre .0) (c .before .pre .1) (c .wide .ensures))
+
+ended-requires : tie.Need-ended-requires
+ended-requires c κs = tt
+
+returns : tie.Need-returns
+returns c = blocked-traces _ _ (c .before .before .before .before .before .pre .0) (c .before .before .before .before .before .pre .1) (c .before .before .before .before .wide .ensures) (c .before .before .ended .ensures) (c .if1 .taken)
+
+may-stop-requires : tie.Need-may-stop-requires
+may-stop-requires c κs = tt
+
+returns-2 : tie.Need-returns-2
+returns-2 c = blocked-stops _ _ (c .before .before .before .before .before .before .before .pre .0) (c .before .before .before .before .before .before .before .pre .1) (c .before .before .before .before .before .before .wide .ensures) (c .before .before .before .before .ended .ensures) (c .before .before .if1 .left) (c .before .may-stop .ensures) (c .if2 .taken)
+
+offer-requires : tie.Need-offer-requires
+offer-requires c κs = node-fits _ _ (c .before .before .before .before .before .before .before .pre .0) (c .before .before .before .before .before .before .before .pre .1) (c .before .before .before .before .before .before .wide .ensures)
+
+returns-3 : tie.Need-returns-3
+returns-3 c = blocked-refused _ _ (c .before .before .before .before .before .before .before .before .pre .0) (c .before .before .before .before .before .before .before .before .pre .1) (c .before .before .before .before .before .before .before .wide .ensures) (c .before .before .before .before .before .ended .ensures) (c .before .before .before .if1 .left) (c .before .before .may-stop .ensures) (c .before .if2 .left) (c .offer .ensures)
+
+pub on-blocked-spec : {M : Type 1} → statement M
+on-blocked-spec = tie.close (tie.spec wide-requires mul-row array-copy-out-row ended-requires returns may-stop-requires returns-2 offer-requires returns-3)

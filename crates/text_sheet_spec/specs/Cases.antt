@@ -1,0 +1,76 @@
+-- Texts of `show`, one for each kind of line and each refusal; lines of `probe_list`.
+use mathlib.Core.Path.{_≡_, refl}
+use mathlib.Core.List.{List, [], _∷_, map}
+use Prim.Native.Nat.{ℕ}
+use Rattle.base.specs.Range.{all, any}
+use Rattle.base.specs.Table.{upTo}
+use Rattle.base.specs.Gather.{gather, select}
+use Rattle.events.specs.Bit.{bit, setOf}
+use Rattle.events.specs.Sets.{has, inside}
+use Rattle.walks.specs.Graph.{walk}
+use Rattle.walks.specs.Reach.{nearer, leads}
+use Rattle.sheet_spec.specs.Kept.{successor, acceptance, acceptances, initials, mayStop, step}
+use Rattle.sheet_spec.specs.Rules.{rangesOk, countOk, successorOk, rowSuccessorsOk, successorsOk, ascends, noneInside, setOk, rowSetsOk, setsOk, reachedOk}
+use Rattle.sheet_spec.specs.Reading.{lengthField, headFault, nextAt, layoutFault, startOf, succOf, setsOf, rowAt, rowOf, sheetOf, graphFault, bytesFault, answer, readSheet}
+use Rattle.text_spec.specs.Lines.{ascii, decimalIn, decimal, numberLine, sheetLine, eventList}
+use Rattle.text_spec.specs.Sets.{eventsIn, members, setWords}
+use Rattle.text_spec.specs.Input.{cutInput}
+use Rattle.text_spec.specs.Joined.{joined}
+use Rattle.text_sheet_spec.specs.Head.{refusalWords, refusedSheetLine, headLine}
+use Rattle.text_sheet_spec.specs.Show.{eventLine, successorLine, acceptsLine, acceptanceLine, restLines, rowLines, nodeLines, showLines, showText}
+use Rattle.text_sheet_spec.specs.Node.{placeWords, setList, probesLine, mayStopLine, deniedLine}
+
+-- three nodes with two events; node 2 may stop
+unfoldable pub threeNodes : List ℕ
+threeNodes =
+    0 ∷ 0 ∷ 0 ∷ 20 ∷ 1 ∷ 2 ∷ 3 ∷
+    1 ∷ 2 ∷ 2 ∷ 0 ∷ 1 ∷ 0 ∷ 2 ∷
+    0 ∷ 255 ∷ 1 ∷ 0 ∷ 1 ∷
+    255 ∷ 255 ∷ 1 ∷ 0 ∷ 0 ∷ []
+
+-- inputs: three nodes of which one may stop; no byte; version 2; 13 events; a byte too many; no acceptance; a successor
+-- 1 of one node; a set with an event that has no successor; a node that nothing leads to
+unfoldable pub inputs : List (List ℕ)
+inputs =
+    threeNodes
+    ∷ []
+    ∷ (0 ∷ 0 ∷ 0 ∷ 7 ∷ 2 ∷ 1 ∷ 1 ∷ 0 ∷ 1 ∷ 0 ∷ 1 ∷ [])
+    ∷ (0 ∷ 0 ∷ 0 ∷ 7 ∷ 1 ∷ 13 ∷ 1 ∷ 0 ∷ 1 ∷ 0 ∷ 1 ∷ [])
+    ∷ (0 ∷ 0 ∷ 0 ∷ 8 ∷ 1 ∷ 1 ∷ 1 ∷ 0 ∷ 1 ∷ 0 ∷ 1 ∷ 0 ∷ [])
+    ∷ (0 ∷ 0 ∷ 0 ∷ 5 ∷ 1 ∷ 1 ∷ 1 ∷ 0 ∷ 0 ∷ [])
+    ∷ (0 ∷ 0 ∷ 0 ∷ 7 ∷ 1 ∷ 1 ∷ 1 ∷ 1 ∷ 1 ∷ 0 ∷ 1 ∷ [])
+    ∷ (0 ∷ 0 ∷ 0 ∷ 7 ∷ 1 ∷ 1 ∷ 1 ∷ 255 ∷ 1 ∷ 0 ∷ 1 ∷ [])
+    ∷ (0 ∷ 0 ∷ 0 ∷ 11 ∷ 1 ∷ 1 ∷ 2 ∷ 0 ∷ 1 ∷ 0 ∷ 1 ∷ 0 ∷ 1 ∷ 0 ∷ 1 ∷ [])
+    ∷ []
+
+-- what `show` prints for each of the inputs
+unfoldable pub texts : List (List ℕ)
+texts =
+    ascii "sheet 3 nodes 2 events\nnode 0\nevent 0 to 1\nevent 1 to 2\naccepts 1 ( 0 )\naccepts 2 ( 1 )\nnode 1\nevent 0 to 0\naccepts 1 ( 0 )\nnode 2\nmay stop\n"
+    ∷ ascii "sheet refused 1 too short or its length field is wrong\n"
+    ∷ ascii "sheet refused 2 version is not 1\n"
+    ∷ ascii "sheet refused 3 events or nodes out of range\n"
+    ∷ ascii "sheet refused 4 the bytes end inside a node or some remain\n"
+    ∷ ascii "sheet refused 5 number of acceptances out of range\n"
+    ∷ ascii "sheet refused 6 a successor is no node\n"
+    ∷ ascii "sheet refused 7 a rule of acceptances is broken\n"
+    ∷ ascii "sheet refused 8 a node cannot be reached\n"
+    ∷ []
+
+-- one equation has the texts of all inputs
+pub texts-hold : map showText inputs ≡ texts
+unfolding inputs texts threeNodes showText cutInput showLines nodeLines rowLines restLines acceptanceLine acceptsLine successorLine eventLine headLine refusedSheetLine refusalWords joined numberLine sheetLine setWords members eventsIn select gather eventList decimal decimalIn readSheet answer bytesFault headFault lengthField layoutFault nextAt startOf succOf setsOf rowAt rowOf sheetOf graphFault rangesOk countOk successorOk rowSuccessorsOk successorsOk ascends noneInside setOk rowSetsOk setsOk reachedOk successor acceptance acceptances initials mayStop step bit setOf has inside nearer leads walk all any upTo
+texts-hold = refl
+
+-- the lines of `probe_list` for a list of probes, a node that may stop, and a refusal
+pub probes-hold : probesLine 0 (1 ∷ 2 ∷ 12 ∷ []) ≡ ascii "node 0 probes 1 ( 0 ) 2 ( 1 ) 12 ( 2 3 )\n"
+unfolding probesLine setList placeWords joined setWords members eventsIn select gather eventList decimal decimalIn has bit
+probes-hold = refl
+
+pub stop-holds : mayStopLine 31 ≡ ascii "node 31 may stop\n"
+unfolding mayStopLine decimal decimalIn
+stop-holds = refl
+
+pub denied-holds : deniedLine 255 9 ≡ ascii "node 255 refused 9\n"
+unfolding deniedLine decimal decimalIn
+denied-holds = refl

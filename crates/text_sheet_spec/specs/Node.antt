@@ -1,0 +1,44 @@
+-- The line that `probe_list` prints of one node.
+use mathlib.Core.Bool.{cond}
+use mathlib.Core.List.{List, _++_}
+use Prim.Native.Nat.{ℕ}
+use lib.Dec.{eqb}
+use lib.ListN.{length, getD, replicate}
+use Rattle.sheet_spec.specs.declared.Sheet.{Sheet}
+use Rattle.sheet_spec.specs.Kept.{row, mayStop}
+use Rattle.probes_spec.specs.Listing.{nodeProbes, listFault}
+use Rattle.text_spec.specs.Lines.{ascii, decimal, numbersText}
+use Rattle.text_spec.specs.Sets.{setWords}
+use Rattle.text_spec.specs.Joined.{joined}
+
+-- the list that is lent to the probe call: 4,096 places, which is enough for every node
+unfoldable pub probeSpace : List ℕ
+probeSpace = replicate 4096 0
+
+-- the set at place j of a list, with a blank before it
+unfoldable pub placeWords : List ℕ → ℕ → List ℕ
+placeWords sets j = ascii " " ++ setWords (getD sets j 0)
+
+-- the sets of a list in order, a blank before each
+unfoldable pub setList : List ℕ → List ℕ
+setList sets = joined (placeWords sets) (length sets)
+
+-- the line of a node with its probes: `node v probes x ( e ) x ( e )`
+unfoldable pub probesLine : ℕ → List ℕ → List ℕ
+probesLine v sets = ascii "node " ++ (decimal v ++ (ascii " probes" ++ (setList sets ++ ascii "\n")))
+
+-- the line of a node that may stop: `node v may stop`
+unfoldable pub mayStopLine : ℕ → List ℕ
+mayStopLine v = ascii "node " ++ (decimal v ++ ascii " may stop\n")
+
+-- the line of a refused probe call: `node v refused k`
+unfoldable pub deniedLine : ℕ → ℕ → List ℕ
+deniedLine v k = numbersText (ascii "node ") v (ascii " refused ") k (ascii "\n")
+
+-- the line of node v: its probes in order, or that it may stop; where the probe call is refused, the number of the
+-- refusal
+unfoldable pub nodeLine : Sheet → ℕ → List ℕ
+nodeLine s v =
+    cond (eqb (listFault s v probeSpace) 0)
+    (cond (mayStop (row s v)) (mayStopLine v) (probesLine v (nodeProbes s v)))
+    (deniedLine v (listFault s v probeSpace))

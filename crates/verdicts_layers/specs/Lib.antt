@@ -1,0 +1,2 @@
+pub mod ImageShapes
+pub mod LayerShapes
