@@ -1,11 +1,12 @@
--- The P cases of 01 as one table: each row is a call or a whole run, its answer is a list of numbers, and one equation
--- has them all. The rows `adding` are for 02, K5, the rows `lending` for K7. Sheets come as bytes, through the
--- definition of reading. The rows compute through the definitions that the contracts cite, the probe lists among them.
+-- The P cases of 01 as one table, in 01's order: each row is a call or a whole run, beside it stand the numbers that it
+-- answers, and one equation has them all. Comments that begin with 01 have the words of its case. The rows `adding` are
+-- for 02, K5, the rows `lending` for K7. Sheets come as bytes, through the definition of reading. The rows compute
+-- through the definitions that the contracts cite, the probe lists among them.
 use mathlib.Core.Path.{_≡_, refl}
 use mathlib.Core.Bool.{Bool, true, false}
 use mathlib.Core.List.{List, [], _∷_, _++_, map}
-use Prim.Native.Nat.{ℕ, _-_}
-use lib.ListN.{replicate}
+use Prim.Native.Nat.{ℕ, _+_, _-_, _*_}
+use lib.ListN.{length, replicate}
 use Rattle.base.specs.Range.{all, any, first}
 use Rattle.base.specs.Count.{count}
 use Rattle.base.specs.Table.{upTo}
@@ -18,12 +19,14 @@ use Rattle.walks.specs.Near.{meetsIn, distance, later, choice, leastFrom, least
 use Rattle.walks.specs.Cleared.{cleared}
 use Rattle.walks.specs.Product.{code, pairNext, product}
 use Rattle.walks.specs.Pairs.{onCodes, pairDistance, pairTrace, pairCleared}
+use Rattle.sheet_spec.specs.declared.Row.{Row}
 use Rattle.sheet_spec.specs.declared.Sheet.{Sheet}
 use Rattle.sheet_spec.specs.declared.ReadSheet.{ReadSheet}
 use Rattle.sheet_spec.specs.Kept.{successor, acceptance, acceptances, initials, mayStop, step}
 use Rattle.sheet_spec.specs.Rules.{rangesOk, countOk, countsOk, successorsOk, rowSuccessorsOk, successorOk, setsOk, rowSetsOk, setOk, ascends, noneInside, blank, unusedOk, blanksOk, reachedOk, sheetFault}
 use Rattle.sheet_spec.specs.Reading.{readSheet, answer, bytesFault, headFault, lengthField, layoutFault, nextAt, startOf, succOf, setsOf, rowAt, rowOf, sheetOf, graphFault}
 use Rattle.probes_spec.specs.Probes.{hits, isProbe, probes}
+use Rattle.probes_spec.specs.Listing.{nodeProbes, listFault, listedNumbers, listedOf, listAfter}
 use Rattle.probes_spec.specs.FirstMissed.{missing, orNext, firstMissing, firstMissed}
 use Rattle.refinement_spec.specs.ViolatingPairs.{strays, hasStray, firstStray, covers, hasRefusal, violates, violating}
 use Rattle.tests_spec.specs.declared.Run.{Run}
@@ -37,14 +40,14 @@ use Rattle.tests_spec.specs.Numbers.{Said, said}
 use Rattle.verdicts_spec.specs.Numbers.{judged}
 use Rattle.comparison_spec.specs.Comparison.{pairCount, nearest, nearestTrace, clearedOf, lastRow, refusalNamed, named, comparisonOf, compareFault, outcomeOf, traceAfter, workAfter}
 use Rattle.comparison_spec.specs.Numbers.{Compared, compared}
-use Rattle.sheet_spec.specs.Examples.{caseSheets, exampleReference, exampleDevice, onlyZero, onlyOne, mayLoop, mustLoop, stopped, sheet}
+use Rattle.sheet_spec.specs.Examples.{exampleReference, exampleDevice, onlyZero, onlyOne, mayLoop, mustLoop, stopped, sheet}
 
 -- a row of the table
 pub data Case : Type 0 where
   -- the bytes are read
   reading : List ℕ → Case
-  -- the probes of acceptances among three events
-  listing : List ℕ → Case
+  -- the probes of a node of a sheet are listed, in a lent list of so many places that hold 9
+  listing : List ℕ → ℕ → ℕ → Case
   -- a set with each of the twelve events added, a number for each event (02, K5)
   adding : ℕ → Case
   -- the verdict of a reference on a device for test k, trace-only or not
@@ -58,9 +61,27 @@ pub data Case : Type 0 where
   -- and what the work list then holds (02, K7)
   lending : List ℕ → List ℕ → ℕ → ℕ → Case
 
--- the numbers of a reading: the refusal, E and N
+-- sets below 256 as bytes, two for each
+unfoldable pub setBytes : List ℕ → List ℕ
+setBytes [] = []
+setBytes (x ∷ xs) = 0 ∷ x ∷ setBytes xs
+
+-- the bytes of a sheet with three events and one node, which loops on each of them and has these acceptances
+unfoldable pub accepting : List ℕ → List ℕ
+accepting sets = 0 ∷ 0 ∷ 0 ∷ (7 + 2 * length sets) ∷ 1 ∷ 3 ∷ 1 ∷ 0 ∷ 0 ∷ 0 ∷ length sets ∷ setBytes sets
+
+-- the numbers of rows, one row after the other: twelve successors, sixteen sets and C
+unfoldable pub rowNumbers : List Row → List ℕ
+rowNumbers [] = []
+rowNumbers (r ∷ rs) = r .succ ++ (r .sets ++ (r .c ∷ rowNumbers rs))
+
+-- the numbers of a reading: the refusal, E, N, and all 32 rows
 unfoldable pub readNumbers : ReadSheet → List ℕ
-readNumbers a = a .refusal ∷ a .sheet .e ∷ a .sheet .n ∷ []
+readNumbers a = a .refusal ∷ a .sheet .e ∷ a .sheet .n ∷ rowNumbers (a .sheet .rows)
+
+-- the numbers of a probe call: the refusal, how many probes there are, and what the lent list then holds
+unfoldable pub listNumbers : Sheet → ℕ → List ℕ → List ℕ
+listNumbers s v out = listedNumbers (listedOf s v out) .0 ∷ listedNumbers (listedOf s v out) .1 ∷ listAfter s v out
 
 -- the numbers of an answer: the refusal, the kind and the value
 unfoldable pub numbers : Said → List ℕ
@@ -90,7 +111,7 @@ trace = replicate 8 9
 -- what a row answers
 unfoldable pub numbersOf : Case → List ℕ
 numbersOf (reading b) = readNumbers (readSheet b)
-numbersOf (listing l) = probes l 3
+numbersOf (listing b v places) = listNumbers (sheet b) v (replicate places 9)
 numbersOf (adding x) = upTo (insert x) 12
 numbersOf (verdict P Q k traceOnly) = numbers (judged (verdictOf traceOnly (sheet P) (sheet Q) k))
 numbersOf (running P k h traceOnly reports) = answersOf (sheet P) (openOf traceOnly (sheet P) k h) reports
@@ -98,154 +119,213 @@ numbersOf (comparing P Q traceOnly) = comparedNumbers (compared (outcomeOf trace
 numbersOf (lending P Q words places) =
     compareFault (sheet P) (sheet Q) (replicate words 7) (replicate places 9) ∷ workAfter (sheet P) (sheet Q) (replicate words 7) (replicate places 9)
 
--- the rows of the table
-unfoldable pub table : List Case
-table =
-    reading exampleReference ∷ reading exampleDevice ∷ reading onlyZero ∷ reading onlyOne ∷ reading mayLoop ∷ reading mustLoop ∷ reading stopped
-    ∷ listing (3 ∷ [])
-    ∷ listing (3 ∷ 6 ∷ [])
-    ∷ listing (1 ∷ 2 ∷ [])
-    ∷ listing (3 ∷ 5 ∷ 6 ∷ [])
-    ∷ listing (0 ∷ [])
-    ∷ listing (5 ∷ 6 ∷ [])
-    ∷ listing (1 ∷ [])
-    ∷ listing (1 ∷ 6 ∷ [])
-    ∷ listing (6 ∷ [])
-    ∷ adding 0
-    ∷ adding 65535
-    ∷ adding 1365
-    ∷ verdict exampleReference exampleDevice 0 false
-    ∷ verdict exampleReference exampleDevice 1 false
-    ∷ verdict exampleReference exampleDevice 2 false
-    ∷ verdict exampleReference exampleDevice 3 false
-    ∷ verdict exampleReference exampleDevice 4 false
-    ∷ verdict exampleReference exampleDevice 5 false
-    ∷ verdict exampleReference exampleDevice 6 false
-    ∷ verdict exampleReference exampleDevice 5 true
-    ∷ verdict exampleReference exampleDevice 1024 false
-    ∷ verdict onlyZero onlyOne 0 false
-    ∷ verdict onlyZero onlyOne 3 true
-    ∷ verdict mayLoop stopped 0 false
-    ∷ verdict mayLoop stopped 1 false
-    ∷ verdict mustLoop stopped 0 false
-    ∷ verdict mustLoop stopped 1 false
-    ∷ verdict mustLoop stopped 0 true
-    ∷ verdict exampleReference stopped 0 false
-    ∷ running exampleReference 5 1 false (Event 0 ∷ Event 0 ∷ Event 0 ∷ Event 0 ∷ Event 0 ∷ Blocked ∷ Blocked ∷ [])
-    ∷ running exampleReference 5 0 false (Event 0 ∷ Event 1 ∷ Event 0 ∷ Event 1 ∷ Event 2 ∷ Event 0 ∷ Event 1 ∷ Event 0 ∷ [])
-    ∷ running onlyZero 0 0 false (Event 1 ∷ [])
-    ∷ running onlyZero 2 0 true (Event 0 ∷ Event 0 ∷ Event 0 ∷ [])
-    ∷ running onlyZero 2 0 true (Event 0 ∷ Blocked ∷ [])
-    ∷ running onlyZero 2 0 true (Event 0 ∷ Event 1 ∷ [])
-    ∷ running mayLoop 1 7 false (Event 0 ∷ Event 0 ∷ Blocked ∷ [])
-    ∷ running mayLoop 1024 0 false []
-    ∷ comparing exampleReference exampleDevice false
-    ∷ comparing exampleReference exampleDevice true
-    ∷ comparing onlyZero onlyOne false
-    ∷ comparing onlyZero onlyOne true
-    ∷ comparing mayLoop stopped false
-    ∷ comparing mustLoop stopped false
-    ∷ comparing mustLoop stopped true
-    ∷ comparing exampleReference stopped false
-    ∷ lending exampleReference exampleDevice 12 5
-    ∷ lending exampleReference exampleDevice 11 5
-    ∷ lending exampleReference exampleDevice 13 5
-    ∷ lending exampleReference exampleDevice 17 5
-    ∷ lending exampleReference exampleDevice 18 5
-    ∷ lending exampleReference exampleDevice 12 4
-    ∷ lending exampleReference exampleDevice 11 4
-    ∷ lending exampleReference exampleDevice 0 0
-    ∷ lending exampleReference stopped 0 0
-    ∷ lending onlyZero onlyOne 2 0
-    ∷ lending onlyZero onlyOne 1 0
-    -- any case sheet against itself refines (`outcome-self` says so of every accepted sheet)
-    ∷ map (λ b. comparing b b false) caseSheets
+-- numbers, and a filler behind them up to a length
+unfoldable pub filled : ℕ → ℕ → List ℕ → List ℕ
+filled size filler l = l ++ replicate (size - length l) filler
 
--- what a row of a comparison answers: its numbers, the trace list, and the work list with its first words 0
+-- the numbers of a kept node with these successors and these sets: unused successors are 255, unused sets 0, then C
+unfoldable pub keptNode : List ℕ → List ℕ → List ℕ
+keptNode succ sets = filled 12 255 succ ++ (filled 16 0 sets ++ (length sets ∷ []))
+
+-- lists, one after the other
+unfoldable pub joined : List (List ℕ) → List ℕ
+joined [] = []
+joined (l ∷ ls) = l ++ joined ls
+
+-- what an accepted reading answers: no refusal, E, N, the nodes in use, and unused nodes up to 32
+unfoldable pub kept : ℕ → ℕ → List (List ℕ) → List ℕ
+kept e n nodes = 0 ∷ e ∷ n ∷ (joined nodes ++ joined (replicate (32 - length nodes) (keptNode [] [])))
+
+-- what a refused reading answers: the refusal, then 0 for E, N and the 29 numbers of each of 32 rows
+unfoldable pub unread : ℕ → List ℕ
+unread refusal = refusal ∷ replicate (2 + 32 * 29) 0
+
+-- what a row of a comparison answers: its numbers, the trace list with this trace at its front, and the work list with
+-- so many words that are 0; the rest of both lists is untouched
 unfoldable pub lists : List ℕ → List ℕ → ℕ → List ℕ
-lists numbers traced zeros = numbers ++ (traced ++ (replicate zeros 0 ++ replicate (28 - zeros) 7))
+lists numbers traced zeros = numbers ++ (filled 8 9 traced ++ filled 28 7 (replicate zeros 0))
 
 -- what a row of a lent list answers: a refusal, and a work list with so many words that are 0 and then so many as they
 -- were
 unfoldable pub lent : ℕ → ℕ → ℕ → List ℕ
 lent refusal zeros left = refusal ∷ (replicate zeros 0 ++ replicate left 7)
 
--- what the rows of the table answer
-unfoldable pub answers : List (List ℕ)
-answers =
-    (0 ∷ 2 ∷ 2 ∷ [])
-    ∷ (0 ∷ 2 ∷ 3 ∷ [])
-    ∷ (0 ∷ 2 ∷ 1 ∷ [])
-    ∷ (0 ∷ 2 ∷ 1 ∷ [])
-    ∷ (0 ∷ 1 ∷ 1 ∷ [])
-    ∷ (0 ∷ 1 ∷ 1 ∷ [])
-    ∷ (0 ∷ 1 ∷ 1 ∷ [])
-    ∷ (1 ∷ 2 ∷ [])
-    ∷ (2 ∷ 5 ∷ [])
-    ∷ (3 ∷ [])
-    ∷ (3 ∷ 5 ∷ 6 ∷ [])
-    ∷ []
-    ∷ (3 ∷ 4 ∷ [])
-    ∷ (1 ∷ [])
-    ∷ (3 ∷ 5 ∷ [])
-    ∷ (2 ∷ 4 ∷ [])
-    ∷ (1 ∷ 2 ∷ 4 ∷ 8 ∷ 16 ∷ 32 ∷ 64 ∷ 128 ∷ 256 ∷ 512 ∷ 1024 ∷ 2048 ∷ [])
-    ∷ (65535 ∷ 65535 ∷ 65535 ∷ 65535 ∷ 65535 ∷ 65535 ∷ 65535 ∷ 65535 ∷ 65535 ∷ 65535 ∷ 65535 ∷ 65535 ∷ [])
-    ∷ (1365 ∷ 1367 ∷ 1365 ∷ 1373 ∷ 1365 ∷ 1397 ∷ 1365 ∷ 1493 ∷ 1365 ∷ 1877 ∷ 1365 ∷ 3413 ∷ [])
-    ∷ (0 ∷ 1 ∷ 0 ∷ [])
-    ∷ (0 ∷ 1 ∷ 0 ∷ [])
-    ∷ (0 ∷ 1 ∷ 0 ∷ [])
-    ∷ (0 ∷ 1 ∷ 0 ∷ [])
-    ∷ (0 ∷ 1 ∷ 0 ∷ [])
-    ∷ (0 ∷ 2 ∷ 0 ∷ [])
-    ∷ (0 ∷ 1 ∷ 0 ∷ [])
-    ∷ (0 ∷ 1 ∷ 0 ∷ [])
-    ∷ (14 ∷ 0 ∷ 0 ∷ [])
-    ∷ (0 ∷ 2 ∷ 0 ∷ [])
-    ∷ (0 ∷ 2 ∷ 0 ∷ [])
-    ∷ (0 ∷ 1 ∷ 0 ∷ [])
-    ∷ (0 ∷ 1 ∷ 0 ∷ [])
-    ∷ (0 ∷ 2 ∷ 0 ∷ [])
-    ∷ (0 ∷ 2 ∷ 0 ∷ [])
-    ∷ (0 ∷ 1 ∷ 0 ∷ [])
-    ∷ (11 ∷ 0 ∷ 0 ∷ [])
-    ∷ (0 ∷ 1 ∷ 3 ∷ 0 ∷ 1 ∷ 3 ∷ 0 ∷ 1 ∷ 3 ∷ 0 ∷ 1 ∷ 3 ∷ 0 ∷ 1 ∷ 3 ∷ 0 ∷ 1 ∷ 2 ∷ 0 ∷ 3 ∷ 2 ∷ 16 ∷ 0 ∷ 0 ∷ 5 ∷ 1 ∷ 0 ∷ 1 ∷ 1 ∷ 5 ∷ [])
-    ∷ (0 ∷ 1 ∷ 3 ∷ 0 ∷ 1 ∷ 3 ∷ 0 ∷ 1 ∷ 3 ∷ 0 ∷ 1 ∷ 3 ∷ 0 ∷ 1 ∷ 3 ∷ 15 ∷ 0 ∷ 0 ∷ 0 ∷ 1 ∷ 1 ∷ 17 ∷ 0 ∷ 0 ∷ 0 ∷ 4 ∷ 0 ∷ 5 ∷ 0 ∷ 0 ∷ 1 ∷ 1 ∷ 5 ∷ [])
-    ∷ (0 ∷ 1 ∷ 3 ∷ 0 ∷ 2 ∷ 1 ∷ 0 ∷ 0 ∷ 0 ∷ 1 ∷ 0 ∷ 0 ∷ [])
-    ∷ (0 ∷ 1 ∷ 3 ∷ 0 ∷ 1 ∷ 3 ∷ 0 ∷ 1 ∷ 3 ∷ 0 ∷ 4 ∷ 0 ∷ 2 ∷ 0 ∷ 1 ∷ 1 ∷ 0 ∷ 2 ∷ [])
-    ∷ (0 ∷ 1 ∷ 3 ∷ 0 ∷ 1 ∷ 3 ∷ 0 ∷ 4 ∷ 0 ∷ 2 ∷ 0 ∷ 1 ∷ 1 ∷ 0 ∷ 1 ∷ [])
-    ∷ (0 ∷ 1 ∷ 3 ∷ 0 ∷ 1 ∷ 3 ∷ 0 ∷ 2 ∷ 1 ∷ 2 ∷ 0 ∷ 1 ∷ 1 ∷ 0 ∷ 1 ∷ [])
-    ∷ (0 ∷ 1 ∷ 1 ∷ 0 ∷ 1 ∷ 0 ∷ 17 ∷ 0 ∷ 0 ∷ 0 ∷ 4 ∷ 0 ∷ 1 ∷ 7 ∷ 0 ∷ 1 ∷ 0 ∷ 1 ∷ [])
-    ∷ (14 ∷ 0 ∷ 0 ∷ 0 ∷ 0 ∷ 0 ∷ 0 ∷ 0 ∷ 0 ∷ [])
-    ∷ lists (0 ∷ 3 ∷ 5 ∷ 5 ∷ 0 ∷ 2 ∷ 1 ∷ []) (0 ∷ 0 ∷ 0 ∷ 0 ∷ 0 ∷ 9 ∷ 9 ∷ 9 ∷ []) 12
-    ∷ lists (0 ∷ 1 ∷ 0 ∷ 6 ∷ 0 ∷ 0 ∷ 0 ∷ []) (9 ∷ 9 ∷ 9 ∷ 9 ∷ 9 ∷ 9 ∷ 9 ∷ 9 ∷ []) 12
-    ∷ lists (0 ∷ 2 ∷ 0 ∷ 0 ∷ 1 ∷ 0 ∷ 0 ∷ []) (9 ∷ 9 ∷ 9 ∷ 9 ∷ 9 ∷ 9 ∷ 9 ∷ 9 ∷ []) 2
-    ∷ lists (0 ∷ 2 ∷ 0 ∷ 0 ∷ 1 ∷ 0 ∷ 0 ∷ []) (9 ∷ 9 ∷ 9 ∷ 9 ∷ 9 ∷ 9 ∷ 9 ∷ 9 ∷ []) 2
-    ∷ lists (0 ∷ 1 ∷ 0 ∷ 1 ∷ 0 ∷ 0 ∷ 0 ∷ []) (9 ∷ 9 ∷ 9 ∷ 9 ∷ 9 ∷ 9 ∷ 9 ∷ 9 ∷ []) 2
-    ∷ lists (0 ∷ 3 ∷ 0 ∷ 0 ∷ 0 ∷ 1 ∷ 0 ∷ []) (9 ∷ 9 ∷ 9 ∷ 9 ∷ 9 ∷ 9 ∷ 9 ∷ 9 ∷ []) 2
-    ∷ lists (0 ∷ 1 ∷ 0 ∷ 1 ∷ 0 ∷ 0 ∷ 0 ∷ []) (9 ∷ 9 ∷ 9 ∷ 9 ∷ 9 ∷ 9 ∷ 9 ∷ 9 ∷ []) 2
-    ∷ lists (11 ∷ 0 ∷ 0 ∷ 0 ∷ 0 ∷ 0 ∷ 0 ∷ []) (9 ∷ 9 ∷ 9 ∷ 9 ∷ 9 ∷ 9 ∷ 9 ∷ 9 ∷ []) 0
-    ∷ lent 0 12 0
-    ∷ lent 12 0 11
-    ∷ lent 0 12 1
-    ∷ lent 0 12 5
-    ∷ lent 0 12 6
-    ∷ lent 13 0 12
-    ∷ lent 12 0 11
-    ∷ lent 12 0 0
-    ∷ lent 11 0 0
-    ∷ lent 0 2 0
-    ∷ lent 12 0 1
-    ∷ lists (0 ∷ 1 ∷ 0 ∷ 2 ∷ 0 ∷ 0 ∷ 0 ∷ []) (9 ∷ 9 ∷ 9 ∷ 9 ∷ 9 ∷ 9 ∷ 9 ∷ 9 ∷ []) 8
-    ∷ lists (0 ∷ 1 ∷ 0 ∷ 3 ∷ 0 ∷ 0 ∷ 0 ∷ []) (9 ∷ 9 ∷ 9 ∷ 9 ∷ 9 ∷ 9 ∷ 9 ∷ 9 ∷ []) 18
-    ∷ lists (0 ∷ 1 ∷ 0 ∷ 1 ∷ 0 ∷ 0 ∷ 0 ∷ []) (9 ∷ 9 ∷ 9 ∷ 9 ∷ 9 ∷ 9 ∷ 9 ∷ 9 ∷ []) 2
-    ∷ lists (0 ∷ 1 ∷ 0 ∷ 1 ∷ 0 ∷ 0 ∷ 0 ∷ []) (9 ∷ 9 ∷ 9 ∷ 9 ∷ 9 ∷ 9 ∷ 9 ∷ 9 ∷ []) 2
-    ∷ lists (0 ∷ 1 ∷ 0 ∷ 1 ∷ 0 ∷ 0 ∷ 0 ∷ []) (9 ∷ 9 ∷ 9 ∷ 9 ∷ 9 ∷ 9 ∷ 9 ∷ 9 ∷ []) 2
-    ∷ lists (0 ∷ 1 ∷ 0 ∷ 1 ∷ 0 ∷ 0 ∷ 0 ∷ []) (9 ∷ 9 ∷ 9 ∷ 9 ∷ 9 ∷ 9 ∷ 9 ∷ 9 ∷ []) 2
-    ∷ lists (0 ∷ 1 ∷ 0 ∷ 1 ∷ 0 ∷ 0 ∷ 0 ∷ []) (9 ∷ 9 ∷ 9 ∷ 9 ∷ 9 ∷ 9 ∷ 9 ∷ 9 ∷ []) 2
+-- the rows, each beside its answer
+unfoldable pub table : List (Case × List ℕ)
+table =
+    -- the reference of 01's example: two nodes, two events
+    (reading exampleReference, kept 2 2 (keptNode (1 ∷ 1 ∷ []) (1 ∷ 2 ∷ []) ∷ keptNode (0 ∷ 0 ∷ []) (3 ∷ []) ∷ []))
+    -- the device of 01's example: three nodes, two events
+    ∷ (
+      reading exampleDevice,
+      kept 2 3 (keptNode (1 ∷ 1 ∷ []) (3 ∷ []) ∷ keptNode (2 ∷ 2 ∷ []) (3 ∷ []) ∷ keptNode (0 ∷ 255 ∷ []) (1 ∷ []) ∷ []),
+    )
+    -- one node that loops on event 0 alone, of two
+    ∷ (reading onlyZero, kept 2 1 (keptNode (0 ∷ 255 ∷ []) (1 ∷ []) ∷ []))
+    -- one node that loops on event 1 alone, of two
+    ∷ (reading onlyOne, kept 2 1 (keptNode (255 ∷ 0 ∷ []) (2 ∷ []) ∷ []))
+    -- one node that loops on its one event, with acceptance 0
+    ∷ (reading mayLoop, kept 1 1 (keptNode (0 ∷ []) (0 ∷ []) ∷ []))
+    -- one node that loops on its one event, with acceptance 1
+    ∷ (reading mustLoop, kept 1 1 (keptNode (0 ∷ []) (1 ∷ []) ∷ []))
+    -- one node without successors, with acceptance 0
+    ∷ (reading stopped, kept 1 1 (keptNode (255 ∷ []) (0 ∷ []) ∷ []))
+    -- a sheet of the probe rows: one node that loops on three events, with acceptances 3, 5, 6
+    ∷ (reading (accepting (3 ∷ 5 ∷ 6 ∷ [])), kept 3 1 (keptNode (0 ∷ 0 ∷ 0 ∷ []) (3 ∷ 5 ∷ 6 ∷ []) ∷ []))
+    -- sets that do not ascend break a set rule, 7; any other part of a refusal is 0
+    ∷ (reading (accepting (6 ∷ 3 ∷ [])), unread 7)
+    -- 01: acceptances 3 give probes 1, 2 (no refusal, their number, the probes, and three places that are untouched)
+    ∷ (listing (accepting (3 ∷ [])) 0 5, 0 ∷ 2 ∷ 1 ∷ 2 ∷ 9 ∷ 9 ∷ 9 ∷ [])
+    -- 01: acceptances 3, 6 give probes 2, 5
+    ∷ (listing (accepting (3 ∷ 6 ∷ [])) 0 5, 0 ∷ 2 ∷ 2 ∷ 5 ∷ 9 ∷ 9 ∷ 9 ∷ [])
+    -- 01: acceptances 1, 2 give probes 3
+    ∷ (listing (accepting (1 ∷ 2 ∷ [])) 0 5, 0 ∷ 1 ∷ 3 ∷ 9 ∷ 9 ∷ 9 ∷ 9 ∷ [])
+    -- 01: acceptances 3, 5, 6 give probes 3, 5, 6
+    ∷ (listing (accepting (3 ∷ 5 ∷ 6 ∷ [])) 0 5, 0 ∷ 3 ∷ 3 ∷ 5 ∷ 6 ∷ 9 ∷ 9 ∷ [])
+    -- 01: acceptances 0 give no probes
+    ∷ (listing (accepting (0 ∷ [])) 0 5, 0 ∷ 0 ∷ 9 ∷ 9 ∷ 9 ∷ 9 ∷ 9 ∷ [])
+    -- 01: acceptances 5, 6 give probes 3, 4
+    ∷ (listing (accepting (5 ∷ 6 ∷ [])) 0 5, 0 ∷ 2 ∷ 3 ∷ 4 ∷ 9 ∷ 9 ∷ 9 ∷ [])
+    -- acceptances 1 give probes 1
+    ∷ (listing (accepting (1 ∷ [])) 0 5, 0 ∷ 1 ∷ 1 ∷ 9 ∷ 9 ∷ 9 ∷ 9 ∷ [])
+    -- acceptances 1, 6 give probes 3, 5
+    ∷ (listing (accepting (1 ∷ 6 ∷ [])) 0 5, 0 ∷ 2 ∷ 3 ∷ 5 ∷ 9 ∷ 9 ∷ 9 ∷ [])
+    -- acceptances 6 give probes 2, 4
+    ∷ (listing (accepting (6 ∷ [])) 0 5, 0 ∷ 2 ∷ 2 ∷ 4 ∷ 9 ∷ 9 ∷ 9 ∷ [])
+    -- a probe list just as long as the probes is filled
+    ∷ (listing (accepting (3 ∷ 6 ∷ [])) 0 2, 0 ∷ 2 ∷ 2 ∷ 5 ∷ [])
+    -- a probe list that is one place short is refused with 10 and untouched
+    ∷ (listing (accepting (3 ∷ 6 ∷ [])) 0 1, 10 ∷ 0 ∷ 9 ∷ [])
+    -- the probes of a node that is not below N are refused with 9, and the list is untouched
+    ∷ (listing (accepting (3 ∷ 6 ∷ [])) 1 5, 9 ∷ 0 ∷ 9 ∷ 9 ∷ 9 ∷ 9 ∷ 9 ∷ [])
+    -- node 1 of 01's reference has acceptances 3 of two events: probes 1, 2
+    ∷ (listing exampleReference 1 5, 0 ∷ 2 ∷ 1 ∷ 2 ∷ 9 ∷ 9 ∷ 9 ∷ [])
+    -- 01: the pair above (01's example) passes tests 0 to 4
+    ∷ (verdict exampleReference exampleDevice 0 false, 0 ∷ 1 ∷ 0 ∷ [])
+    ∷ (verdict exampleReference exampleDevice 1 false, 0 ∷ 1 ∷ 0 ∷ [])
+    ∷ (verdict exampleReference exampleDevice 2 false, 0 ∷ 1 ∷ 0 ∷ [])
+    ∷ (verdict exampleReference exampleDevice 3 false, 0 ∷ 1 ∷ 0 ∷ [])
+    ∷ (verdict exampleReference exampleDevice 4 false, 0 ∷ 1 ∷ 0 ∷ [])
+    -- 01: the pair above (01's example) fails 5
+    ∷ (verdict exampleReference exampleDevice 5 false, 0 ∷ 2 ∷ 0 ∷ [])
+    -- 01: the pair above (01's example) passes 6
+    ∷ (verdict exampleReference exampleDevice 6 false, 0 ∷ 1 ∷ 0 ∷ [])
+    -- the pair of 01's example passes the trace-only test 5: its refusal is no stray
+    ∷ (verdict exampleReference exampleDevice 5 true, 0 ∷ 1 ∷ 0 ∷ [])
+    -- a verdict for k above 1,023 is refused with 14
+    ∷ (verdict exampleReference exampleDevice 1024 false, 14 ∷ 0 ∷ 0 ∷ [])
+    -- 01, the output for its example: violates after 5, cleared 5, trace 0 0 0 0 0, refused 2 by 1
+    ∷ (
+      comparing exampleReference exampleDevice false,
+      lists (0 ∷ 3 ∷ 5 ∷ 5 ∷ 0 ∷ 2 ∷ 1 ∷ []) (0 ∷ 0 ∷ 0 ∷ 0 ∷ 0 ∷ []) 12,
+    )
+    -- by traces alone the device of 01's example refines the reference, cleared 6
+    ∷ (comparing exampleReference exampleDevice true, lists (0 ∷ 1 ∷ 0 ∷ 6 ∷ 0 ∷ 0 ∷ 0 ∷ []) [] 12)
+    -- 01: one-node sheets, reference only event 0, device only event 1 of two, each looping: d = 0, stray 1
+    ∷ (comparing onlyZero onlyOne false, lists (0 ∷ 2 ∷ 0 ∷ 0 ∷ 1 ∷ 0 ∷ 0 ∷ []) [] 2)
+    -- one-node sheets, reference only event 0, device only event 1, by traces alone: d = 0, stray 1
+    ∷ (comparing onlyZero onlyOne true, lists (0 ∷ 2 ∷ 0 ∷ 0 ∷ 1 ∷ 0 ∷ 0 ∷ []) [] 2)
+    -- the device that does only event 1 fails test 0 of the reference that does only event 0
+    ∷ (verdict onlyZero onlyOne 0 false, 0 ∷ 2 ∷ 0 ∷ [])
+    -- the device that does only event 1 fails the trace-only test 3 of the reference that does only event 0
+    ∷ (verdict onlyZero onlyOne 3 true, 0 ∷ 2 ∷ 0 ∷ [])
+    -- 01: a reference of one node looping on 0 with acceptance 0, against a device of one node without successors,
+    -- acceptance 0, E 1 in both: refines, cleared 1
+    ∷ (comparing mayLoop stopped false, lists (0 ∷ 1 ∷ 0 ∷ 1 ∷ 0 ∷ 0 ∷ 0 ∷ []) [] 2)
+    -- the stopped node passes tests 0 and 1 of the looping reference with acceptance 0, which may stop
+    ∷ (verdict mayLoop stopped 0 false, 0 ∷ 1 ∷ 0 ∷ [])
+    ∷ (verdict mayLoop stopped 1 false, 0 ∷ 1 ∷ 0 ∷ [])
+    -- 01: reference looping on 0 with acceptance 1 against that stopped node: d = 0, refused 1 by 0
+    ∷ (comparing mustLoop stopped false, lists (0 ∷ 3 ∷ 0 ∷ 0 ∷ 0 ∷ 1 ∷ 0 ∷ []) [] 2)
+    -- by traces alone the stopped node refines the looping reference with acceptance 1, cleared 1
+    ∷ (comparing mustLoop stopped true, lists (0 ∷ 1 ∷ 0 ∷ 1 ∷ 0 ∷ 0 ∷ 0 ∷ []) [] 2)
+    -- the stopped node fails tests 0 and 1 of the looping reference with acceptance 1
+    ∷ (verdict mustLoop stopped 0 false, 0 ∷ 2 ∷ 0 ∷ [])
+    ∷ (verdict mustLoop stopped 1 false, 0 ∷ 2 ∷ 0 ∷ [])
+    -- the stopped node passes the trace-only test 0 of the looping reference with acceptance 1
+    ∷ (verdict mustLoop stopped 0 true, 0 ∷ 1 ∷ 0 ∷ [])
+    -- 01: any case sheet against itself refines (`outcome-self` says so of every accepted sheet)
+    ∷ (comparing exampleReference exampleReference false, lists (0 ∷ 1 ∷ 0 ∷ 2 ∷ 0 ∷ 0 ∷ 0 ∷ []) [] 8)
+    ∷ (comparing exampleDevice exampleDevice false, lists (0 ∷ 1 ∷ 0 ∷ 3 ∷ 0 ∷ 0 ∷ 0 ∷ []) [] 18)
+    ∷ (comparing onlyZero onlyZero false, lists (0 ∷ 1 ∷ 0 ∷ 1 ∷ 0 ∷ 0 ∷ 0 ∷ []) [] 2)
+    ∷ (comparing onlyOne onlyOne false, lists (0 ∷ 1 ∷ 0 ∷ 1 ∷ 0 ∷ 0 ∷ 0 ∷ []) [] 2)
+    ∷ (comparing mayLoop mayLoop false, lists (0 ∷ 1 ∷ 0 ∷ 1 ∷ 0 ∷ 0 ∷ 0 ∷ []) [] 2)
+    ∷ (comparing mustLoop mustLoop false, lists (0 ∷ 1 ∷ 0 ∷ 1 ∷ 0 ∷ 0 ∷ 0 ∷ []) [] 2)
+    ∷ (comparing stopped stopped false, lists (0 ∷ 1 ∷ 0 ∷ 1 ∷ 0 ∷ 0 ∷ 0 ∷ []) [] 2)
+    -- a verdict on sheets whose E differs is refused with 11
+    ∷ (verdict exampleReference stopped 0 false, 11 ∷ 0 ∷ 0 ∷ [])
+    -- a comparison of sheets whose E differs is refused with 11, and both lists are untouched
+    ∷ (comparing exampleReference stopped false, lists (11 ∷ 0 ∷ 0 ∷ 0 ∷ 0 ∷ 0 ∷ 0 ∷ []) [] 0)
+    -- at depth 5 the run offers probe 2 alone; blocked there it has failed as refused; a later report is refused with
+    -- 16; the last six numbers of a run are its record in the end
+    ∷ (
+      running exampleReference 5 1 false (Event 0 ∷ Event 0 ∷ Event 0 ∷ Event 0 ∷ Event 0 ∷ Blocked ∷ Blocked ∷ []),
+      0 ∷ 1 ∷ 3 ∷ 0 ∷ 1 ∷ 3 ∷ 0 ∷ 1 ∷ 3 ∷ 0 ∷ 1 ∷ 3 ∷ 0 ∷ 1 ∷ 3 ∷ 0 ∷ 1 ∷ 2 ∷ 0 ∷ 3 ∷ 2 ∷ 16 ∷ 0 ∷ 0 ∷ 5 ∷ 1 ∷ 0 ∷ 1 ∷ 1 ∷ 5 ∷ [],
+    )
+    -- an event not below E is refused with 15, at depth 5 an event not offered with 17, and neither alters the record;
+    -- the probe's event passes
+    ∷ (
+      running exampleReference 5 0 false (Event 0 ∷ Event 1 ∷ Event 0 ∷ Event 1 ∷ Event 2 ∷ Event 0 ∷ Event 1 ∷ Event 0 ∷ []),
+      0 ∷ 1 ∷ 3 ∷ 0 ∷ 1 ∷ 3 ∷ 0 ∷ 1 ∷ 3 ∷ 0 ∷ 1 ∷ 3 ∷ 0 ∷ 1 ∷ 3 ∷ 15 ∷ 0 ∷ 0 ∷ 0 ∷ 1 ∷ 1 ∷ 17 ∷ 0 ∷ 0 ∷ 0 ∷ 4 ∷ 0 ∷ 5 ∷ 0 ∷ 0 ∷ 1 ∷ 1 ∷ 5 ∷ [],
+    )
+    -- an event outside the initials is offered too, and fails as stray
+    ∷ (running onlyZero 0 0 false (Event 1 ∷ []), 0 ∷ 1 ∷ 3 ∷ 0 ∷ 2 ∷ 1 ∷ 0 ∷ 0 ∷ 0 ∷ 1 ∷ 0 ∷ 0 ∷ [])
+    -- a trace-only run of test 2 passes with its third accepted event
+    ∷ (
+      running onlyZero 2 0 true (Event 0 ∷ Event 0 ∷ Event 0 ∷ []),
+      0 ∷ 1 ∷ 3 ∷ 0 ∷ 1 ∷ 3 ∷ 0 ∷ 1 ∷ 3 ∷ 0 ∷ 4 ∷ 0 ∷ 2 ∷ 0 ∷ 1 ∷ 1 ∷ 0 ∷ 2 ∷ [],
+    )
+    -- a trace-only run passes when blocked
+    ∷ (
+      running onlyZero 2 0 true (Event 0 ∷ Blocked ∷ []),
+      0 ∷ 1 ∷ 3 ∷ 0 ∷ 1 ∷ 3 ∷ 0 ∷ 4 ∷ 0 ∷ 2 ∷ 0 ∷ 1 ∷ 1 ∷ 0 ∷ 1 ∷ [],
+    )
+    -- a trace-only run fails as stray
+    ∷ (
+      running onlyZero 2 0 true (Event 0 ∷ Event 1 ∷ []),
+      0 ∷ 1 ∷ 3 ∷ 0 ∷ 1 ∷ 3 ∷ 0 ∷ 2 ∷ 1 ∷ 2 ∷ 0 ∷ 1 ∷ 1 ∷ 0 ∷ 1 ∷ [],
+    )
+    -- at depth k a node that may stop offers no probe: its event is refused with 17, and blocked passes
+    ∷ (
+      running mayLoop 1 7 false (Event 0 ∷ Event 0 ∷ Blocked ∷ []),
+      0 ∷ 1 ∷ 1 ∷ 0 ∷ 1 ∷ 0 ∷ 17 ∷ 0 ∷ 0 ∷ 0 ∷ 4 ∷ 0 ∷ 1 ∷ 7 ∷ 0 ∷ 1 ∷ 0 ∷ 1 ∷ [],
+    )
+    -- opening a run for k above 1,023 is refused with 14, and its record is 0
+    ∷ (running mayLoop 1024 0 false [], 14 ∷ 0 ∷ 0 ∷ 0 ∷ 0 ∷ 0 ∷ 0 ∷ 0 ∷ 0 ∷ [])
+    -- 02, K5: each event added to the empty set
+    ∷ (adding 0, 1 ∷ 2 ∷ 4 ∷ 8 ∷ 16 ∷ 32 ∷ 64 ∷ 128 ∷ 256 ∷ 512 ∷ 1024 ∷ 2048 ∷ [])
+    -- 02, K5: an event that is there already changes nothing
+    ∷ (
+      adding 65535,
+      65535 ∷ 65535 ∷ 65535 ∷ 65535 ∷ 65535 ∷ 65535 ∷ 65535 ∷ 65535 ∷ 65535 ∷ 65535 ∷ 65535 ∷ 65535 ∷ [],
+    )
+    -- 02, K5: the even events are there already, the odd ones are not
+    ∷ (adding 1365, 1365 ∷ 1367 ∷ 1365 ∷ 1373 ∷ 1365 ∷ 1397 ∷ 1365 ∷ 1493 ∷ 1365 ∷ 1877 ∷ 1365 ∷ 3413 ∷ [])
+    -- 02, K7: the work list holds 2·p·q words, here 12, and they are 0 at the end
+    ∷ (lending exampleReference exampleDevice 12 5, lent 0 12 0)
+    -- 02, K7: below 2·p·q words 12 applies, and the list is untouched
+    ∷ (lending exampleReference exampleDevice 11 5, lent 12 0 11)
+    -- 02, K7: words from 2·p·q on are left: one word more
+    ∷ (lending exampleReference exampleDevice 13 5, lent 0 12 1)
+    -- 02, K7: words from 2·p·q on are left: one word short of 3·p·q
+    ∷ (lending exampleReference exampleDevice 17 5, lent 0 12 5)
+    -- 02, K7: words from 2·p·q on are left: 3·p·q words
+    ∷ (lending exampleReference exampleDevice 18 5, lent 0 12 6)
+    -- a trace list below p·q − 1 bytes is refused with 13
+    ∷ (lending exampleReference exampleDevice 12 4, lent 13 0 12)
+    -- where both lists are too short, 12 comes before 13
+    ∷ (lending exampleReference exampleDevice 11 4, lent 12 0 11)
+    -- empty lists are refused with 12
+    ∷ (lending exampleReference exampleDevice 0 0, lent 12 0 0)
+    -- where E differs and the lists are too short, 11 comes before 12
+    ∷ (lending exampleReference stopped 0 0, lent 11 0 0)
+    -- 02, K7: one pair needs two words, and no place for a trace
+    ∷ (lending onlyZero onlyOne 2 0, lent 0 2 0)
+    -- 02, K7: one word is too few for one pair
+    ∷ (lending onlyZero onlyOne 1 0, lent 12 0 1)
     ∷ []
 
 -- every row answers what 01 and 02 say
-pub cases-hold : map numbersOf table ≡ answers
-unfolding numbersOf table answers lists lent caseSheets workAfter readNumbers numbers recordNumbers answersOf comparedNumbers work trace sheet exampleReference exampleDevice onlyZero onlyOne mayLoop mustLoop stopped readSheet answer bytesFault headFault lengthField layoutFault nextAt startOf succOf setsOf rowAt rowOf sheetOf graphFault rangesOk countOk countsOk successorsOk rowSuccessorsOk successorOk setsOk rowSetsOk setOk ascends noneInside blank unusedOk blanksOk reachedOk sheetFault successor acceptance acceptances initials mayStop step bit has inside meets insert setOf walk nearer leads meetsIn distance later choice leastFrom leastTrace cleared code pairNext product onCodes pairDistance pairTrace pairCleared all any first count upTo hits isProbe gather select probes missing orNext firstMissing firstMissed strays hasStray firstStray covers hasRefusal violates violating allEvents outside probesAt chosen flag flagOf offerOf newRun recordOk openFault openOf endedRun eventFault reportFault movedBy answerOf stepOf failsFrom verdictFault verdictOf nearest said judged pairCount nearestTrace clearedOf lastRow refusalNamed named comparisonOf compareFault outcomeOf traceAfter compared
+pub cases-hold : map (λ (c : Case × List ℕ). numbersOf (c .0)) table ≡ map (λ (c : Case × List ℕ). c .1) table
+unfolding setBytes accepting rowNumbers listNumbers filled keptNode joined kept unread nodeProbes listFault listedNumbers listedOf listAfter numbersOf table lists lent workAfter readNumbers numbers recordNumbers answersOf comparedNumbers work trace sheet exampleReference exampleDevice onlyZero onlyOne mayLoop mustLoop stopped readSheet answer bytesFault headFault lengthField layoutFault nextAt startOf succOf setsOf rowAt rowOf sheetOf graphFault rangesOk countOk countsOk successorsOk rowSuccessorsOk successorOk setsOk rowSetsOk setOk ascends noneInside blank unusedOk blanksOk reachedOk sheetFault successor acceptance acceptances initials mayStop step bit has inside meets insert setOf walk nearer leads meetsIn distance later choice leastFrom leastTrace cleared code pairNext product onCodes pairDistance pairTrace pairCleared all any first count upTo hits isProbe gather select probes missing orNext firstMissing firstMissed strays hasStray firstStray covers hasRefusal violates violating allEvents outside probesAt chosen flag flagOf offerOf newRun recordOk openFault openOf endedRun eventFault reportFault movedBy answerOf stepOf failsFrom verdictFault verdictOf nearest said judged pairCount nearestTrace clearedOf lastRow refusalNamed named comparisonOf compareFault outcomeOf traceAfter compared
 cases-hold = refl

@@ -1,10 +1,9 @@
 // When a pair of nodes is violating: what the device does or may refuse at its node and the reference does not at its
 // own. Every public function takes every row.
 ghost use mathlib.Core.Path.{_≡_};
-ghost use Prim.Native.Nat.{ℕ, _≤_};
-ghost use Rattle.sheet_spec.specs.Kept.{initials};
-ghost use Rattle.refinement_spec.specs.ViolatingPairs.{strays, hasRefusal, violates};
-ghost use Rattle.refinement.specs.Shapes.{covering, refusing};
+ghost use Prim.Native.Nat.{_≤_};
+ghost use Rattle.refinement_spec.specs.ViolatingPairs.{strays, hasRefusal};
+ghost use Rattle.refinement.specs.Shapes.{covering, refusing, violatesBy};
 use sheet_spec::Row;
 
 // The events of the device's initials that are not among the reference's.
@@ -62,8 +61,7 @@ pub fn has_refusal(reference: Row, device: Row) -> bool
 // Whether a pair of rows is violating, by the initials `x` of the reference and `y` of the device; with traces alone
 // only strays count.
 pub fn is_violating(x: u16, y: u16, reference: Row, device: Row, trace_only: bool) -> bool
-    ensures { λ r. ⌜ ((e : ℕ) → x ≡ initials e reference → y ≡ initials e device
-        → r ≡ violates «trace_only» e reference device) ⌝ }
+    ensures { λ r. ⌜ r ≡ violatesBy «trace_only» x y reference device ⌝ }
 {
     if stray_events(x, y) != 0 {
         return true;

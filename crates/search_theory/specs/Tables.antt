@@ -16,8 +16,8 @@ use Rattle.base.specs.Truth.{lt-or-ge}
 use Rattle.walks.specs.Graph.{Graph, WellFormed}
 use Rattle.walks.specs.Product.{code, pairNext, pairNext←, pairNext→, product, product-next, product-wellFormed}
 
--- The successor of node n on event i that a table of `size` nodes and `e` events names; a number not below `size` stands
--- for none.
+-- The successor of node n on event i that a table of `size` nodes and `e` events names; a number not below `size`
+-- stands for none.
 unfoldable pub tableNext : List ℕ → ℕ → ℕ → ℕ → ℕ → ℕ
 tableNext next size e n i = cond (ltb n size && ltb i e) (getD next (n * 12 + i) 0) size
 

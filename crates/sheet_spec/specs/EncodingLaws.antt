@@ -1,5 +1,7 @@
 -- Reading undoes writing, and nothing else: bytes are read as a sheet exactly if they are the bytes of that sheet and a
--- later call accepts it.
+-- later call accepts it (`read-encode`); bytes are accepted exactly if they are the bytes of an accepted sheet
+-- (`accepted-exactly`); bytes with a right head and layout are the bytes of the sheet that they spell, whatever its
+-- rules (`encode-spelled`), and that sheet has the machine's form (`sheetOf-form`).
 use mathlib.Core.Path.{_≡_, sym, ap, _∙_}
 use mathlib.Core.Logic.{_↔_}
 use mathlib.Core.List.{List}
@@ -9,11 +11,13 @@ use Rattle.sheet_spec.specs.declared.Sheet.{Sheet}
 use Rattle.sheet_spec.specs.declared.ReadSheet.{ReadSheet}
 use Rattle.sheet_spec.specs.Rules.{sheetFault}
 use Rattle.sheet_spec.specs.Form.{Bytes, SheetForm}
-use Rattle.sheet_spec.specs.Reading.{sheetOf, bytesFault, answer, readSheet}
+use Rattle.sheet_spec.specs.Reading.{eventCount, nodeCount, nodesAt, headFault, layoutFault, sheetOf, bytesFault, answer, readSheet}
 use Rattle.sheet_spec.specs.Encoding.{encode}
 use Rattle.sheet_spec.specs.Places.{accepted-length}
 use Rattle.sheet_spec.specs.Accepted.{read-accepted}
+use Rattle.sheet_spec.specs.Spelled as spelled
 use Rattle.sheet_spec.specs.Spelled.{encode-sheetOf}
+use Rattle.sheet_spec.specs.Formed as formed
 use Rattle.sheet_spec.specs.Written.{sheetOf-encode, encode-accepted}
 use Rattle.sheet_spec.specs.Octets.{bytes-encode}
 
@@ -48,6 +52,24 @@ read-encode s o b y = (to, from)
 
     from : (b ≡ encode s) × (sheetFault s ≡ 0) → readSheet b ≡ accepted s
     from h = rw (h .0) (read-back s o (h .1))
+
+-- bytes with a right head and layout are the bytes of the sheet that they spell, whatever its rules
+pub encode-spelled : (b : List ℕ) → Bytes b → headFault b ≡ 0 → layoutFault b (eventCount b) (nodeCount b) nodesAt ≡ 0 → encode (sheetOf b) ≡ b
+encode-spelled = spelled.encode-spelled
+
+-- the sheet that bytes spell has the machine's form, whatever its rules
+pub sheetOf-form : (b : List ℕ) → Bytes b → SheetForm (sheetOf b)
+sheetOf-form = formed.sheetOf-form
+
+-- bytes are accepted exactly if they are the bytes of a sheet of the machine's form that is not refused
+pub accepted-exactly : (b : List ℕ) → Bytes b → (bytesFault b ≡ 0) ↔ ((s : Sheet) × SheetForm s × (b ≡ encode s) × (sheetFault s ≡ 0))
+accepted-exactly b y = (to, from)
+  where
+    to : bytesFault b ≡ 0 → (s : Sheet) × SheetForm s × (b ≡ encode s) × (sheetFault s ≡ 0)
+    to h = (sheetOf b, sheetOf-form b y, sym (encode-sheetOf b y h), read-accepted b h)
+
+    from : (s : Sheet) × SheetForm s × (b ≡ encode s) × (sheetFault s ≡ 0) → bytesFault b ≡ 0
+    from (s, o, e, h) = rw e (encode-accepted s o h)
 
 -- an accepted sheet has at most 1,447 bytes
 pub encode-length : (s : Sheet) → SheetForm s → sheetFault s ≡ 0 → length (encode s) ≤ 1447

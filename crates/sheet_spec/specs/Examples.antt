@@ -39,10 +39,6 @@ mustLoop = 0 ∷ 0 ∷ 0 ∷ 7 ∷ 1 ∷ 1 ∷ 1 ∷ 0 ∷ 1 ∷ 0 ∷ 1 ∷ []
 unfoldable pub stopped : List ℕ
 stopped = 0 ∷ 0 ∷ 0 ∷ 7 ∷ 1 ∷ 1 ∷ 1 ∷ 255 ∷ 1 ∷ 0 ∷ 0 ∷ []
 
--- the sheets of 01's cases, all seven
-unfoldable pub caseSheets : List (List ℕ)
-caseSheets = exampleReference ∷ exampleDevice ∷ onlyZero ∷ onlyOne ∷ mayLoop ∷ mustLoop ∷ stopped ∷ []
-
 -- the sheet that is read of bytes, all 0 if they are refused
 unfoldable pub sheet : List ℕ → Sheet
 sheet b = readSheet b .sheet

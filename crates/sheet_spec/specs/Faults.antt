@@ -3,14 +3,16 @@
 -- fault.
 use mathlib.Core.Path.{_≡_}
 use mathlib.Core.Logic.{_⊎_, _≢_}
-use mathlib.Core.List.{List}
-use Prim.Native.Nat.{ℕ, _+_, _≤_, _<_}
-use lib.ListN.{length}
+use mathlib.Core.List.{List, _++_}
+use Prim.Native.Nat.{ℕ, _+_, _*_, _≤_, _<_}
+use lib.ListN.{length, getD, drop}
 use Rattle.events.specs.Bit.{bit, Within}
 use Rattle.sheet_spec.specs.declared.Row.{Row}
 use Rattle.sheet_spec.specs.declared.Sheet.{Sheet}
-use Rattle.sheet_spec.specs.Kept.{row, successor, acceptance, Walk}
-use Rattle.sheet_spec.specs.Reading.{lengthField, version, eventCount, nodeCount, countAt, nextAt, startOf}
+use Rattle.sheet_spec.specs.Kept.{noRow, row, successor, acceptance, Walk}
+use Rattle.sheet_spec.specs.Reading.{lengthField, version, eventCount, nodeCount}
+use Rattle.sheet_spec.specs.Encoding.{encodeRows}
+use Rattle.sheet_spec.specs.Form.{RowForm}
 
 -- 3: E is not 1 to 12, or N not 1 to 32
 abbrev pub RangeFault : ℕ → ℕ → Type 0
@@ -65,25 +67,29 @@ LengthFault b = (length b < 7) ⊎ (lengthField b + 4 ≢ length b)
 abbrev pub VersionFault : List ℕ → Type 0
 VersionFault b = version b ≢ 1
 
--- the node that begins at a place is whole: its C is there and in range, and so are all its sets
-abbrev pub Whole : List ℕ → ℕ → ℕ → Type 0
-Whole b e at = (at + e < length b) × (¬ BadCount (countAt b e at)) × (nextAt b e at ≤ length b)
+-- rows of nodes: each has the machine's form and a C of 1 to 16
+abbrev pub GoodRows : List Row → Type 0
+GoodRows rows = (v : ℕ) → v < length rows → RowForm (getD rows v noRow) × (¬ BadCount (getD rows v noRow .c))
 
--- the bytes end inside the node that begins at a place: before its C, or, with a C in range, before the end of its sets
-abbrev pub EndsInside : List ℕ → ℕ → ℕ → Type 0
-EndsInside b e at = (length b ≤ at + e) ⊎ ((¬ BadCount (countAt b e at)) × (length b < nextAt b e at))
+-- after the seven bytes of the head come the bytes of these rows, and then this rest
+abbrev pub Follow : List ℕ → List Row → List ℕ → Type 0
+Follow b rows rest = GoodRows rows × (drop 7 b ≡ encodeRows (eventCount b) rows ++ rest)
 
--- all nodes before node v are whole
-abbrev pub WholeBefore : List ℕ → ℕ → Type 0
-WholeBefore b v = (u : ℕ) → u < v → Whole b (eventCount b) (startOf b (eventCount b) u)
+-- bytes that end before their node does: at most e bytes, so no C; or a C of 1 to 16 at place e, and fewer than e + 1 +
+-- 2 C bytes
+abbrev pub ShortNode : ℕ → List ℕ → Type 0
+ShortNode e rest = (length rest ≤ e) ⊎ ((e < length rest) × (¬ BadCount (getD rest e 0)) × (length rest < e + 1 + getD rest e 0 * 2))
 
--- 4: the bytes end inside a node, or some remain after the last; all nodes before that place are whole
+-- 4: after the head come the rows of some nodes; these are fewer than N and the rest ends before its node does, or they
+-- are N and bytes remain
 abbrev pub CutFault : List ℕ → Type 0
 CutFault b =
-    ((v : ℕ) × (v < nodeCount b) × WholeBefore b v × EndsInside b (eventCount b) (startOf b (eventCount b) v))
-    ⊎ (WholeBefore b (nodeCount b) × (startOf b (eventCount b) (nodeCount b) < length b))
+    (rows : List Row) × (rest : List ℕ) × Follow b rows rest
+    × (((length rows < nodeCount b) × ShortNode (eventCount b) rest) ⊎ ((length rows ≡ nodeCount b) × (0 < length rest)))
 
--- 5, of bytes: a C out of range; all nodes before it are whole
+-- 5, of bytes: after the head come the rows of some nodes, fewer than N, and the rest has the byte of its C, which is
+-- not 1 to 16
 abbrev pub BytesCountFault : List ℕ → Type 0
 BytesCountFault b =
-    (v : ℕ) × (v < nodeCount b) × WholeBefore b v × (startOf b (eventCount b) v + eventCount b < length b) × BadCount (countAt b (eventCount b) (startOf b (eventCount b) v))
+    (rows : List Row) × (rest : List ℕ) × Follow b rows rest
+    × (length rows < nodeCount b) × (eventCount b < length rest) × BadCount (getD rest (eventCount b) 0)

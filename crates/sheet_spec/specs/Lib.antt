@@ -8,13 +8,16 @@ pub mod Faults
 pub mod RuleLaws
 pub mod CheckLaws
 pub mod PairFaults
-pub mod ReadLaws
+pub mod Walked
 pub mod Places
 pub mod Accepted
 pub mod Slices
 pub mod Spelled
 pub mod Written
 pub mod Octets
+pub mod Formed
+pub mod Ends
+pub mod ReadLaws
 pub mod EncodingLaws
 pub mod Sound
 pub mod RowLaws

@@ -1,5 +1,5 @@
--- Accepted bytes are the bytes of the sheet that they spell: node by node, what is written of a row that was read,
--- before the bytes after the node, is what stood there.
+-- Bytes with a right head and layout are the bytes of the sheet that they spell: node by node, what is written of a row
+-- that was read, before the bytes after the node, is what stood there.
 use mathlib.Core.Path.{_≡_, sym, _∙_}
 use mathlib.Core.List.{List, [], _∷_, _++_, append-assoc}
 use Prim.Native.Nat.{ℕ, suc, _+_, _*_, _/_, _%_, _≤_, _<_}
@@ -8,14 +8,16 @@ use native.Mathlib.Omega.{arith}
 use lib.ListN.{length, getD, take, drop, length-drop}
 use lib.Seq.{drop-cons, drop-length, getD-take, length-take-le}
 use borrow.Author.Tests.{lt-ltb}
+use Rattle.base.specs.Refusal.{orElse→}
 use Rattle.base.specs.Table.{upTo, length-upTo, getD-upTo}
 use Rattle.sheet_spec.specs.declared.Row.{Row}
 use Rattle.sheet_spec.specs.Kept.{noRow}
 use Rattle.sheet_spec.specs.Form.{Bytes}
-use Rattle.sheet_spec.specs.Reading.{byte, word, lengthField, eventCount, nodeCount, nodesAt, countAt, nextAt}
+use Rattle.sheet_spec.specs.Reading.{byte, word, lengthField, eventCount, nodeCount, nodesAt, headFault, countAt, nextAt}
 use Rattle.sheet_spec.specs.Reading.{layoutFault, startOf, succOf, setsOf, rowAt, rowOf, sheetOf, bytesFault}
 use Rattle.sheet_spec.specs.Encoding.{two, four, encodeSets, encodeRow, encodeRows, encodeBody, encode}
-use Rattle.sheet_spec.specs.Places.{Node, whole, last-end, Accepts, accepts}
+use Rattle.sheet_spec.specs.Places.{Node, Head, head, whole, last-end}
+use Rattle.sheet_spec.specs.RuleLaws.{ranges→}
 use Rattle.sheet_spec.specs.Slices.{drop-two, part-tail}
 
 -- a number of two bytes, and of four, in its bytes
@@ -75,7 +77,7 @@ module _ (b : List ℕ) (y : Bytes b) where
       rw l at (sets-back b y (take c (upTo (setsOf b at c) 16)) at (omega arith) (λ j m. sets-at b c at j h (omega arith)))
 
   -- a node that is whole, read and written again, is what stood there
-  row-back : (e at : ℕ) → e ≤ 12 → Node b e at → encodeRow e (rowAt b e at) ++ drop (nextAt b e at) b ≡ drop at b
+  pub row-back : (e at : ℕ) → e ≤ 12 → Node b e at → encodeRow e (rowAt b e at) ++ drop (nextAt b e at) b ≡ drop at b
   unfolding encodeRow rowAt nextAt
   row-back e at h w =
       let c = countAt b e at in
@@ -116,11 +118,12 @@ rows-spelled b y e n h k l =
     zero-in : (j : ℕ) → 0 + j ≡ j
     zero-in j = omega arith
 
-body-spelled : (b : List ℕ) → Bytes b → Accepts b → encodeBody (sheetOf b) ≡ drop 4 b
+body-spelled : (b : List ℕ) → Bytes b → Head b → layoutFault b (eventCount b) (nodeCount b) nodesAt ≡ 0 → encodeBody (sheetOf b) ≡ drop 4 b
 unfolding encodeBody sheetOf
-body-spelled b y a =
-    let w = a .headed .long in
-    rw (rows-spelled b y (eventCount b) (nodeCount b) (a .ranged .e-high) (a .ranged .n-high) (a .laid), ← drop-cons b 6 0 w, ← a .headed .version-is)
+body-spelled b y a l =
+    let w = a .long in
+    let r = ranges→ (eventCount b) (nodeCount b) (a .ranges) in
+    rw (rows-spelled b y (eventCount b) (nodeCount b) (r .e-high) (r .n-high) l, ← drop-cons b 6 0 w, ← a .version-is)
     (sym (drop-two b 4 0 (omega arith)))
 
 head-spelled : (b : List ℕ) → Bytes b → 7 ≤ length b → four (lengthField b) ++ drop 4 b ≡ b
@@ -128,10 +131,18 @@ unfolding lengthField
 head-spelled b y h =
     rw (four-words (byte b 0) (byte b 1) (byte b 2) (byte b 3) (y 1) (y 2) (y 3), ← drop-two b 2 0 (omega arith)) (sym (drop-two b 0 0 (omega arith)))
 
+-- bytes with a right head and layout are the bytes of the sheet that they spell, whatever its rules
+pub encode-spelled : (b : List ℕ) → Bytes b → headFault b ≡ 0 → layoutFault b (eventCount b) (nodeCount b) nodesAt ≡ 0 → encode (sheetOf b) ≡ b
+unfolding encode
+encode-spelled b y h k =
+    let a = head b h in
+    let l : length (drop 4 b) ≡ lengthField b = omega (arith, length-drop 4 b, a .length-is) in
+    rw (body-spelled b y a k, l) (head-spelled b y (a .long))
+
 -- accepted bytes are the bytes of the sheet that they spell
 pub encode-sheetOf : (b : List ℕ) → Bytes b → bytesFault b ≡ 0 → encode (sheetOf b) ≡ b
-unfolding encode
+unfolding bytesFault
 encode-sheetOf b y h =
-    let a = accepts b h in
-    let l : length (drop 4 b) ≡ lengthField b = omega (arith, length-drop 4 b, a .headed .length-is) in
-    rw (body-spelled b y a, l) (head-spelled b y (a .headed .long))
+    let x = orElse→ (headFault b) _ h in
+    let z = orElse→ (layoutFault b (eventCount b) (nodeCount b) nodesAt) _ (x .1) in
+    encode-spelled b y (x .0) (z .0)

@@ -64,7 +64,7 @@ record RowFits (e : ℕ) (r : Row) : Type 0 where
   blanks : blank e (r .c) r ≡ true
 
 -- C sets take 2 C bytes
-length-encodeSets : (xs : List ℕ) → length (encodeSets xs) ≡ length xs * 2
+pub length-encodeSets : (xs : List ℕ) → length (encodeSets xs) ≡ length xs * 2
 unfolding encodeSets two
 length-encodeSets [] = refl
 length-encodeSets (x ∷ xs) = omega (arith, length-encodeSets xs)

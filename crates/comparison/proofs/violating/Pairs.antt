@@ -14,6 +14,7 @@ use Rattle.sheet_spec.specs.RuleLaws.{Ranges}
 use Rattle.sheet_spec.specs.Sound.{check-sound, nodes-most}
 use Rattle.base.specs.Loops.{Filling}
 use Rattle.refinement_spec.specs.ViolatingPairs.{violates, violating}
+use Rattle.refinement.specs.Shapes.{violatesBy, violates-by}
 use Rattle.sheet_rows.specs.Tables.{initialsIn}
 use Rattle.comparison.specs.ViolatingTable.{violatingAt, violatingTable}
 
@@ -40,11 +41,14 @@ module _ (P Q : Sheet) (accepted : (sheetFault P ≡ 0) × (sheetFault Q ≡ 0))
 
   -- the test of a pair with the initials from the tables is the definition's
   pub bad-is : (traceOnly : Bool) (xs ys : List ℕ) (k : ℕ) → k < p * q → xs ≡ upTo (initialsIn e (P .rows)) 32 → ys ≡ upTo (initialsIn e (Q .rows)) 32 → (b : Bool)
-      → ((d : ℕ) → getD xs (k / q) 0 ≡ initials d (row P (k / q)) → getD ys (k % q) 0 ≡ initials d (row Q (k % q)) → b ≡ violates traceOnly d (row P (k / q)) (row Q (k % q)))
+      → b ≡ violatesBy traceOnly (getD xs (k / q) 0) (getD ys (k % q) 0) (row P (k / q)) (row Q (k % q))
       → b ≡ violatingAt traceOnly P Q k
   unfolding violatingAt violating initialsIn
   bad-is traceOnly xs ys k l ex ey b h =
-      h e (rw ex (getD-upTo (initialsIn e (P .rows)) 32 (k / q) 0 (first-node k l))) (rw ey (getD-upTo (initialsIn e (Q .rows)) 32 (k % q) 0 (second-node k))) ∙ rw (ee, eq)
+      let x : getD xs (k / q) 0 ≡ initials e (row P (k / q)) = rw ex (getD-upTo (initialsIn e (P .rows)) 32 (k / q) 0 (first-node k l)) in
+      let y : getD ys (k % q) 0 ≡ initials e (row Q (k % q)) = rw ey (getD-upTo (initialsIn e (Q .rows)) 32 (k % q) 0 (second-node k)) in
+      let v : b ≡ violates traceOnly e (row P (k / q)) (row Q (k % q)) = (rw (x, y) at h) ∙ violates-by traceOnly e (row P (k / q)) (row Q (k % q)) in
+      v ∙ rw (ee, eq)
 
   -- the table after all pairs is the definition's
   pub bad-all : (traceOnly : Bool) (table : List Bool) (k : ℕ) → k ≤ p * q → p * q ≤ k → Filling (violatingAt traceOnly P Q) false 1024 k table → table ≡ violatingTable traceOnly P Q

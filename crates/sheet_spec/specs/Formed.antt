@@ -1,0 +1,78 @@
+-- What bytes spell has the machine's form: rows of twelve bytes, sixteen words and a byte, whatever the bytes are.
+use mathlib.Core.Logic.{_⊎_, inl, inr}
+use mathlib.Core.Bool.{Bool, true, false, cond}
+use mathlib.Core.List.{List}
+use Prim.Native.Nat.{ℕ, _+_, _*_, _≤_, _<_}
+use native.Mathlib.Omega.{arith}
+use lib.Dec.{ltb}
+use lib.ListN.{length, getD, replicate, List·getD-eq-default, length-replicate, getD-replicate}
+use Rattle.base.specs.Truth.{lt-or-ge}
+use Rattle.base.specs.Table.{upTo, length-upTo, getD-upTo}
+use Rattle.sheet_spec.specs.Kept.{noRow}
+use Rattle.sheet_spec.specs.Form.{Bytes, RowForm, SheetForm}
+use Rattle.sheet_spec.specs.Reading.{countAt, startOf, succOf, setsOf, rowAt, unusedRow, rowOf, sheetOf, eventCount, nodeCount}
+
+-- a table of numbers below m
+table-below : (f : ℕ → ℕ) (n m : ℕ) → 0 < m → ((i : ℕ) → i < n → f i < m) → (i : ℕ) → getD (upTo f n) i 0 < m
+table-below f n m z h i = go (lt-or-ge i n)
+  where
+    go : (i < n) ⊎ (n ≤ i) → getD (upTo f n) i 0 < m
+    go (inl l) = rw (getD-upTo f n i 0 l) (h i l)
+    go (inr l) = let k : length (upTo f n) ≤ i = omega (arith, length-upTo f n) in rw (List·getD-eq-default (upTo f n) 0 k) z
+
+-- a choice between two things with a property has it
+either : {A : Type 0} (P : A → Type 0) (t : Bool) {x y : A} → P x → P y → P (cond t x y)
+either P true p q = p
+either P false p q = q
+
+module _ (b : List ℕ) (y : Bytes b) where
+  succ-below : (at e i : ℕ) → succOf b at e i < 256
+  unfolding succOf
+  succ-below at e i = either (λ x. x < 256) (ltb i e) (y (at + i)) (omega arith)
+
+  set-below : (at c j : ℕ) → setsOf b at c j < 65536
+  unfolding setsOf
+  set-below at c j = either (λ x. x < 65536) (ltb j c) (omega (arith, y (at + j * 2), y (at + j * 2 + 1))) (omega arith)
+
+  -- the row that begins at a place has the machine's form
+  pub row-form : (e at : ℕ) → RowForm (rowAt b e at)
+  unfolding rowAt
+  row-form e at = record {
+    succs = length-upTo (succOf b at e) 12;
+    succ-byte = table-below (succOf b at e) 12 256 (omega arith) (λ i l. succ-below at e i);
+    sets = length-upTo (setsOf b (at + e + 1) (countAt b e at)) 16;
+    set-word = table-below (setsOf b (at + e + 1) (countAt b e at)) 16 65536 (omega arith) (λ j l. set-below (at + e + 1) (countAt b e at) j);
+    c-byte = y (at + e);
+  }
+
+-- a list of one number below m
+fixed : (m z n : ℕ) → 0 < m → z < m → (i : ℕ) → getD (replicate n z) i 0 < m
+fixed m z n p h i = go (lt-or-ge i n)
+  where
+    go : (i < n) ⊎ (n ≤ i) → getD (replicate n z) i 0 < m
+    go (inl l) = rw (getD-replicate n i z 0 l) h
+    go (inr l) = let k : length (replicate n z) ≤ i = omega (arith, length-replicate {A = ℕ} n z) in rw (List·getD-eq-default (replicate n z) 0 k) p
+
+unused-form : RowForm unusedRow
+unused-form = record {
+  succs = length-replicate {A = ℕ} 12 255;
+  succ-byte = fixed 256 255 12 (omega arith) (omega arith);
+  sets = length-replicate {A = ℕ} 16 0;
+  set-word = fixed 65536 0 16 (omega arith) (omega arith);
+  c-byte = omega arith;
+}
+
+module _ (b : List ℕ) (y : Bytes b) where
+  any-row : (v : ℕ) → RowForm (rowOf b (eventCount b) (nodeCount b) v)
+  unfolding rowOf
+  any-row v = either RowForm (ltb v (nodeCount b)) (row-form b y (eventCount b) (startOf b (eventCount b) v)) unused-form
+
+  -- the sheet that bytes spell has the machine's form
+  pub sheetOf-form : SheetForm (sheetOf b)
+  unfolding sheetOf
+  sheetOf-form = record {
+    rows = length-upTo (rowOf b (eventCount b) (nodeCount b)) 32;
+    each = λ v h. rw (getD-upTo (rowOf b (eventCount b) (nodeCount b)) 32 v noRow h) (any-row v);
+    e-byte = y 5;
+    n-byte = y 6;
+  }
