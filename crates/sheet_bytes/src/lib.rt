@@ -14,7 +14,8 @@ use sheet_spec::Sheet;
 // The refusal of the bytes before what they spell is looked at, 0 for none: 1, 2, 3; then 4 and 5, by position.
 pub fn fault_in(bytes: &[u8]) -> u8
     ensures { λ r. ⌜ r ≡ orElse (headFault (now (bytes .entry)))
-        (layoutFault (now (bytes .entry)) (eventCount (now (bytes .entry))) (nodeCount (now (bytes .entry))) nodesAt) ⌝ }
+        (layoutFault (now (bytes .entry)) (eventCount (now (bytes .entry)))
+        (nodeCount (now (bytes .entry))) nodesAt) ⌝ }
 {
     let head = layout::head_fault(bytes);
     if head != 0 {
