@@ -1,15 +1,15 @@
 -- The claim: demand 3 of the mission, with demand 2 beside it, over every two accepted sheets P (the reference, of p
 -- nodes) and Q (the device, of q nodes) with equal event counts. `traceOnly` is true for the trace-only reading: strays
 -- alone, trace-only tests, traces alone. What the bench answers is named as its contracts equate it (`verdictOf` of the
--- verdict, `outcomeOf` and `traceAfter` of the comparison); what that means is in the mission's words (Trace, Does,
--- Refuses, Violation, Refines of Refinement; FailsTest, a run that ends failed, of Verdicts; Describes, what 01 says of
--- an answer, of Meaning).
+-- verdict, `suiteOf` and `verdictsAfter` of all verdicts, `outcomeOf` and `traceAfter` of the comparison); what that
+-- means is in the mission's words (Trace, Does, Refuses, Violation, Refines of Refinement; FailsTest, a run that ends
+-- failed, of Verdicts; Describes, what 01 says of an answer, of Meaning).
 use mathlib.Core.Path.{_≡_}
 use mathlib.Core.Logic.{_⊎_, _≢_, _↔_}
 use mathlib.Core.Bool.{Bool, true}
 use mathlib.Core.List.{List}
 use Prim.Native.Nat.{ℕ, _-_, _*_, _≤_, _<_}
-use lib.ListN.{length, take}
+use lib.ListN.{length, getD, take}
 use Rattle.events.specs.Bit.{Apart}
 use Rattle.walks.specs.Order.{Lex}
 use Rattle.sheet_spec.specs.declared.Sheet.{Sheet}
@@ -19,7 +19,9 @@ use Rattle.sheet_spec.specs.Reading.{readSheet}
 use Rattle.sheet_spec.specs.EncodingLaws.{accepted}
 use Rattle.refinement_spec.specs.Refinement.{After, Does, Refuses, ViolationIn, RefinesIn}
 use Rattle.verdicts_spec.specs.declared.Verdict.the-variants.{Passes, Fails}
+use Rattle.verdicts_spec.specs.declared.Suite.the-variants.{Judged}
 use Rattle.verdicts_spec.specs.Verdicts.{FailsTest, verdictOf}
+use Rattle.verdicts_spec.specs.Suites.{suiteOf, verdictsAfter}
 use Rattle.comparison_spec.specs.declared.Outcome.{Outcome}
 use Rattle.comparison_spec.specs.declared.Outcome.the-variants.{Refines, Stray, Refusal, Denied}
 use Rattle.comparison_spec.specs.Comparison.{outcomeOf, traceAfter}
@@ -70,6 +72,14 @@ pub record Violated (traceOnly : Bool) (P Q : Sheet) (o : Outcome) (after : List
   -- demand 2: the whole answer, with what is named, is the one that 01 describes
   pub describes : Describes traceOnly P Q o (take d after)
 
+-- demand 3: what holds of the list of verdicts, `after` at exit, of all tests at once: it has p q verdicts, place k is 1
+-- exactly if test k is "passes" and 2 exactly if some run of it can end failed, and all are 1 exactly if the device
+-- refines the reference
+pub record AllJudged (traceOnly : Bool) (P Q : Sheet) (after : List ℕ) : Type 0 where
+  pub passed : (k : ℕ) → k < P .n * Q .n → (getD after k 0 ≡ 1) ↔ (verdictOf traceOnly P Q k ≡ Passes)
+  pub failed : (k : ℕ) → k < P .n * Q .n → (getD after k 0 ≡ 2) ↔ FailsTest traceOnly P Q k
+  pub complete : ((k : ℕ) → k < P .n * Q .n → getD after k 0 ≡ 1) ↔ RefinesIn traceOnly P Q
+
 -- all that is claimed of two sheets; `Demand3` claims it of every two that are accepted
 pub record Claim (traceOnly : Bool) (P Q : Sheet) : Type 0 where
   -- demand 3: if there is a violation, one has fewer than p q events
@@ -79,6 +89,9 @@ pub record Claim (traceOnly : Bool) (P Q : Sheet) : Type 0 where
   pub judges : (k : ℕ) → k ≤ 1023 → (verdictOf traceOnly P Q k ≡ Passes) ⊎ (verdictOf traceOnly P Q k ≡ Fails)
   pub few : P .n * Q .n ≤ 1024
   pub complete : ((k : ℕ) → k < P .n * Q .n → verdictOf traceOnly P Q k ≡ Passes) ↔ RefinesIn traceOnly P Q
+  -- demand 3: given a long enough list, of any content, all tests are judged at once, p q of them, and the list says
+  -- what each verdict says
+  pub suite : (out : List ℕ) → P .n * Q .n ≤ length out → (suiteOf P Q out ≡ Judged (P .n * Q .n)) × AllJudged traceOnly P Q (verdictsAfter traceOnly P Q out)
   -- demand 3: given long enough lists, of any content, the comparison is never refused, and says "refines" exactly if
   -- the device refines the reference
   pub answers : (work trace : List ℕ) → LongEnough P Q work trace → (m : ℕ) → outcomeOf traceOnly P Q work trace ≢ Denied m

@@ -5,21 +5,27 @@ use mathlib.Core.Bool.{Bool, true, false, true≢false}
 use mathlib.Core.List.{List}
 use Prim.Native.Nat.{ℕ, _-_, _*_, _≤_, _<_}
 use native.Mathlib.Omega.{arith}
-use lib.ListN.{take}
+use lib.ListN.{length, take}
 use Rattle.base.specs.Truth.{lt-or-ge, not-i, clash, dec}
 use Rattle.base.specs.Front.{atFront-taken}
 use Rattle.events.specs.Bit.{bit, Apart}
 use Rattle.sheet_spec.specs.declared.Sheet.{Sheet}
-use Rattle.sheet_spec.specs.Kept.{row, acceptance}
+use Rattle.sheet_spec.specs.Kept.{row, acceptance, acceptances}
 use Rattle.sheet_spec.specs.Rules.{sheetFault}
 use Rattle.sheet_spec.specs.RowLaws.{acceptances-length, acceptances-at}
 use Rattle.sheet_spec.specs.Accepted.{read-accepted}
 use Rattle.sheet_spec.specs.EncodingLaws.{reads→}
 use Rattle.sheet_spec.specs.Sound.{Sound, check-sound, nodes-most}
+use Rattle.probes_spec.specs.Probes.{Probe}
+use Rattle.probes_spec.specs.ProbeLaws.{probe-at}
 use Rattle.refinement_spec.specs.Refinement.{Refuses, Strays, ViolationIn, RefinesIn}
 use Rattle.refinement_spec.specs.RefinementLaws.{after-unique, violation-near, refines-means}
 use Rattle.verdicts_spec.specs.declared.Verdict.the-variants.{Passes, Fails}
+use Rattle.verdicts_spec.specs.declared.Suite.the-variants.{Judged}
 use Rattle.verdicts_spec.specs.Verdicts.{failsFrom, verdictOf}
+use Rattle.verdicts_spec.specs.Suites.{testCount, suiteOf, verdictsAfter}
+use Rattle.verdicts_spec.specs.SuiteLaws.{suite-fits, given-suite}
+use Rattle.verdicts_spec.specs.Complete.{place-passes, place-means, suite-complete}
 use Rattle.verdicts_spec.specs.VerdictLaws.{fails-means, verdict-means, verdict-passes}
 use Rattle.verdicts_spec.specs.TestLaws.{verdicts-complete, first-failing, single-test}
 use Rattle.comparison_spec.specs.declared.Outcome.{Outcome}
@@ -31,7 +37,7 @@ use Rattle.comparison_spec.specs.ComparisonLaws.{trace-length, nearest-below, n
 use Rattle.comparison_spec.specs.OutcomeLaws.{traceOf}
 use Rattle.comparison_spec.specs.AnswerLaws.{outcome-describes}
 use Rattle.comparison_spec.specs.CallLaws.{compare-0, compare-fits, given-outcome, given-trace}
-use Rattle.claim.specs.Claim.{Accepted, LongEnough, Witness, by-stray, by-refusal, Reports, stray-reports, refusal-reports, Violated, Demand3}
+use Rattle.claim.specs.Claim.{Accepted, LongEnough, Witness, by-stray, by-refusal, Reports, stray-reports, refusal-reports, Violated, AllJudged, Demand3}
 
 -- accepted as bytes or as kept, a sheet is not refused by a later call
 pub accepted-unrefused : (s : Sheet) → Accepted s → sheetFault s ≡ 0
@@ -56,6 +62,18 @@ module _ (P Q : Sheet) (accP : sheetFault P ≡ 0) (accQ : sheetFault Q ≡ 0) (
       go : (failsFrom traceOnly P Q k 0 0 ≡ true) ⊎ (failsFrom traceOnly P Q k 0 0 ≡ false) → (verdictOf traceOnly P Q k ≡ Passes) ⊎ (verdictOf traceOnly P Q k ≡ Fails)
       go (inl f) = inr (verdict-means P Q accP accQ same traceOnly k small .1 (fails-means P Q accP accQ same traceOnly k small .0 f))
       go (inr f) = inl (verdict-passes P Q accP accQ same traceOnly k small .1 (λ x. clash (fails-means P Q accP accQ same traceOnly k small .1 x) f))
+
+  -- with a list that is long enough all tests are judged, and each place says what its verdict says
+  suite : (out : List ℕ) → P .n * Q .n ≤ length out → (suiteOf P Q out ≡ Judged (P .n * Q .n)) × AllJudged traceOnly P Q (verdictsAfter traceOnly P Q out)
+  unfolding testCount
+  suite out l = (
+    given-suite P Q out (suite-fits P Q out accP accQ same l),
+    record {
+      passed = place-passes P Q accP accQ same out l traceOnly;
+      failed = place-means P Q accP accQ same out l traceOnly;
+      complete = suite-complete P Q accP accQ same out l traceOnly;
+    },
+  )
 
   -- with lists that are long enough the comparison answers
   fits : (work trace : List ℕ) → LongEnough P Q work trace → compareFault P Q work trace ≡ 0
@@ -95,7 +113,8 @@ module _ (P Q : Sheet) (accP : sheetFault P ≡ 0) (accQ : sheetFault Q ≡ 0) (
           hit u e j l p =
               let l′ : j < row P v .c = rw e at l in
               let p′ : Apart (acceptance (row P v) j) X = rw e at p in
-              let x = f .probe .hits j (omega (arith, l′, acceptances-length (row P v))) in
+              let h : Probe (acceptances (row P v)) X = rw (f .probe) at (probe-at (acceptances (row P v)) (P .e) (f .place) (f .listed)) in
+              let x = h .hits j (omega (arith, l′, acceptances-length (row P v))) in
               omega (arith, x .2, p′ (x .0), ap (λ (y : ℕ). bit y (x .0)) (acceptances-at (row P v) j l′), x .1)
 
   -- the first failing test is that of the nearest violation's length
@@ -192,6 +211,7 @@ claim traceOnly P Q a b same =
       judges = judges P Q p q same traceOnly;
       few = few P Q p q same traceOnly;
       complete = verdicts-complete P Q p q same traceOnly;
+      suite = suite P Q p q same traceOnly;
       answers = λ work trace l m. described-given P Q p q same traceOnly (outcomeOf traceOnly P Q work trace) (traceOf traceOnly P Q) m (described P Q p q same traceOnly work trace l);
       refined = says-refines P Q p q same traceOnly;
       violated = λ work trace l n. described-violated P Q p q same traceOnly n (traceAfter traceOnly P Q work trace) (trace-front P Q p q same traceOnly work trace l n) (outcomeOf traceOnly P Q work trace) (traceOf traceOnly P Q) (described P Q p q same traceOnly work trace l);

@@ -4,14 +4,14 @@ use mathlib.Core.Path.{_≡_}
 use mathlib.Core.Bool.{Bool}
 use mathlib.Core.List.{List, []}
 use Prim.Native.Nat.{ℕ, _≤_, _<_}
-use lib.ListN.{length}
+use lib.ListN.{length, getD}
 use Rattle.events.specs.Bit.{Apart}
 use Rattle.walks.specs.Order.{Lex}
 use Rattle.walks.specs.Pairs.{PairLists}
 use Rattle.sheet_spec.specs.declared.Row.{Row}
 use Rattle.sheet_spec.specs.declared.Sheet.{Sheet}
 use Rattle.sheet_spec.specs.Kept.{row, graph, acceptance, acceptances}
-use Rattle.probes_spec.specs.Probes.{Probe}
+use Rattle.probes_spec.specs.Probes.{probes}
 use Rattle.refinement_spec.specs.Refinement.{After, Does, Strays, ViolationIn, RefinesIn}
 use Rattle.comparison_spec.specs.declared.Outcome.{Outcome}
 use Rattle.comparison_spec.specs.declared.Outcome.the-variants.{Refines, Stray, Refusal}
@@ -45,18 +45,20 @@ pub record SmallestStray (P Q : Sheet) (t : List ℕ) (i : ℕ) : Type 0 where
 abbrev pub Misses : Row → ℕ → ℕ → Type 0
 Misses q X A = (j : ℕ) × (j < q .c) × (acceptance q j ≡ A) × Apart X A
 
--- X is the first probe (the least by number, as the list ascends) of the reference's row that some acceptance of the
--- device's row misses, A the lowest such acceptance
-pub record FirstRefusedAt (r q : Row) (X A : ℕ) : Type 0 where
-  pub probe : Probe (acceptances r) X
+-- X is the first probe in the list, by its place, of the reference's row that some acceptance of the device's row
+-- misses, A the lowest such acceptance, by its number
+pub record FirstRefusedAt (e : ℕ) (r q : Row) (X A : ℕ) : Type 0 where
+  pub place : ℕ
+  pub listed : place < length (probes (acceptances r) e)
+  pub probe : getD (probes (acceptances r) e) place 0 ≡ X
   pub misses : Misses q X A
-  pub first : (Y B : ℕ) → Probe (acceptances r) Y → Misses q Y B → X ≤ Y
+  pub first : (x : ℕ) → x < place → (B : ℕ) → ¬ Misses q (getD (probes (acceptances r) e) x 0) B
   pub lowest : (B : ℕ) → Misses q X B → A ≤ B
 
--- X is the first probe of the reference's node after t that the device's node after t misses, A the lowest such
--- acceptance
+-- X is the first probe in the list of the reference's node after t that the device's node after t misses, A the lowest
+-- such acceptance
 abbrev pub FirstRefused : Sheet → Sheet → List ℕ → ℕ → ℕ → Type 0
-FirstRefused P Q t X A = (v : ℕ) × (w : ℕ) × After P t v × After Q t w × FirstRefusedAt (row P v) (row Q w) X A
+FirstRefused P Q t X A = (v : ℕ) × (w : ℕ) × After P t v × After Q t w × FirstRefusedAt (P .e) (row P v) (row Q w) X A
 
 -- what 01 says of the two sheets: this answer, and this trace beside it
 pub data Describes (traceOnly : Bool) (P Q : Sheet) : Outcome → List ℕ → Type 0 where

@@ -74,9 +74,9 @@ module _ {P Q : Sheet} (op : Sound P) (oq : Sound Q) (same : P .e ≡ Q .e) wher
         x .2 (y .0) l (rw (acceptances-at (row P v) (y .0) l, acceptances-at (row Q w) (x .0) (x .1)) at (y .2))
 
     -- at the pair reached by t, what is named of the list is what the words name
-    refused-at-pair : (X A : ℕ) → MissedFirst (probes (acceptances (row P v)) (P .e)) (acceptances (row Q w)) X A ↔ FirstRefusedAt (row P v) (row Q w) X A
+    refused-at-pair : (X A : ℕ) → MissedFirst (probes (acceptances (row P v)) (P .e)) (acceptances (row Q w)) X A ↔ FirstRefusedAt (P .e) (row P v) (row Q w) X A
     refused-at-pair X A =
-        (refused→ (row P v) (row Q w) (P .e) narrow-at (λ j k l h. oq .ascending w j k (b .1) l h) X A, refused← (row P v) (row Q w) (P .e) narrow-at (λ j k l h. oq .ascending w j k (b .1) l h) X A)
+        (refused→ (P .e) (row P v) (row Q w) (λ j k l h. oq .ascending w j k (b .1) l h) X A, refused← (P .e) (row P v) (row Q w) (λ j k l h. oq .ascending w j k (b .1) l h) X A)
 
     smallest-at : hasStray (P .e) (row P v) (row Q w) ≡ true → SmallestStray P Q t (firstStray (P .e) (row P v) (row Q w))
     smallest-at h =
