@@ -77,7 +77,9 @@ static void run_test(uint16_t h) {
         }
     }
     print_run(&run);
+    /* A refused report leaves the record as it was. */
     print_said("  event 2", bench_report(&run, reference, 2));
+    print_run(&run);
     /* Choice 0 offers the probe 1, which the device does; choice 1 the probe 2, which it may refuse. */
     print_said("  event 0", bench_report(&run, reference, 0));
     print_said("  blocked", bench_report(&run, reference, BENCH_BLOCKED));

@@ -1,15 +1,17 @@
-// The Run cases of tests (01, "Test k and a live run", refusals 9, 11 and 14 to 17). Each line of standard input is a
+// The Run cases of tests (01, "Test k and a live run", refusals 9 to 11 and 14 to 17). Each line of standard input is a
 // case: its name, a colon, and numbers, of which the first says what is called:
 //   1, sheet, k h traces                           a test is opened
 //   2, sheet, k h traces ended node depth, report  a report on that record
 //   3, sheet, k h traces, reports                  a test is opened, and each report is made
 //   4, sheet, k h traces, n report                 a test is opened, and the report is made n times and once more
 //   5, sheet, sheet, k traces                      the verdict on the second sheet by the first
+//   6, sheet, sheet, traces len                    all verdicts on the second sheet, with a list of len places
 // A sheet is two numbers: which one of those of `cases_samples`, and which refusal of its own it is changed to deserve,
 // 0 for none. A report is an event, or 256 for blocked. Numbers that are not there count as 0.
 // Each case writes its name and its answers. A refusal is `denied` and the number. An opening and a report write the
 // answer and, after a bar, the record: k, h, traces, ended, node, depth; of a report that is made many times only the
-// last is written.
+// last is written. All verdicts at once write how many there are, and after a bar 16 places, of which the first len are
+// lent; all hold 255 before the call.
 ghost use Prim.Native.Nat.{_≤_};
 use cases_lines::Line;
 use libc::STDIN_FILENO;
@@ -18,6 +20,7 @@ use tests_spec::Answer;
 use tests_spec::Report;
 use tests_spec::Run;
 use tests_spec::Stepped;
+use verdicts_spec::Suite;
 use verdicts_spec::Verdict;
 
 // ---- tests
@@ -157,6 +160,50 @@ fn give_verdict(line: Line) {
     }
 }
 
+// Number i of a line as a length of at most 16.
+fn length(line: Line, i: usize) -> usize
+    ensures { λ r. ⌜ r ≤ 16 ⌝ }
+{
+    let x = cases_lines::number(line, i) as usize;
+    if x < 16 { x } else { 16 }
+}
+
+// Writes a place of a list.
+fn say_place(x: u8) {
+    cases_lines::say_number(x as u16);
+}
+
+// Writes the places of a list.
+fn say_places(list: [u8; 16]) {
+    for i in 0..16 {
+        say_place(list[i]);
+    }
+}
+
+// Writes the answer for all tests, and the places of its list.
+fn say_suite(a: Suite, list: [u8; 16]) {
+    match a {
+        Suite::Judged(n) => {
+            cases_lines::say(b" judged");
+            cases_lines::say_number(n);
+        }
+        Suite::Denied(x) => cases_lines::say_denied(x),
+    }
+    cases_lines::say(b" |");
+    say_places(list);
+}
+
+// Judges all tests of the two sheets of a line at once.
+fn judge_all(line: Line) {
+    let reference = sheet_at(line, 1, 2);
+    let device = sheet_at(line, 3, 4);
+    let trace_only = cases_lines::flag(line, 5);
+    let n = length(line, 6);
+    let mut list = [255u8; 16];
+    let a = verdicts::judge_all(reference, device, trace_only, &mut list[..n]);
+    say_suite(a, list);
+}
+
 // ---- standard input
 
 // Answers a line.
@@ -166,6 +213,7 @@ fn answer(line: Line) {
         2 => report_once(line),
         3 => report_each(line),
         4 => report_often(line),
+        6 => judge_all(line),
         _ => give_verdict(line),
     }
     cases_lines::say(b"\n");
