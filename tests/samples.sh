@@ -1,6 +1,7 @@
 #!/bin/sh
 # Runs every program on every sample by way of the entry script, and holds what it prints to the file beside the sheet;
-# then the entry script's own words: help, a missing file, a wrong program, a reference whose length is wrong.
+# then the entry script's own words: help, a missing file, a wrong program, a reference whose length is wrong. The rest
+# of its work is in bench.sh.
 set -u
 cd "$(dirname "$0")/.." || exit 1
 . tests/shared
@@ -59,7 +60,7 @@ refused_meaning() {
     shift 2
     bytes "$@" > "$scratch/bad"
     for program in show probe_list; do
-        says 0 "sheet refused $number $meaning" ./bench "$program" "$scratch/bad"
+        says 2 "sheet refused $number $meaning" ./bench "$program" "$scratch/bad"
     done
 }
 refused_meaning 1 'too short or its length field is wrong'
@@ -76,21 +77,13 @@ says 0 'sheet 6 nodes 8 events' sh -c 'cd "$1" && "$2/bench" show -n' sh "$scrat
 says 0 'reference 6 nodes 8 events' sh -c 'cd "$1" && "$2/bench" compare -n -n' sh "$scratch" "$PWD"
 for program in compare suite; do
     for wrong in cut long empty; do
-        says 0 'reference refused 1' ./bench "$program" "$scratch/$wrong" "$device_file"
-        says 0 'device refused 1' ./bench "$program" "$reference_file" "$scratch/$wrong"
+        says 2 'reference refused 1' ./bench "$program" "$scratch/$wrong" "$device_file"
+        says 2 'device refused 1' ./bench "$program" "$reference_file" "$scratch/$wrong"
     done
 done
-says 0 'test refused 14' ./bench live "$reference_file" 1024 0
-says 0 'test refused 14' ./bench live "$reference_file" 0 h
-says 0 'test refused 14' ./bench live "$reference_file" 0 0 trace
-says 0 'reference refused 1' ./bench live "$scratch/cut" 1 0
-
-# Without the toolchain a program that is built runs, and one that is not says so.
-mkdir -p "$scratch/copy/crates" "$scratch/copy/target/bin"
-cp bench crates.txt "$scratch/copy/"
-says 1 'the Rattle toolchain (the command rt) is not on the PATH' \
-    env PATH=/usr/bin:/bin "$scratch/copy/bench" show "$reference_file"
-cp target/bin/show "$scratch/copy/target/bin/"
-says 0 'sheet 6 nodes 8 events' env PATH=/usr/bin:/bin "$scratch/copy/bench" show "$reference_file"
+says 2 'test refused 14' ./bench live "$reference_file" 1024 0
+says 2 'test refused 14' ./bench live "$reference_file" 0 h
+says 2 'test refused 14' ./bench live "$reference_file" 0 0 trace
+says 2 'reference refused 1' ./bench live "$scratch/cut" 1 0
 
 ends

@@ -1,0 +1,285 @@
+#!/bin/sh
+# The entry script's own work: the status for every ending of every program, output that cannot be written, the lines of
+# a form, interrupts, two scripts at once, and folders and tools that are not as they should be. Where it proves and
+# builds, a stand-in takes the place of the toolchain, so that this takes seconds.
+set -u
+cd "$(dirname "$0")/.." || exit 1
+. tests/shared
+for name in compare suite show probe_list live; do built "$name"; done
+begins
+root=$PWD
+example=samples/example
+tray=samples/tray
+
+# ends_with STATUS NAME COMMAND..: the command ends with this status; what it says is in $scratch/printed and
+# $scratch/said
+ends_with() {
+    status=$1
+    name=$2
+    shift 2
+    runs=$((runs + 1))
+    "$@" > "$scratch/printed" 2> "$scratch/said"
+    got=$?
+    [ "$got" = "$status" ] || {
+        fails "$name: status $got, not $status:"
+        tail -n 3 "$scratch/printed" "$scratch/said" >&2
+    }
+}
+
+# told NAME WORDS: standard error has one line, with these words
+told() {
+    runs=$((runs + 1))
+    [ "$(wc -l < "$scratch/said")" -eq 1 ] && grep -q -F -- "$2" "$scratch/said" || {
+        fails "$1: standard error has:"
+        cat "$scratch/said" >&2
+    }
+}
+
+# ---- statuses: yes, no, everything else
+bytes $reference > "$scratch/reference"
+bytes $stopped > "$scratch/stopped"
+bytes 00 00 00 07 02 01 01 00 01 00 00 > "$scratch/version"
+: > "$scratch/empty"
+lines 'event 0' 'event 0' > "$scratch/passes"
+lines 'event 0' 'blocked' > "$scratch/refuses"
+lines 'event 1' > "$scratch/strays"
+bytes $only_zero > "$scratch/only_zero"
+
+ends_with 0 'refines' ./bench compare $tray/reference.sheet $tray/repaired.sheet
+ends_with 1 'violates, stray' ./bench compare $tray/reference.sheet $tray/device.sheet
+ends_with 1 'violates, refused' ./bench compare $example/reference.sheet $example/device.sheet
+ends_with 2 'comparison refused' ./bench compare $example/reference.sheet "$scratch/stopped"
+ends_with 2 'reference refused' ./bench compare "$scratch/version" $example/device.sheet
+ends_with 2 'reference refused by its length' ./bench compare "$scratch/empty" $example/device.sheet
+ends_with 2 'device refused' ./bench compare $example/reference.sheet "$scratch/version"
+ends_with 0 'all pass' ./bench suite $tray/reference.sheet $tray/repaired.sheet
+ends_with 1 'a test failed' ./bench suite $example/reference.sheet $example/device.sheet
+ends_with 2 'suite refused' ./bench suite $example/reference.sheet "$scratch/stopped"
+ends_with 2 'suite, reference refused' ./bench suite "$scratch/version" $example/device.sheet
+ends_with 2 'suite, device refused' ./bench suite $example/reference.sheet "$scratch/empty"
+for name in show probe_list; do
+    ends_with 0 "$name, shown" ./bench "$name" $example/reference.sheet
+    ends_with 2 "$name, refused" ./bench "$name" "$scratch/version"
+done
+live_ends() { # STATUS NAME REPORTS WORD..
+    status=$1
+    name=$2
+    reports=$3
+    shift 3
+    ends_with "$status" "live, $name" sh -c 'reports=$1; shift; exec ./bench live "$@" < "$reports"' sh "$reports" "$@"
+}
+live_ends 0 'passed' "$scratch/passes" "$scratch/reference" 1 0
+live_ends 1 'refused' "$scratch/refuses" "$scratch/reference" 1 0
+live_ends 1 'stray' "$scratch/strays" "$scratch/only_zero" 0 0
+live_ends 2 'input ended' "$scratch/empty" "$scratch/reference" 1 0
+live_ends 2 'test refused' "$scratch/passes" "$scratch/reference" 1024 0
+live_ends 2 'reference refused' "$scratch/passes" "$scratch/version" 1 0
+ends_with 2 'live without input' sh -c './bench live "$1" 1 0 <&-' sh "$scratch/reference"
+# lines ended: after a million lines that are no report
+yes | head -n 1000001 > "$scratch/many"
+"$root/target/bin/live" "$scratch/reference" 0 0 < "$scratch/many" | tail -n 1 > "$scratch/printed"
+held 'lines ended, which is no other ending' 'lines ended'
+ends_with 0 'help' ./bench help
+ends_with 2 'no word' ./bench
+ends_with 2 'no such program' ./bench judge
+ends_with 2 'no such file' ./bench show "$scratch/nowhere"
+ends_with 2 'too few files' ./bench compare $example/reference.sheet
+ends_with 2 'too many words' ./bench build now
+
+# live goes on line by line: each answer is there before the next report is typed
+mkfifo "$scratch/typed"
+./bench live "$scratch/reference" 1 0 < "$scratch/typed" > "$scratch/printed" 2> "$scratch/said" &
+live=$!
+exec 4> "$scratch/typed"
+seen() { # LINES: so many are printed, soon
+    runs=$((runs + 1))
+    for turn in 1 2 3 4 5 6 7 8 9 10 11 12 13 14 15 16 17 18 19 20; do
+        [ "$(wc -l < "$scratch/printed")" -ge "$1" ] && return
+        sleep 0.2
+    done
+    fails "live printed no line $1 before the next report"
+}
+seen 1
+echo 'event 0' >&4
+seen 2
+echo 'event 0' >&4
+seen 3
+exec 4>&-
+wait "$live" || fails "a live run, typed: status $?"
+
+# ---- output that cannot be written: told, and never status 0
+ends_with 2 'a full device' sh -c "./bench suite $tray/reference.sheet $tray/repaired.sheet > /dev/full"
+told 'a full device' 'the output could not be written'
+ends_with 2 'a closed output' sh -c "./bench suite $tray/reference.sheet $tray/repaired.sheet >&-"
+told 'a closed output' 'the output could not be written'
+ends_with 2 'a limit on file size' \
+    sh -c "ulimit -f 1; ./bench suite $tray/reference.sheet $tray/device.sheet > '$scratch/limited'"
+told 'a limit on file size' 'the output could not be written'
+{
+    ./bench suite $tray/reference.sheet $tray/repaired.sheet 2> "$scratch/said"
+    echo $? > "$scratch/status"
+} 4>&1 | :
+runs=$((runs + 1))
+[ "$(cat "$scratch/status")" != 1 ] || fails 'a reader that goes away: status 1'
+mkfifo "$scratch/gone"
+: < "$scratch/gone" &
+{
+    sleep 1
+    ./bench suite $tray/reference.sheet $tray/repaired.sheet 2> "$scratch/said"
+    echo $? > "$scratch/status"
+} > "$scratch/gone"
+runs=$((runs + 1))
+[ "$(cat "$scratch/status")" = 2 ] || fails "a reader that went away: status $(cat "$scratch/status")"
+told 'a reader that went away' 'the output could not be written'
+ends_with 2 'help to a full device' sh -c './bench help > /dev/full'
+
+# a program that is cut off before its last line, or that ends badly, is never status 0
+copy() { # a copy of the script, with a crate and a stand-in for each program
+    rm -rf "$scratch/copy"
+    mkdir -p "$scratch/copy/crates/show" "$scratch/copy/target/bin" "$scratch/copy/include"
+    cp bench "$scratch/copy/"
+    printf 'base:\nshow: base\nedge: base\n' > "$scratch/copy/crates.txt"
+}
+stand_in() { # PROGRAM LINE..: a program that runs these lines
+    name=$1
+    shift
+    lines '#!/bin/sh' "$@" > "$scratch/copy/target/bin/$name"
+    chmod +x "$scratch/copy/target/bin/$name"
+}
+copy
+stand_in suite 'printf "reference 1 nodes 1 events\ndevice 1 nodes 1 events\ntest 0 passes\n"'
+ends_with 2 'a suite without its last line' "$scratch/copy/bench" suite $example/reference.sheet $example/device.sheet
+stand_in suite 'printf "tests 1 run 1 all pass"'
+ends_with 2 'a last line that is not whole' "$scratch/copy/bench" suite $example/reference.sheet $example/device.sheet
+stand_in suite 'printf "tests 1 run 1 all pass\n"; exit 3'
+ends_with 2 'a program that ends badly' "$scratch/copy/bench" suite $example/reference.sheet $example/device.sheet
+stand_in show 'echo "sheet 1 nodes 1 events"; kill -KILL $$'
+ends_with 2 'a program that is killed' "$scratch/copy/bench" show $example/reference.sheet
+stand_in show ':'
+ends_with 2 'no line at all' "$scratch/copy/bench" show $example/reference.sheet
+
+# ---- a form
+ends_with 1 'a form of a device that fails' ./bench form $example/reference.sheet $example/device.sheet
+sed 's/ sha256 [0-9a-f]*$/ sha256 SUM/; s/ commit .*/ commit/' "$scratch/printed" > "$scratch/form"
+mv "$scratch/form" "$scratch/printed"
+held 'a form of a device that fails' \
+    "reference file $example/reference.sheet sha256 SUM" "device file $example/device.sheet sha256 SUM" \
+    'reference 2 nodes 2 events' 'device 3 nodes 2 events' 'tests 6 run 6 failed 1' \
+    'violates after 5 cleared 5' 'trace 0 0 0 0 0' 'refused 2 by 1' 'program suite commit' 'program compare commit'
+ends_with 0 'a form of a device that passes' ./bench form $tray/reference.sheet $tray/repaired.sheet
+grep -q '^tests 42 run 42 all pass$' "$scratch/printed" || fails 'a form of a device that passes: no all pass'
+grep -q "^device file $tray/repaired.sheet sha256 $(sha256sum < $tray/repaired.sheet | sed 's/ .*//')$" \
+    "$scratch/printed" || fails 'a form: the sum of the device is another'
+ends_with 2 'a form of a refused device' ./bench form $example/reference.sheet "$scratch/version"
+grep -q '^device refused 2$' "$scratch/printed" || fails 'a form of a refused device: its refusal is missing'
+# a name with a line in it does not make a line
+cp $example/device.sheet "$scratch/x
+tests 6 run 6 all pass"
+ends_with 1 'a form of a file with a strange name' ./bench form $example/reference.sheet "$scratch/x
+tests 6 run 6 all pass"
+runs=$((runs + 1))
+[ "$(grep -c '^tests ' "$scratch/printed")" = 1 ] || fails 'a form of a file with a strange name: two lines on tests'
+
+# ---- proving and building, with a stand-in for the toolchain
+copy
+mkdir "$scratch/tools"
+lines '#!/bin/sh' '[ "$1" = version ] && { echo "stand-in 1"; exit; }' \
+    'echo "rt: base proved (1 s)"' 'sleep 2' \
+    'mkdir -p target/bin target/staticlib; echo "#!/bin/sh" > target/bin/show' \
+    'echo "echo sheet 1 nodes 1 events" >> target/bin/show; chmod +x target/bin/show; : > target/staticlib/libedge.a' \
+    'echo "rt: $2 proved (2 s)"' 'echo "rt: ok, 2 crates proved"' > "$scratch/tools/rt"
+chmod +x "$scratch/tools/rt"
+PATH=$scratch/tools:$PATH
+export PATH
+# two at once: each says its own words, and both programs run
+"$scratch/copy/bench" show $example/reference.sheet > "$scratch/first" 2> "$scratch/first.said" &
+first=$!
+"$scratch/copy/bench" show $example/reference.sheet > "$scratch/second" 2> "$scratch/second.said" &
+second=$!
+wait "$first" || fails "two at once: the first ended with $?"
+wait "$second" || fails "two at once: the second ended with $?"
+cat "$scratch/first" "$scratch/second" > "$scratch/printed"
+held 'two at once' 'sheet 1 nodes 1 events' 'sheet 1 nodes 1 events'
+cat "$scratch/first.said" "$scratch/second.said" > "$scratch/printed"
+sort -o "$scratch/printed" "$scratch/printed"
+held 'two at once: what they said' 'bench: 1 of 2 proved: base' 'bench: 2 of 2 proved: show' \
+    'bench: proving and building show; the first time this takes some minutes' \
+    'bench: waiting for another ./bench that proves in this folder'
+# an edit made while a program is proved makes it stale
+touch "$scratch/copy/crates/show/lib.rt"
+"$scratch/copy/bench" show $example/reference.sheet > /dev/null 2>&1 &
+first=$!
+sleep 1
+touch "$scratch/copy/crates/show/lib.rt"
+wait "$first"
+ends_with 0 'after an edit during the check' "$scratch/copy/bench" show $example/reference.sheet
+grep -q 'proving and building show' "$scratch/said" || fails 'an edit made while a program is proved is overlooked'
+ends_with 0 'and then no more' "$scratch/copy/bench" show $example/reference.sheet
+runs=$((runs + 1))
+[ ! -s "$scratch/said" ] || fails 'a program that is not stale is proved again'
+# what was recorded
+cp "$scratch/copy/target/bin/show.built" "$scratch/printed"
+held 'the record of a build' 'commit unknown' 'toolchain stand-in 1'
+ends_with 0 'the library' "$scratch/copy/bench" library
+held 'the library' "library $(cd "$scratch/copy" && pwd -P)/target/staticlib/libedge.a" \
+    "header $(cd "$scratch/copy" && pwd -P)/include/bench.h"
+# an interrupt ends the prover and what it started
+copy
+lines '#!/bin/sh' '[ "$1" = version ] && exit' "sleep 77 & echo \$! > '$scratch/child'; wait" > "$scratch/tools/rt"
+"$scratch/copy/bench" show $example/reference.sheet > "$scratch/printed" 2> "$scratch/said" &
+first=$!
+for turn in 1 2 3 4 5 6 7 8 9 10; do
+    [ -s "$scratch/child" ] && break
+    sleep 0.5
+done
+kill -TERM "$first"
+wait "$first"
+status=$?
+sleep 1
+runs=$((runs + 1))
+[ "$status" = 130 ] || fails "an interrupt while proving: status $status"
+case $(ps -o stat= -p "$(cat "$scratch/child")" 2> /dev/null) in
+    '' | Z*) ;;
+    *) fails 'an interrupt left something running' ;;
+esac
+[ ! -e "$scratch/copy/target/bench.lock" ] || fails 'an interrupt left its lock'
+# a prover that refuses
+lines '#!/bin/sh' 'echo "rt: FAILED: show"; exit 1' > "$scratch/tools/rt"
+ends_with 2 'a program that is not proved' "$scratch/copy/bench" show $example/reference.sheet
+grep -q 'show was not proved' "$scratch/said" || fails 'a program that is not proved: not told'
+# a live run is ended too
+mkfifo "$scratch/silent"
+exec 5<> "$scratch/silent"
+"$root/bench" live "$scratch/reference" 1 0 < "$scratch/silent" > "$scratch/printed" 2> "$scratch/said" &
+first=$!
+sleep 1
+kill -TERM "$first"
+wait "$first"
+status=$?
+exec 5>&-
+runs=$((runs + 1))
+[ "$status" = 130 ] || fails "an interrupt of a live run: status $status"
+
+# ---- folders and tools that are not as they should be
+copy
+ln -s "$root/bench" "$scratch/link"
+ends_with 0 'a symbolic link' "$scratch/link" show $example/reference.sheet
+ends_with 0 'CDPATH' env CDPATH="$root/samples:$root" sh bench show $example/reference.sheet
+rm -rf "$scratch/copy/target"
+: > "$scratch/copy/target"
+ends_with 2 'a target that is no folder' "$scratch/copy/bench" show $example/reference.sheet
+told 'a target that is no folder' 'cannot be written'
+rm -f "$scratch/tools/rt"
+copy
+mkdir "$scratch/few"
+for tool in sh cat dirname readlink rm mkdir find head ps awk sed grep mktemp touch; do
+    ln -s "$(command -v "$tool")" "$scratch/few/$tool"
+done
+ends_with 2 'a missing tool' env PATH="$scratch/few" ./bench compare $example/reference.sheet $example/device.sheet
+told 'a missing tool' 'the command od is missing'
+ends_with 2 'no toolchain' env PATH=/usr/bin:/bin "$scratch/copy/bench" show $example/reference.sheet
+told 'no toolchain' 'the Rattle toolchain (the command rt) is not on the PATH'
+cp target/bin/show "$scratch/copy/target/bin/"
+ends_with 0 'built, without the toolchain' env PATH=/usr/bin:/bin "$scratch/copy/bench" show $example/reference.sheet
+
+ends
