@@ -23,8 +23,10 @@ use Rattle.sheet_spec.specs.declared.Row.{Row}
 use Rattle.sheet_spec.specs.declared.Sheet.{Sheet}
 use Rattle.sheet_spec.specs.declared.ReadSheet.{ReadSheet}
 use Rattle.sheet_spec.specs.Kept.{successor, acceptance, acceptances, initials, mayStop, step}
-use Rattle.sheet_spec.specs.Rules.{rangesOk, countOk, countsOk, successorsOk, rowSuccessorsOk, successorOk, setsOk, rowSetsOk, setOk, ascends, noneInside, blank, unusedOk, blanksOk, reachedOk, sheetFault}
-use Rattle.sheet_spec.specs.Reading.{readSheet, answer, bytesFault, headFault, lengthField, layoutFault, nextAt, startOf, succOf, setsOf, rowAt, rowOf, sheetOf, graphFault}
+use Rattle.sheet_spec.specs.Rules.{rangesOk, countOk, countsOk, successorsOk, rowSuccessorsOk, successorOk, setsOk, rowSetsOk, setOk, ascends, noneInside, blank, unusedOk, blanksOk, reachedOk}
+use Rattle.sheet_spec.specs.Refusals.{headFault, layoutFault, graphFault, bytesFault, sheetFault}
+use Rattle.sheet_spec.specs.Reading.{readSheet, answer}
+use Rattle.sheet_spec.specs.Spelling.{lengthField, nextAt, startOf, succOf, setsOf, rowAt, rowOf, sheetOf}
 use Rattle.probes_spec.specs.Probes.{hits, isProbe, probes}
 use Rattle.probes_spec.specs.Listing.{nodeProbes, listFault, listedNumbers, listedOf, listAfter}
 use Rattle.probes_spec.specs.FirstMissed.{missing, orNext, firstMissing, firstMissed}

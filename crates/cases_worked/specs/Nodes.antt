@@ -9,8 +9,10 @@ use Rattle.events.specs.Sets.{has, inside, meets}
 use Rattle.walks.specs.Graph.{walk}
 use Rattle.walks.specs.Reach.{nearer, leads}
 use Rattle.sheet_spec.specs.Kept.{successor, acceptance, acceptances, initials, mayStop, step}
-use Rattle.sheet_spec.specs.Rules.{rangesOk, countOk, countsOk, successorOk, rowSuccessorsOk, successorsOk, ascends, noneInside, setOk, rowSetsOk, setsOk, blank, unusedOk, blanksOk, reachedOk, sheetFault}
-use Rattle.sheet_spec.specs.Reading.{lengthField, headFault, nextAt, layoutFault, startOf, succOf, setsOf, rowAt, rowOf, sheetOf, graphFault, bytesFault, answer, readSheet}
+use Rattle.sheet_spec.specs.Rules.{rangesOk, countOk, countsOk, successorOk, rowSuccessorsOk, successorsOk, ascends, noneInside, setOk, rowSetsOk, setsOk, blank, unusedOk, blanksOk, reachedOk}
+use Rattle.sheet_spec.specs.Refusals.{headFault, layoutFault, graphFault, bytesFault, sheetFault}
+use Rattle.sheet_spec.specs.Reading.{answer, readSheet}
+use Rattle.sheet_spec.specs.Spelling.{lengthField, nextAt, startOf, succOf, setsOf, rowAt, rowOf, sheetOf}
 use Rattle.probes_spec.specs.Probes.{hits, isProbe, probes}
 use Rattle.probes_spec.specs.Listing.{nodeProbes, listFault}
 use Rattle.text_spec.specs.Lines.{ascii, decimalIn, decimal, eventList}

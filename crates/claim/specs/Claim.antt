@@ -14,9 +14,8 @@ use Rattle.events.specs.Bit.{Apart}
 use Rattle.walks.specs.Order.{Lex}
 use Rattle.sheet_spec.specs.declared.Sheet.{Sheet}
 use Rattle.sheet_spec.specs.Kept.{row, acceptance}
-use Rattle.sheet_spec.specs.Rules.{sheetFault}
-use Rattle.sheet_spec.specs.Reading.{readSheet}
-use Rattle.sheet_spec.specs.EncodingLaws.{accepted}
+use Rattle.sheet_spec.specs.Refusals.{sheetFault}
+use Rattle.sheet_spec.specs.Reading.{readSheet, accepted}
 use Rattle.refinement_spec.specs.Refinement.{After, Does, Refuses, ViolationIn, RefinesIn}
 use Rattle.verdicts_spec.specs.declared.Verdict.the-variants.{Passes, Fails}
 use Rattle.verdicts_spec.specs.declared.Suite.the-variants.{Judged}

@@ -11,11 +11,12 @@ use Rattle.base.specs.Front.{atFront-taken}
 use Rattle.events.specs.Bit.{bit, Apart}
 use Rattle.sheet_spec.specs.declared.Sheet.{Sheet}
 use Rattle.sheet_spec.specs.Kept.{row, acceptance, acceptances}
-use Rattle.sheet_spec.specs.Rules.{sheetFault}
+use Rattle.sheet_spec.specs.Refusals.{sheetFault}
 use Rattle.sheet_spec.specs.RowLaws.{acceptances-length, acceptances-at}
 use Rattle.sheet_spec.specs.Accepted.{read-accepted}
 use Rattle.sheet_spec.specs.EncodingLaws.{reads→}
-use Rattle.sheet_spec.specs.Sound.{Sound, check-sound, nodes-most}
+use Rattle.sheet_spec.specs.Sound.{Sound}
+use Rattle.sheet_spec.specs.SoundLaws.{nodes-most, check-sound}
 use Rattle.probes_spec.specs.Probes.{Probe}
 use Rattle.probes_spec.specs.ProbeLaws.{probe-at}
 use Rattle.refinement_spec.specs.Refinement.{Refuses, Strays, ViolationIn, RefinesIn}

@@ -7,7 +7,7 @@ use lib.Dec.{leb}
 use lib.ListN.{length}
 use Rattle.base.specs.Refusal.{unless}
 use Rattle.sheet_spec.specs.declared.Sheet.{Sheet}
-use Rattle.sheet_spec.specs.Rules.{pairFault}
+use Rattle.sheet_spec.specs.Refusals.{pairFault}
 use Rattle.comparison_spec.specs.Comparison.{pairCount, workWords, compareFault}
 
 -- the refusal of a comparison, by the lengths of the two lists

@@ -19,8 +19,9 @@ use Rattle.walks.specs.Product.{product}
 use Rattle.walks.specs.Pairs.{pairDistance, pairTrace, pairCleared, pairTrace-leads, pairCleared-more}
 use Rattle.sheet_spec.specs.declared.Sheet.{Sheet}
 use Rattle.sheet_spec.specs.Kept.{row, successor, step, graph}
-use Rattle.sheet_spec.specs.Rules.{sheetFault}
-use Rattle.sheet_spec.specs.Sound.{Sound, check-sound, nodes-most}
+use Rattle.sheet_spec.specs.Refusals.{sheetFault}
+use Rattle.sheet_spec.specs.Sound.{Sound}
+use Rattle.sheet_spec.specs.SoundLaws.{nodes-most, check-sound}
 use Rattle.refinement_spec.specs.ViolatingPairs.{violating}
 use Rattle.comparison_spec.specs.declared.Outcome.{Outcome}
 use Rattle.comparison_spec.specs.declared.Outcome.the-variants.{Denied}

@@ -4,7 +4,7 @@ ghost use mathlib.Core.Path.{_≡_};
 ghost use Prim.Native.Nat.{_≤_};
 ghost use Rattle.base.specs.Range.{first};
 ghost use Rattle.events.specs.Sets.{has};
-ghost use Rattle.sheet_spec.specs.Rules.{sheetFault};
+ghost use Rattle.sheet_spec.specs.Refusals.{sheetFault};
 ghost use Rattle.comparison_spec.specs.Comparison.{named};
 ghost use Rattle.comparison.specs.Told.{told, Fits};
 use comparison_spec::Outcome;

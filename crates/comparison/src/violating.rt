@@ -1,7 +1,7 @@
 // The violating pairs of two sheets, laid out once in a flat table that the search of a comparison reads.
 ghost use mathlib.Core.Path.{_≡_};
 ghost use Rattle.base.specs.Table.{upTo};
-ghost use Rattle.sheet_spec.specs.Rules.{sheetFault};
+ghost use Rattle.sheet_spec.specs.Refusals.{sheetFault};
 ghost use Rattle.sheet_rows.specs.Tables.{initialsIn};
 ghost use Rattle.comparison.specs.ViolatingTable.{violatingTable};
 use sheet_spec::Sheet;

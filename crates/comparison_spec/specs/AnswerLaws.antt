@@ -7,8 +7,9 @@ use lib.ListN.{length, take}
 use borrow.Author.Tests.{lt-ltb}
 use Rattle.base.specs.Front.{atFront-taken}
 use Rattle.sheet_spec.specs.declared.Sheet.{Sheet}
-use Rattle.sheet_spec.specs.Rules.{sheetFault}
-use Rattle.sheet_spec.specs.Sound.{Sound, check-sound}
+use Rattle.sheet_spec.specs.Refusals.{sheetFault}
+use Rattle.sheet_spec.specs.Sound.{Sound}
+use Rattle.sheet_spec.specs.SoundLaws.{check-sound}
 use Rattle.comparison_spec.specs.declared.Outcome.{Outcome}
 use Rattle.comparison_spec.specs.declared.Outcome.the-variants.{Refines}
 use Rattle.comparison_spec.specs.Comparison.{pairCount, nearest, nearestTrace, clearedOf, compareFault, outcomeOf, traceAfter}

@@ -12,9 +12,9 @@ use Rattle.base.specs.Finds.{finds-le}
 use Rattle.base.specs.Front.{atFront, atFront-before, atFront-behind}
 use Rattle.base.specs.Refusal.{unless, unless-hit, unless-pass, unless-none, unless-other}
 use Rattle.sheet_spec.specs.declared.Sheet.{Sheet}
-use Rattle.sheet_spec.specs.Rules.{sheetFault}
-use Rattle.sheet_spec.specs.CheckLaws.{Own, NotOwn, further, finally}
-use Rattle.sheet_spec.specs.PairFaults.{BothAccepted, pair-reference, pair-device, pair-sheet, pair-11, pair-rest}
+use Rattle.sheet_spec.specs.Refusals.{sheetFault, BothAccepted, Own, NotOwn}
+use Rattle.sheet_spec.specs.Chains.{further, finally}
+use Rattle.sheet_spec.specs.PairFaults.{pair-reference, pair-device, pair-sheet, pair-11, pair-rest}
 use Rattle.comparison_spec.specs.declared.Outcome.the-variants.{Denied}
 use Rattle.comparison_spec.specs.Numbers.{compared}
 use Rattle.comparison_spec.specs.Comparison.{pairCount, workWords, nearest, nearestTrace, comparisonOf, compareFault, outcomeOf, traceAfter, workAfter}

@@ -13,7 +13,7 @@ use Rattle.walks.specs.Pairs.{pairDistance, pairTrace, pairCleared}
 use Rattle.sheet_spec.specs.declared.Row.{Row}
 use Rattle.sheet_spec.specs.declared.Sheet.{Sheet}
 use Rattle.sheet_spec.specs.Kept.{row, graph, acceptances}
-use Rattle.sheet_spec.specs.Rules.{pairFault}
+use Rattle.sheet_spec.specs.Refusals.{pairFault}
 use Rattle.probes_spec.specs.declared.Missed.{Missed}
 use Rattle.probes_spec.specs.declared.Missed.the-variants.{Nothing, Found}
 use Rattle.probes_spec.specs.FirstMissed.{firstMissed}

@@ -12,8 +12,7 @@ use Rattle.base.specs.Truth.{dec, clash, lt-or-ge, not-i}
 use Rattle.walks.specs.Pairs.{pairCleared}
 use Rattle.sheet_spec.specs.declared.Row.{Row}
 use Rattle.sheet_spec.specs.declared.Sheet.{Sheet}
-use Rattle.sheet_spec.specs.Kept.{row, graph, acceptances}
-use Rattle.sheet_spec.specs.Faults.{Initial}
+use Rattle.sheet_spec.specs.Kept.{row, acceptances, Initial, graph}
 use Rattle.sheet_spec.specs.RowLaws.{acceptances-length, acceptances-at}
 use Rattle.sheet_spec.specs.Sound.{Sound}
 use Rattle.probes_spec.specs.declared.Missed.{Missed}

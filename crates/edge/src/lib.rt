@@ -3,7 +3,7 @@
 // pointer, structs by value; all in the layout of C (include/bench.h). Each result is equated with the definition of
 // the call, in 01's numbers for each case of its answer.
 ghost use mathlib.Core.Path.{_≡_};
-ghost use Rattle.sheet_spec.specs.Rules.{sheetFault};
+ghost use Rattle.sheet_spec.specs.Refusals.{sheetFault};
 ghost use Rattle.sheet_spec.specs.Reading.{readSheet};
 ghost use Rattle.probes_spec.specs.Listing.{listedNumbers, listedOf, listAfter};
 ghost use Rattle.tests_spec.specs.Flags.{flag};

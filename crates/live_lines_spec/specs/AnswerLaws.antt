@@ -9,8 +9,8 @@ use lib.Dec.{eqb}
 use lib.ListN.{length, length-append}
 use borrow.Author.Tests.{eq-eqb, ne-eqb}
 use Rattle.sheet_spec.specs.declared.Sheet.{Sheet}
-use Rattle.sheet_spec.specs.Rules.{sheetFault}
-use Rattle.sheet_spec.specs.Reading.{bytesFault, answer, readSheet}
+use Rattle.sheet_spec.specs.Refusals.{bytesFault, sheetFault}
+use Rattle.sheet_spec.specs.Reading.{answer, readSheet}
 use Rattle.sheet_spec.specs.Accepted.{read-accepted}
 use Rattle.text_spec.specs.Lines.{ascii, numberLine}
 use Rattle.text_spec.specs.Sets.{members, setWords}

@@ -13,7 +13,7 @@ use borrow.Author.Tests.{eqb-true, eq-eqb, leb-true, leb-false, le-leb}
 use Rattle.base.specs.Truth.{dec, and-l, and-r, and-i, not-i}
 use Rattle.base.specs.Range.{all→, all←}
 use Rattle.sheet_spec.specs.declared.Sheet.{Sheet}
-use Rattle.sheet_spec.specs.Sound.{check-sound}
+use Rattle.sheet_spec.specs.SoundLaws.{check-sound}
 use Rattle.text_spec.specs.Lines.{ascii, decimal}
 use Rattle.text_spec.specs.DecimalLaws.{valueFrom, decimal-value}
 use Rattle.tests_spec.specs.declared.Run.{Run}

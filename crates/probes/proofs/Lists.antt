@@ -11,8 +11,8 @@ use Rattle.sheet_spec.specs.declared.Sheet.{Sheet}
 use Rattle.sheet_spec.specs.Kept.{row}
 use Rattle.sheet_spec.specs.Form.{SheetForm}
 use Rattle.sheet_spec.specs.RowLaws.{acceptances-take}
-use Rattle.sheet_spec.specs.Rules.{sheetFault}
-use Rattle.sheet_spec.specs.Sound.{check-sound}
+use Rattle.sheet_spec.specs.Refusals.{sheetFault}
+use Rattle.sheet_spec.specs.SoundLaws.{check-sound}
 use Rattle.probes_spec.specs.declared.Listed.{Listed}
 use Rattle.probes_spec.specs.declared.Listed.the-variants.{Count, Denied}
 use Rattle.probes_spec.specs.Probes.{probes}

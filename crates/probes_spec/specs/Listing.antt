@@ -8,7 +8,7 @@ use Rattle.base.specs.Refusal.{unless, orElse}
 use Rattle.base.specs.Front.{atFront}
 use Rattle.sheet_spec.specs.declared.Sheet.{Sheet}
 use Rattle.sheet_spec.specs.Kept.{row, acceptances}
-use Rattle.sheet_spec.specs.Rules.{sheetFault}
+use Rattle.sheet_spec.specs.Refusals.{sheetFault}
 use Rattle.probes_spec.specs.declared.Listed.{Listed}
 use Rattle.probes_spec.specs.declared.Listed.the-variants.{Count, Denied}
 use Rattle.probes_spec.specs.Probes.{probes}

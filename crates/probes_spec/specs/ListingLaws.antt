@@ -16,10 +16,11 @@ use Rattle.base.specs.Front.{atFront, atFront-length, atFront-before, atFront-b
 use Rattle.base.specs.Refusal.{unless, unless-hit, unless-pass, unless-none, unless-other, orElse-some, orElse-first, orElse-then}
 use Rattle.sheet_spec.specs.declared.Sheet.{Sheet}
 use Rattle.sheet_spec.specs.Kept.{row, acceptance, acceptances, mayStop}
-use Rattle.sheet_spec.specs.Rules.{sheetFault}
-use Rattle.sheet_spec.specs.CheckLaws.{Own, check-other}
+use Rattle.sheet_spec.specs.Refusals.{sheetFault, Own}
+use Rattle.sheet_spec.specs.CheckLaws.{check-other}
 use Rattle.sheet_spec.specs.RowLaws.{mayStop-means, acceptances-length, acceptances-at}
-use Rattle.sheet_spec.specs.Sound.{Sound, check-sound}
+use Rattle.sheet_spec.specs.Sound.{Sound}
+use Rattle.sheet_spec.specs.SoundLaws.{check-sound}
 use Rattle.probes_spec.specs.declared.Listed.the-variants.{Count, Denied}
 use Rattle.probes_spec.specs.Probes.{probes, Probe, Narrow}
 use Rattle.probes_spec.specs.ProbeLaws.{probe-at, probe-listed, probes-few, probes-none, probes-some}

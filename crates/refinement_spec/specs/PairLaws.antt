@@ -13,8 +13,7 @@ use Rattle.base.specs.Range.{any→, any←, not-any, first, first-at, first-be
 use Rattle.events.specs.Bit.{bit, bit·zero, bit·suc, bit≤1, bits-zero, some-bit, bit-rest, bit-high, Within, Apart}
 use Rattle.events.specs.Sets.{has, has→, has←, has-not, inside→, inside←}
 use Rattle.sheet_spec.specs.declared.Row.{Row}
-use Rattle.sheet_spec.specs.Kept.{acceptance, initials}
-use Rattle.sheet_spec.specs.Faults.{Initial}
+use Rattle.sheet_spec.specs.Kept.{acceptance, initials, Initial}
 use Rattle.sheet_spec.specs.RuleLaws.{initials→, initials←}
 use Rattle.refinement_spec.specs.Refinement.{MayRefuse}
 use Rattle.refinement_spec.specs.ViolatingPairs.{strays, hasStray, firstStray, covers, hasRefusal, violates}

@@ -7,8 +7,7 @@ use Prim.Native.Nat.{ℕ, _<_}
 use Rattle.events.specs.Bit.{Apart}
 use Rattle.sheet_spec.specs.declared.Row.{Row}
 use Rattle.sheet_spec.specs.declared.Sheet.{Sheet}
-use Rattle.sheet_spec.specs.Kept.{row, acceptance, Walk}
-use Rattle.sheet_spec.specs.Faults.{Initial}
+use Rattle.sheet_spec.specs.Kept.{row, acceptance, Initial, Walk}
 
 -- the events of t lead from node 0 to node v
 abbrev pub After : Sheet → List ℕ → ℕ → Type 0

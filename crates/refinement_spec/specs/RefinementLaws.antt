@@ -12,8 +12,7 @@ use Rattle.base.specs.Truth.{dec, lt-or-ge}
 use Rattle.walks.specs.Graph.{walk, walk-snoc, walk-front, snoc-ind}
 use Rattle.walks.specs.Pairs.{PairLeads, pair-bound, pairDistance, pairDistance-means, pairDistance-none}
 use Rattle.sheet_spec.specs.declared.Sheet.{Sheet}
-use Rattle.sheet_spec.specs.Kept.{row, successor, acceptance, step, graph}
-use Rattle.sheet_spec.specs.Faults.{Initial}
+use Rattle.sheet_spec.specs.Kept.{row, successor, acceptance, Initial, step, graph}
 use Rattle.sheet_spec.specs.RuleLaws.{Walk→, Walk←}
 use Rattle.sheet_spec.specs.Sound.{Sound}
 use Rattle.refinement_spec.specs.Refinement.{After, Trace, Does, MayRefuse, Refuses, Strays, Overrefuses}

@@ -7,7 +7,9 @@ use borrow.Author.Tests.{ne-eqb}
 use Rattle.base.specs.Refusal.{orElse, orElse→, orElse-some, orElse-assoc}
 use Rattle.sheet_spec.specs.declared.Sheet.{Sheet}
 use Rattle.sheet_spec.specs.declared.ReadSheet.{ReadSheet}
-use Rattle.sheet_spec.specs.Reading.{byte, headFault, layoutFault, sheetOf, graphFault, bytesFault, zeroSheet, answer, readSheet}
+use Rattle.sheet_spec.specs.Reading.{zeroSheet, answer, readSheet}
+use Rattle.sheet_spec.specs.Spelling.{byte, sheetOf}
+use Rattle.sheet_spec.specs.Refusals.{headFault, layoutFault, graphFault, bytesFault}
 use Rattle.sheet_spec.specs.RuleLaws.{ranges→}
 use Rattle.sheet_spec.specs.Places.{head}
 

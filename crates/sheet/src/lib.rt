@@ -2,7 +2,7 @@
 // content: `read` answers with the sheet or the number of the refusal, `check` with the number, 0 for none.
 ghost use mathlib.Core.Path.{_≡_};
 ghost use Prim.Native.Nat.{_<_};
-ghost use Rattle.sheet_spec.specs.Rules.{sheetFault};
+ghost use Rattle.sheet_spec.specs.Refusals.{sheetFault};
 ghost use Rattle.sheet_spec.specs.Reading.{zeroSheet, answer, readSheet};
 use sheet_spec::ReadSheet;
 use sheet_spec::Row;

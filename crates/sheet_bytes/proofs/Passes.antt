@@ -4,7 +4,8 @@ use mathlib.Core.List.{List}
 use Prim.Native.Nat.{ℕ}
 use native.Mathlib.Omega.{arith}
 use Rattle.base.specs.Refusal.{orElse, orElse-some}
-use Rattle.sheet_spec.specs.Reading.{byte, headFault, layoutFault}
+use Rattle.sheet_spec.specs.Spelling.{byte}
+use Rattle.sheet_spec.specs.Refusals.{headFault, layoutFault}
 
 -- k and l are the answers of the two passes, x and y the bytes E and N
 module _ (b : List ℕ) {k : ℕ} (p : k ≡ headFault b) where

@@ -4,7 +4,7 @@ use mathlib.Core.List.{List}
 use Prim.Native.Nat.{ℕ, _+_}
 use lib.Dec.{eqb, leb}
 use lib.ListN.{length}
-use Rattle.sheet_spec.specs.Reading.{lengthField}
+use Rattle.sheet_spec.specs.Spelling.{lengthField}
 
 -- 1: at least 7 bytes, and as many as the first four say
 unfoldable pub lengthOk : List ℕ → Bool

@@ -2,7 +2,8 @@
 // nodes. Reads past the end give 0.
 ghost use mathlib.Core.Path.{_≡_};
 ghost use Prim.Native.Nat.{_+_, _≤_, _<_};
-ghost use Rattle.sheet_spec.specs.Reading.{byte, word, headFault, nextAt, layoutFault};
+ghost use Rattle.sheet_spec.specs.Spelling.{byte, word, nextAt};
+ghost use Rattle.sheet_spec.specs.Refusals.{headFault, layoutFault};
 ghost use Rattle.sheet_bytes.specs.LayoutShapes.{lengthOk};
 
 // The byte at a place, 0 past the end.

@@ -6,8 +6,8 @@ ghost use mathlib.Core.Path.{_≡_};
 ghost use Prim.Native.Nat.{_≤_, _<_};
 ghost use Rattle.base.specs.Table.{upTo};
 ghost use Rattle.base.specs.Refusal.{orElse};
-ghost use Rattle.sheet_spec.specs.Reading.{eventCount, nodeCount, nodesAt, headFault, layoutFault};
-ghost use Rattle.sheet_spec.specs.Reading.{startOf, succOf, setsOf, rowAt, unusedRow, rowOf, sheetOf};
+ghost use Rattle.sheet_spec.specs.Spelling.{eventCount, nodeCount, nodesAt, startOf, succOf, setsOf, rowAt, unusedRow, rowOf, sheetOf};
+ghost use Rattle.sheet_spec.specs.Refusals.{headFault, layoutFault};
 use sheet_spec::Row;
 use sheet_spec::Sheet;
 

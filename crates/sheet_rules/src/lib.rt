@@ -7,8 +7,8 @@ mod sets;
 
 ghost use mathlib.Core.Path.{_≡_};
 ghost use Prim.Native.Nat.{_≤_};
-ghost use Rattle.sheet_spec.specs.Rules.{rangesOk, countOk, countsOk, successorsOk, setsOk, blanksOk, sheetFault};
-ghost use Rattle.sheet_spec.specs.Reading.{graphFault};
+ghost use Rattle.sheet_spec.specs.Rules.{rangesOk, countOk, countsOk, successorsOk, setsOk, blanksOk};
+ghost use Rattle.sheet_spec.specs.Refusals.{graphFault, sheetFault};
 use sheet_spec::Sheet;
 
 // 3: whether E and N are in range.

@@ -14,8 +14,9 @@ use Rattle.base.specs.Refusal.{unless→, unless←}
 use Rattle.base.specs.Table.{upTo, getD-upTo}
 use Rattle.sheet_spec.specs.declared.Sheet.{Sheet}
 use Rattle.sheet_spec.specs.Kept.{noRow, row, successor, acceptance}
-use Rattle.sheet_spec.specs.Rules.{rangesOk, countOk, countsOk, successorsOk, setsOk, blank, unusedOk, blanksOk, reachedOk, sheetFault}
-use Rattle.sheet_spec.specs.Reading.{eventCount, nodeCount, countAt, startOf, succOf, setsOf, rowAt, unusedRow, rowOf, sheetOf, graphFault, bytesFault}
+use Rattle.sheet_spec.specs.Rules.{rangesOk, countOk, countsOk, successorsOk, setsOk, blank, unusedOk, blanksOk, reachedOk}
+use Rattle.sheet_spec.specs.Refusals.{graphFault, bytesFault, sheetFault}
+use Rattle.sheet_spec.specs.Spelling.{eventCount, nodeCount, countAt, startOf, succOf, setsOf, rowAt, unusedRow, rowOf, sheetOf}
 use Rattle.sheet_spec.specs.Places.{Accepts, accepts, whole}
 
 -- every test of a kept sheet passes; a field's number is the refusal's

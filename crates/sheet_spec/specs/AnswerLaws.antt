@@ -2,30 +2,14 @@
 use mathlib.Core.Path.{_≡_, refl}
 use mathlib.Core.Logic.{_≢_}
 use mathlib.Core.List.{List}
-use Prim.Native.Nat.{ℕ, _<_}
-use lib.ListN.{length, getD, replicate, length-replicate, getD-replicate}
+use Prim.Native.Nat.{ℕ}
+use lib.ListN.{replicate, length-replicate, getD-replicate}
 use borrow.Author.Tests.{eq-eqb, ne-eqb}
 use Rattle.sheet_spec.specs.declared.Row.{Row}
-use Rattle.sheet_spec.specs.declared.Sheet.{Sheet}
-use Rattle.sheet_spec.specs.Kept.{noRow, row}
-use Rattle.sheet_spec.specs.Rules.{sheetFault}
-use Rattle.sheet_spec.specs.Reading.{zeroSheet, answer, readSheet, bytesFault}
+use Rattle.sheet_spec.specs.Kept.{noRow}
+use Rattle.sheet_spec.specs.Refusals.{bytesFault, sheetFault}
+use Rattle.sheet_spec.specs.Reading.{zeroSheet, answer, readSheet, ZeroRow, Zero}
 use Rattle.sheet_spec.specs.Accepted.{read-accepted}
-
--- 0 in every place of a row
-pub record ZeroRow (r : Row) : Type 0 where
-  pub succs : length (r .succ) ≡ 12
-  pub succ-zero : (i : ℕ) → i < 12 → getD (r .succ) i 255 ≡ 0
-  pub sets : length (r .sets) ≡ 16
-  pub set-zero : (j : ℕ) → j < 16 → getD (r .sets) j 255 ≡ 0
-  pub c-zero : r .c ≡ 0
-
--- 0 in every place of a sheet
-pub record Zero (s : Sheet) : Type 0 where
-  pub rows : length (s .rows) ≡ 32
-  pub each : (v : ℕ) → v < 32 → ZeroRow (row s v)
-  pub e-zero : s .e ≡ 0
-  pub n-zero : s .n ≡ 0
 
 -- the row of zeros
 abbrev zeros : Row

@@ -5,65 +5,14 @@ use mathlib.Core.Logic.{_⊎_, inl, inr, _≢_, _↔_}
 use mathlib.Core.Bool.{Bool, true, false, _&&_}
 use Prim.Native.Nat.{ℕ, _≤_, _<_}
 use native.Mathlib.Omega.{arith}
-use Rattle.base.specs.Truth.{dec}
 use Rattle.base.specs.Finds.{Finds, finds-and}
 use Rattle.base.specs.Refusal.{unless, unless-hit, unless-pass, unless-other, unless-none}
 use Rattle.sheet_spec.specs.declared.Sheet.{Sheet}
-use Rattle.sheet_spec.specs.Rules.{rangesOk, countsOk, successorsOk, setsOk, blanksOk, reachedOk, sheetFault}
-use Rattle.sheet_spec.specs.Faults.{RangeFault, CountFault, SuccessorFault, SetFault, UnusedFault, ReachFault}
-use Rattle.sheet_spec.specs.RuleLaws.{Ranges, ranges→, ranges-find, counts-find, successors-find, sets-find, blanks-find, reached-finds}
-
--- E and N are in range: what the later tests rely on
-pub in-range : (e n : ℕ) → ¬ RangeFault e n → Ranges e n
-in-range e n f = go (dec (rangesOk e n))
-  where
-    go : (rangesOk e n ≡ true) ⊎ (rangesOk e n ≡ false) → Ranges e n
-    go (inl t) = ranges→ e n t
-    go (inr t) = absurd (f (ranges-find e n .fault t))
-
--- one rule more is kept, and the last part is another fact
-pub further : {X A B C D : Type 0} → X ↔ (A × B) → (A → B ↔ (C × D)) → X ↔ ((A × C) × D)
-further p q =
-    ((λ x. let a = p .0 x in let c = q (a .0) .0 (a .1) in ((a .0, c .0), c .1)), λ y. p .1 (y .0 .0, q (y .0 .0) .1 (y .0 .1, y .1)))
-
-pub finally : {X A B C : Type 0} → X ↔ (A × B) → (A → B ↔ C) → X ↔ (A × C)
-finally p q = ((λ x. let a = p .0 x in (a .0, q (a .0) .0 (a .1))), λ y. p .1 (y .0, q (y .0) .1 (y .1)))
-
--- a number of a sheet's own: one that its refusal can have
-abbrev pub Own : ℕ → Type 0
-Own m = (0 < m) × (m ≤ 8)
-
--- a number that no sheet's refusal has, such as those of the calls
-abbrev pub NotOwn : ℕ → Type 0
-NotOwn m = 8 < m
-
--- a number above k, or none
-abbrev pub Above : ℕ → ℕ → Type 0
-Above k m = (k < m) ⊎ (m ≡ 0)
-
-pub less : {j k m : ℕ} → j ≤ k → Above k m → Above j m
-less l (inl h) = inl (omega arith)
-less l (inr h) = inr h
-
-pub above : {j k m : ℕ} → 0 < j → j ≤ k → Above k m → j ≢ m
-above z l (inl h) p = omega arith
-above z l (inr h) p = omega arith
-
--- a kept sheet has no fault whose number is up to 3
-abbrev pub Clear3 : Sheet → Type 0
-Clear3 s = ¬ RangeFault (s .e) (s .n)
-
--- a kept sheet has no fault whose number is up to 5
-abbrev pub Clear5 : Sheet → Type 0
-Clear5 s = Clear3 s × (¬ CountFault s)
-
--- a kept sheet has no fault whose number is up to 6
-abbrev pub Clear6 : Sheet → Type 0
-Clear6 s = Clear5 s × (¬ SuccessorFault s)
-
--- a kept sheet has no fault whose number is up to 7
-abbrev pub Clear7 : Sheet → Type 0
-Clear7 s = Clear6 s × (¬ (SetFault s ⊎ UnusedFault s))
+use Rattle.sheet_spec.specs.Rules.{rangesOk, countsOk, successorsOk, setsOk, blanksOk, reachedOk}
+use Rattle.sheet_spec.specs.Refusals.{sheetFault, Own, NotOwn}
+use Rattle.sheet_spec.specs.Faults.{RangeFault, CountFault, SuccessorFault, SetFault, UnusedFault, ReachFault, Clear3, Clear5, Clear6, Clear7}
+use Rattle.sheet_spec.specs.RuleLaws.{ranges-find, counts-find, successors-find, sets-find, blanks-find, reached-finds, in-range}
+use Rattle.sheet_spec.specs.Chains.{further, finally, Above, less, above}
 
 -- what is tested of a kept sheet after 7
 abbrev after7 : Sheet → ℕ

@@ -9,9 +9,10 @@ use Prim.Native.Nat.{ℕ, _≤_}
 use lib.ListN.{length}
 use Rattle.sheet_spec.specs.declared.Sheet.{Sheet}
 use Rattle.sheet_spec.specs.declared.ReadSheet.{ReadSheet}
-use Rattle.sheet_spec.specs.Rules.{sheetFault}
+use Rattle.sheet_spec.specs.Refusals.{headFault, layoutFault, bytesFault, sheetFault}
 use Rattle.sheet_spec.specs.Form.{Bytes, SheetForm}
-use Rattle.sheet_spec.specs.Reading.{eventCount, nodeCount, nodesAt, headFault, layoutFault, sheetOf, bytesFault, answer, readSheet}
+use Rattle.sheet_spec.specs.Reading.{answer, readSheet, accepted}
+use Rattle.sheet_spec.specs.Spelling.{eventCount, nodeCount, nodesAt, sheetOf}
 use Rattle.sheet_spec.specs.Encoding.{encode}
 use Rattle.sheet_spec.specs.Places.{accepted-length}
 use Rattle.sheet_spec.specs.Accepted.{read-accepted}
@@ -20,10 +21,6 @@ use Rattle.sheet_spec.specs.Spelled.{encode-sheetOf}
 use Rattle.sheet_spec.specs.Formed as formed
 use Rattle.sheet_spec.specs.Written.{sheetOf-encode, encode-accepted}
 use Rattle.sheet_spec.specs.Octets.{bytes-encode}
-
--- the answer that accepts: no refusal, and the sheet
-abbrev pub accepted : Sheet → ReadSheet
-accepted s = record { refusal = 0; sheet = s }
 
 -- bytes that are not refused are read as the sheet that they spell
 pub reads : (b : List ℕ) → bytesFault b ≡ 0 → readSheet b ≡ accepted (sheetOf b)

@@ -16,7 +16,8 @@ use Rattle.sheet_spec.specs.declared.Row.{Row}
 use Rattle.sheet_spec.specs.Kept.{noRow}
 use Rattle.sheet_spec.specs.Rules.{countOk}
 use Rattle.sheet_spec.specs.Form.{Bytes, RowForm}
-use Rattle.sheet_spec.specs.Reading.{eventCount, nodeCount, nodesAt, countAt, nextAt, layoutFault, startOf, rowAt}
+use Rattle.sheet_spec.specs.Spelling.{eventCount, nodeCount, nodesAt, countAt, nextAt, startOf, rowAt}
+use Rattle.sheet_spec.specs.Refusals.{layoutFault}
 use Rattle.sheet_spec.specs.Encoding.{encodeSets, encodeRow, encodeRows}
 use Rattle.sheet_spec.specs.Faults.{BadCount, GoodRows, Follow, ShortNode, CutFault, BytesCountFault}
 use Rattle.sheet_spec.specs.RuleLaws.{count-finds}

@@ -1,6 +1,6 @@
 -- What breaks the rules of a sheet (01, "Who can cause a refusal"), said with "there is" and "for every" over nodes,
--- places, events and lists, with no test in it. CheckLaws and ReadLaws say that each refusal is given exactly for its
--- fault.
+-- places, events and lists, with no test in it; then what has no fault up to a number, for bytes and for a kept sheet.
+-- CheckLaws and ReadLaws say that each refusal is given exactly for its fault.
 use mathlib.Core.Path.{_≡_}
 use mathlib.Core.Logic.{_⊎_, _≢_}
 use mathlib.Core.List.{List, _++_}
@@ -9,8 +9,8 @@ use lib.ListN.{length, getD, drop}
 use Rattle.events.specs.Bit.{bit, Within}
 use Rattle.sheet_spec.specs.declared.Row.{Row}
 use Rattle.sheet_spec.specs.declared.Sheet.{Sheet}
-use Rattle.sheet_spec.specs.Kept.{noRow, row, successor, acceptance, Walk}
-use Rattle.sheet_spec.specs.Reading.{lengthField, version, eventCount, nodeCount}
+use Rattle.sheet_spec.specs.Kept.{noRow, row, successor, acceptance, Walk, Initial}
+use Rattle.sheet_spec.specs.Spelling.{lengthField, version, eventCount, nodeCount, sheetOf}
 use Rattle.sheet_spec.specs.Encoding.{encodeRows}
 use Rattle.sheet_spec.specs.Form.{RowForm}
 
@@ -29,10 +29,6 @@ CountFault s = (v : ℕ) × (v < s .n) × BadCount (row s v .c)
 -- 6: some node has on some event a successor that is neither 255 nor below N
 abbrev pub SuccessorFault : Sheet → Type 0
 SuccessorFault s = (v : ℕ) × (v < s .n) × ((i : ℕ) × (i < s .e) × ((successor (row s v) i ≢ 255) × (s .n ≤ successor (row s v) i)))
-
--- event i, below e, has a successor in a row
-abbrev pub Initial : ℕ → Row → ℕ → Type 0
-Initial e r i = (i < e) × (successor r i ≢ 255)
 
 -- 7: the sets of a row are not strictly ascending, one has an event that is no initial, one is included in another, or
 -- the empty set does not stand alone
@@ -93,3 +89,43 @@ abbrev pub BytesCountFault : List ℕ → Type 0
 BytesCountFault b =
     (rows : List Row) × (rest : List ℕ) × Follow b rows rest
     × (length rows < nodeCount b) × (eventCount b < length rest) × BadCount (getD rest (eventCount b) 0)
+
+-- bytes have no fault whose number is up to 1
+abbrev pub ReadClear1 : List ℕ → Type 0
+ReadClear1 b = ¬ LengthFault b
+
+-- bytes have no fault whose number is up to 2
+abbrev pub ReadClear2 : List ℕ → Type 0
+ReadClear2 b = ReadClear1 b × (¬ VersionFault b)
+
+-- bytes have no fault whose number is up to 3
+abbrev pub ReadClear3 : List ℕ → Type 0
+ReadClear3 b = ReadClear2 b × (¬ RangeFault (eventCount b) (nodeCount b))
+
+-- bytes have no fault whose number is up to 5; 4 and 5 are found by position
+abbrev pub ReadClear5 : List ℕ → Type 0
+ReadClear5 b = ReadClear3 b × ((¬ CutFault b) × (¬ BytesCountFault b))
+
+-- bytes have no fault whose number is up to 6
+abbrev pub ReadClear6 : List ℕ → Type 0
+ReadClear6 b = ReadClear5 b × (¬ SuccessorFault (sheetOf b))
+
+-- bytes have no fault whose number is up to 7
+abbrev pub ReadClear7 : List ℕ → Type 0
+ReadClear7 b = ReadClear6 b × (¬ SetFault (sheetOf b))
+
+-- a kept sheet has no fault whose number is up to 3
+abbrev pub Clear3 : Sheet → Type 0
+Clear3 s = ¬ RangeFault (s .e) (s .n)
+
+-- a kept sheet has no fault whose number is up to 5
+abbrev pub Clear5 : Sheet → Type 0
+Clear5 s = Clear3 s × (¬ CountFault s)
+
+-- a kept sheet has no fault whose number is up to 6
+abbrev pub Clear6 : Sheet → Type 0
+Clear6 s = Clear5 s × (¬ SuccessorFault s)
+
+-- a kept sheet has no fault whose number is up to 7
+abbrev pub Clear7 : Sheet → Type 0
+Clear7 s = Clear6 s × (¬ (SetFault s ⊎ UnusedFault s))

@@ -1,4 +1,5 @@
 -- A kept sheet (01, "A sheet"): its rows, the initials of a node, and the graph that its successors draw.
+use mathlib.Core.Logic.{_≢_}
 use mathlib.Core.Path.{_≡_}
 use mathlib.Core.Bool.{Bool, not, _&&_, cond}
 use mathlib.Core.List.{List, [], _∷_}
@@ -39,6 +40,10 @@ acceptances r = upTo (acceptance r) (r .c)
 -- the initials of a row, as a set: the events below e with a successor
 unfoldable pub initials : ℕ → Row → ℕ
 initials e r = setOf (λ i. ltb i e && not (eqb (successor r i) 255)) 12
+
+-- event i, below e, has a successor in a row
+abbrev pub Initial : ℕ → Row → ℕ → Type 0
+Initial e r i = (i < e) × (successor r i ≢ 255)
 
 -- the node may stop: one of its sets is the empty one
 unfoldable pub mayStop : Row → Bool

@@ -1,24 +1,34 @@
+-- layout: what a sheet is, how it is written, and what bytes spell
 pub mod Kept
+pub mod Form
+pub mod Encoding
+pub mod Spelling
+-- rules: as tests, as faults, and as what an accepted sheet keeps
 pub mod Rules
+pub mod Faults
+pub mod Sound
+-- refusals: of bytes and of a kept sheet, in their two orders of numbers
+pub mod Refusals
+-- reading: what is answered, and the sheets of 01's cases
 pub mod Reading
 pub mod Examples
-pub mod Encoding
-pub mod Form
-pub mod Faults
-pub mod RuleLaws
+-- laws
+pub mod AnswerLaws
+pub mod ReadLaws
 pub mod CheckLaws
 pub mod PairFaults
-pub mod Walked
+pub mod EncodingLaws
+pub mod RuleLaws
+pub mod RowLaws
+pub mod SoundLaws
+-- steps of their proofs
+pub mod Chains
+pub mod Slices
 pub mod Places
 pub mod Accepted
-pub mod Slices
 pub mod Spelled
 pub mod Written
 pub mod Octets
 pub mod Formed
+pub mod Walked
 pub mod Ends
-pub mod ReadLaws
-pub mod EncodingLaws
-pub mod Sound
-pub mod RowLaws
-pub mod AnswerLaws

@@ -8,12 +8,9 @@ use lib.Dec.{eqb}
 use Rattle.base.specs.Finds.{finds-eq}
 use Rattle.base.specs.Refusal.{unless, orElse, unless-hit, unless-pass, unless-other, orElse-some, orElse-first, orElse-then}
 use Rattle.sheet_spec.specs.declared.Sheet.{Sheet}
-use Rattle.sheet_spec.specs.Rules.{sheetFault, pairFault}
-use Rattle.sheet_spec.specs.CheckLaws.{Own, NotOwn, check-other, further, finally}
-
--- neither sheet is refused
-abbrev pub BothAccepted : Sheet → Sheet → Type 0
-BothAccepted P Q = (sheetFault P ≡ 0) × (sheetFault Q ≡ 0)
+use Rattle.sheet_spec.specs.Refusals.{sheetFault, pairFault, Own, NotOwn, BothAccepted}
+use Rattle.sheet_spec.specs.CheckLaws.{check-other}
+use Rattle.sheet_spec.specs.Chains.{further, finally}
 
 module _ (P Q : Sheet) (rest : ℕ) where
   -- what is tested after the sheets' own refusals

@@ -12,9 +12,10 @@ use borrow.Author.Tests.{ltb-true, leb-true, eqb-true}
 use Rattle.base.specs.Truth.{and-l, and-r}
 use Rattle.base.specs.Refusal.{unless→, orElse→}
 use Rattle.sheet_spec.specs.Rules.{rangesOk, countOk}
-use Rattle.sheet_spec.specs.RuleLaws.{between→, Ranges, ranges→}
-use Rattle.sheet_spec.specs.Reading.{lengthField, version, eventCount, nodeCount, nodesAt, headFault, countAt}
-use Rattle.sheet_spec.specs.Reading.{nextAt, layoutFault, startOf, graphFault, sheetOf, bytesFault}
+use Rattle.sheet_spec.specs.RuleLaws.{between→, ranges→}
+use Rattle.sheet_spec.specs.Sound.{Ranges}
+use Rattle.sheet_spec.specs.Spelling.{lengthField, version, eventCount, nodeCount, nodesAt, countAt, nextAt, startOf, sheetOf}
+use Rattle.sheet_spec.specs.Refusals.{headFault, layoutFault, graphFault, bytesFault}
 
 -- what the bytes before the nodes say, where they are not refused
 pub record Head (b : List ℕ) : Type 0 where

@@ -13,10 +13,11 @@ use Rattle.base.specs.Finds.{Finds, finds-le, finds-eq, finds-and}
 use Rattle.base.specs.Refusal.{unless, orElse, unless-hit, unless-pass, unless-other, unless-none, orElse-first, orElse-then, orElse-other}
 use Rattle.sheet_spec.specs.declared.Sheet.{Sheet}
 use Rattle.sheet_spec.specs.Rules.{rangesOk, successorsOk, setsOk, reachedOk}
-use Rattle.sheet_spec.specs.Reading.{lengthField, version, eventCount, nodeCount, nodesAt, headFault, layoutFault, sheetOf, graphFault, bytesFault}
-use Rattle.sheet_spec.specs.Faults.{RangeFault, SuccessorFault, SetFault, ReachFault, LengthFault, VersionFault, CutFault, BytesCountFault}
-use Rattle.sheet_spec.specs.RuleLaws.{ranges-find, successors-find, sets-find, reached-finds}
-use Rattle.sheet_spec.specs.CheckLaws.{in-range, further, finally, Above, less, above}
+use Rattle.sheet_spec.specs.Spelling.{lengthField, version, eventCount, nodeCount, nodesAt, sheetOf}
+use Rattle.sheet_spec.specs.Refusals.{headFault, layoutFault, graphFault, bytesFault}
+use Rattle.sheet_spec.specs.Faults.{RangeFault, SuccessorFault, SetFault, ReachFault, LengthFault, VersionFault, CutFault, BytesCountFault, ReadClear1, ReadClear2, ReadClear3, ReadClear5, ReadClear6, ReadClear7}
+use Rattle.sheet_spec.specs.RuleLaws.{ranges-find, in-range, successors-find, sets-find, reached-finds}
+use Rattle.sheet_spec.specs.Chains.{further, finally, Above, less, above}
 use Rattle.sheet_spec.specs.Form.{Bytes}
 use Rattle.sheet_spec.specs.Walked.{layout-other}
 use Rattle.sheet_spec.specs.Ends.{layout-4, layout-5, layout-0}
@@ -29,30 +30,6 @@ graph-high z l s = unless-other (successorsOk s) (λ p. omega arith) (unless-oth
 graph-low : {m : ℕ} → 8 < m → (s : Sheet) → graphFault s ≢ m
 unfolding graphFault
 graph-low l s = unless-other (successorsOk s) (λ p. omega arith) (unless-other (setsOk s) (λ p. omega arith) (unless-other (reachedOk s) (λ p. omega arith) (λ p. omega arith)))
-
--- bytes have no fault whose number is up to 1
-abbrev pub ReadClear1 : List ℕ → Type 0
-ReadClear1 b = ¬ LengthFault b
-
--- bytes have no fault whose number is up to 2
-abbrev pub ReadClear2 : List ℕ → Type 0
-ReadClear2 b = ReadClear1 b × (¬ VersionFault b)
-
--- bytes have no fault whose number is up to 3
-abbrev pub ReadClear3 : List ℕ → Type 0
-ReadClear3 b = ReadClear2 b × (¬ RangeFault (eventCount b) (nodeCount b))
-
--- bytes have no fault whose number is up to 5; 4 and 5 are found by position
-abbrev pub ReadClear5 : List ℕ → Type 0
-ReadClear5 b = ReadClear3 b × ((¬ CutFault b) × (¬ BytesCountFault b))
-
--- bytes have no fault whose number is up to 6
-abbrev pub ReadClear6 : List ℕ → Type 0
-ReadClear6 b = ReadClear5 b × (¬ SuccessorFault (sheetOf b))
-
--- bytes have no fault whose number is up to 7
-abbrev pub ReadClear7 : List ℕ → Type 0
-ReadClear7 b = ReadClear6 b × (¬ SetFault (sheetOf b))
 
 module _ (b : List ℕ) where
   -- what is tested after the nodes are known to be whole

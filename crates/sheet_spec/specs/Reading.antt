@@ -1,105 +1,17 @@
--- Reading a sheet from its bytes (01, "A sheet", and the refusals 1 to 8 in their order). A byte past the end reads as
--- 0.
-use mathlib.Core.Bool.{_&&_, cond}
+-- What reading a sheet from its bytes answers: the sheet that they spell (Spelling), or a refusal 1 to 8 (Refusals) and 0
+-- in every other place.
+use mathlib.Core.Path.{_≡_}
+use mathlib.Core.Bool.{cond}
 use mathlib.Core.List.{List}
-use Prim.Native.Nat.{ℕ, zero, suc, _+_, _*_}
-use lib.Dec.{eqb, ltb, leb}
+use Prim.Native.Nat.{ℕ, _<_}
+use lib.Dec.{eqb}
 use lib.ListN.{length, getD, replicate}
-use Rattle.base.specs.Refusal.{unless, orElse}
-use Rattle.base.specs.Table.{upTo}
 use Rattle.sheet_spec.specs.declared.Row.{Row}
 use Rattle.sheet_spec.specs.declared.Sheet.{Sheet}
 use Rattle.sheet_spec.specs.declared.ReadSheet.{ReadSheet}
-use Rattle.sheet_spec.specs.Rules.{rangesOk, countOk, successorsOk, setsOk, reachedOk}
-
--- the byte at a place
-abbrev pub byte : List ℕ → ℕ → ℕ
-byte b i = getD b i 0
-
--- the number in the two bytes at a place, big-endian
-abbrev pub word : List ℕ → ℕ → ℕ
-word b i = byte b i * 256 + byte b (i + 1)
-
--- the first four bytes, big-endian: how many bytes follow these four
-unfoldable pub lengthField : List ℕ → ℕ
-lengthField b = word b 0 * 65536 + word b 2
-
--- the version: the byte after the length field
-abbrev pub version : List ℕ → ℕ
-version b = byte b 4
-
--- E: the byte after the version
-abbrev pub eventCount : List ℕ → ℕ
-eventCount b = byte b 5
-
--- N: the byte after E
-abbrev pub nodeCount : List ℕ → ℕ
-nodeCount b = byte b 6
-
--- the place from which on the nodes stand
-abbrev pub nodesAt : ℕ
-nodesAt = 7
-
--- 1, 2, 3: the refusal of the bytes before the nodes
-unfoldable pub headFault : List ℕ → ℕ
-headFault b =
-    unless (leb 7 (length b) && eqb (lengthField b + 4) (length b)) 1
-    (unless (eqb (version b) 1) 2
-    (unless (rangesOk (eventCount b) (nodeCount b)) 3 0))
-
--- the C of the node that begins at a place, after its e successors
-abbrev pub countAt : List ℕ → ℕ → ℕ → ℕ
-countAt b e at = byte b (at + e)
-
--- where the node after the one that begins at a place begins: e successors, C, and C two-byte sets
-unfoldable pub nextAt : List ℕ → ℕ → ℕ → ℕ
-nextAt b e at = at + e + 1 + countAt b e at * 2
-
--- 4 and 5, by position in one walk from the front: k nodes are left, and the next begins at a place
-unfoldable pub layoutFault : List ℕ → ℕ → ℕ → ℕ → ℕ
-layoutFault b e zero at = unless (eqb at (length b)) 4 0
-layoutFault b e (suc k) at =
-    unless (ltb (at + e) (length b)) 4
-    (unless (countOk (countAt b e at)) 5
-    (unless (leb (nextAt b e at) (length b)) 4
-    (layoutFault b e k (nextAt b e at))))
-
--- where node v begins
-unfoldable pub startOf : List ℕ → ℕ → ℕ → ℕ
-startOf b e zero = nodesAt
-startOf b e (suc v) = nextAt b e (startOf b e v)
-
--- event i of the node that begins at a place: its successor, 255 where it is unused
-unfoldable pub succOf : List ℕ → ℕ → ℕ → ℕ → ℕ
-succOf b at e i = cond (ltb i e) (byte b (at + i)) 255
-
--- place j of the sets that begin at a place: its two bytes, 0 where it is unused
-unfoldable pub setsOf : List ℕ → ℕ → ℕ → ℕ → ℕ
-setsOf b at c j = cond (ltb j c) (word b (at + j * 2)) 0
-
--- the row of the node that begins at a place
-unfoldable pub rowAt : List ℕ → ℕ → ℕ → Row
-rowAt b e at = record { succ = upTo (succOf b at e) 12; sets = upTo (setsOf b (at + e + 1) (countAt b e at)) 16; c = countAt b e at }
-
--- the row of an unused node
-abbrev pub unusedRow : Row
-unusedRow = record { succ = replicate 12 255; sets = replicate 16 0; c = 0 }
-
--- the row of node v, that of an unused node from n on
-unfoldable pub rowOf : List ℕ → ℕ → ℕ → ℕ → Row
-rowOf b e n v = cond (ltb v n) (rowAt b e (startOf b e v)) unusedRow
-
--- the sheet that the bytes spell
-unfoldable pub sheetOf : List ℕ → Sheet
-sheetOf b = record { rows = upTo (rowOf b (eventCount b) (nodeCount b)) 32; e = eventCount b; n = nodeCount b }
-
--- 6, 7, 8: the refusal of the graph, each test over the whole sheet
-unfoldable pub graphFault : Sheet → ℕ
-graphFault s = unless (successorsOk s) 6 (unless (setsOk s) 7 (unless (reachedOk s) 8 0))
-
--- the refusal of a sheet's bytes, 0 for none
-unfoldable pub bytesFault : List ℕ → ℕ
-bytesFault b = orElse (headFault b) (orElse (layoutFault b (eventCount b) (nodeCount b) nodesAt) (graphFault (sheetOf b)))
+use Rattle.sheet_spec.specs.Spelling.{sheetOf}
+use Rattle.sheet_spec.specs.Refusals.{bytesFault}
+use Rattle.sheet_spec.specs.Kept.{row}
 
 -- a sheet with 0 in every place
 abbrev pub zeroSheet : Sheet
@@ -112,3 +24,22 @@ answer k s = record { refusal = k; sheet = cond (eqb k 0) s zeroSheet }
 -- what reading answers
 unfoldable pub readSheet : List ℕ → ReadSheet
 readSheet b = answer (bytesFault b) (sheetOf b)
+
+-- the answer that accepts: no refusal, and the sheet
+abbrev pub accepted : Sheet → ReadSheet
+accepted s = record { refusal = 0; sheet = s }
+
+-- 0 in every place of a row
+pub record ZeroRow (r : Row) : Type 0 where
+  pub succs : length (r .succ) ≡ 12
+  pub succ-zero : (i : ℕ) → i < 12 → getD (r .succ) i 255 ≡ 0
+  pub sets : length (r .sets) ≡ 16
+  pub set-zero : (j : ℕ) → j < 16 → getD (r .sets) j 255 ≡ 0
+  pub c-zero : r .c ≡ 0
+
+-- 0 in every place of a sheet
+pub record Zero (s : Sheet) : Type 0 where
+  pub rows : length (s .rows) ≡ 32
+  pub each : (v : ℕ) → v < 32 → ZeroRow (row s v)
+  pub e-zero : s .e ≡ 0
+  pub n-zero : s .n ≡ 0

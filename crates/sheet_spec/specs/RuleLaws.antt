@@ -17,20 +17,14 @@ use Rattle.walks.specs.Graph.{WellFormed, walk, walk-none}
 use Rattle.walks.specs.Reach.{nearer, nearer-all}
 use Rattle.sheet_spec.specs.declared.Row.{Row}
 use Rattle.sheet_spec.specs.declared.Sheet.{Sheet}
-use Rattle.sheet_spec.specs.Kept.{row, successor, acceptance, initials, step, graph, Walk}
+use Rattle.sheet_spec.specs.Kept.{row, successor, acceptance, initials, Initial, step, graph, Walk}
 use Rattle.sheet_spec.specs.Rules.{between, rangesOk, countOk, countsOk, successorOk, rowSuccessorsOk, successorsOk, ascends, noneInside, setOk, rowSetsOk, setsOk, blank, unusedOk, blanksOk, reachedOk}
-use Rattle.sheet_spec.specs.Faults.{RangeFault, BadCount, CountFault, SuccessorFault, Initial, RowSetFault, descends, outside, includes, stops, SetFault, UnusedFault, event, place, node-successor, node-set, node-count, ReachFault}
+use Rattle.sheet_spec.specs.Faults.{RangeFault, BadCount, CountFault, SuccessorFault, RowSetFault, descends, outside, includes, stops, SetFault, UnusedFault, event, place, node-successor, node-set, node-count, ReachFault}
+use Rattle.sheet_spec.specs.Sound.{Ranges}
 
 -- a number that passes the test lies between the two
 pub between→ : (low high x : ℕ) → between low high x ≡ true → (low ≤ x) × (x ≤ high)
 between→ low high x t = (leb-true low x (and-l (leb low x) (leb x high) t), leb-true x high (and-r (leb low x) (leb x high) t))
-
--- E is 1 to 12 and N is 1 to 32
-pub record Ranges (e n : ℕ) : Type 0 where
-  pub e-low : 1 ≤ e
-  pub e-high : e ≤ 12
-  pub n-low : 1 ≤ n
-  pub n-high : n ≤ 32
 
 -- the test of the ranges passes only if E is 1 to 12 and N is 1 to 32
 pub ranges→ : (e n : ℕ) → rangesOk e n ≡ true → Ranges e n
@@ -44,6 +38,14 @@ ranges→ e n t =
 pub ranges-find : (e n : ℕ) → Finds (rangesOk e n) (RangeFault e n)
 unfolding rangesOk
 ranges-find e n = finds-and (finds-and (finds-le 1 e) (finds-le e 12)) (finds-and (finds-le 1 n) (finds-le n 32))
+
+-- E and N are in range: what the later tests rely on
+pub in-range : (e n : ℕ) → ¬ RangeFault e n → Ranges e n
+in-range e n f = go (dec (rangesOk e n))
+  where
+    go : (rangesOk e n ≡ true) ⊎ (rangesOk e n ≡ false) → Ranges e n
+    go (inl t) = ranges→ e n t
+    go (inr t) = absurd (f (ranges-find e n .fault t))
 
 -- 5: the test of a C, and that of all nodes, find their faults
 pub count-finds : (c : ℕ) → Finds (countOk c) (BadCount c)

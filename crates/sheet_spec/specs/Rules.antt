@@ -1,10 +1,9 @@
--- The rules of a sheet (01, "Who can cause a refusal"), each as a test that a program can run, and the refusal of a
--- kept sheet. What each test means, with no test in it, is said in Faults; that the two agree, in RuleLaws.
+-- The rules of a sheet (01, "Who can cause a refusal"), each as a test that a program can run. What each test means, with
+-- no test in it, is said in Faults; that the two agree, in RuleLaws. Refusals puts the tests in order.
 use mathlib.Core.Bool.{Bool, not, _&&_, _||_, cond}
 use Prim.Native.Nat.{ℕ, _-_}
 use lib.Dec.{eqb, ltb, leb}
 use Rattle.base.specs.Range.{all}
-use Rattle.base.specs.Refusal.{unless, orElse}
 use Rattle.events.specs.Sets.{inside}
 use Rattle.walks.specs.Reach.{nearer}
 use Rattle.sheet_spec.specs.declared.Row.{Row}
@@ -74,17 +73,3 @@ blanksOk s = all (λ v. unusedOk (s .e) (s .n) v (row s v)) 32
 -- 8: every node is reached from node 0 (by fewer events than there are nodes; laws say that no more are needed)
 unfoldable pub reachedOk : Sheet → Bool
 reachedOk s = all (nearer (graph s) (s .n)) (s .n)
-
--- the refusal of a kept sheet that is handed to a later call, 0 for none
-unfoldable pub sheetFault : Sheet → ℕ
-sheetFault s =
-    unless (rangesOk (s .e) (s .n)) 3
-    (unless (countsOk s) 5
-    (unless (successorsOk s) 6
-    (unless (setsOk s && blanksOk s) 7
-    (unless (reachedOk s) 8 0))))
-
--- the refusal of two sheets that are handed together, the reference first: its own, the device's own, 11: E differs;
--- `rest` is what else the call looks for
-abbrev pub pairFault : Sheet → Sheet → ℕ → ℕ
-pairFault P Q rest = orElse (sheetFault P) (orElse (sheetFault Q) (unless (eqb (P .e) (Q .e)) 11 rest))

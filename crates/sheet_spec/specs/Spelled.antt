@@ -13,8 +13,8 @@ use Rattle.base.specs.Table.{upTo, length-upTo, getD-upTo}
 use Rattle.sheet_spec.specs.declared.Row.{Row}
 use Rattle.sheet_spec.specs.Kept.{noRow}
 use Rattle.sheet_spec.specs.Form.{Bytes}
-use Rattle.sheet_spec.specs.Reading.{byte, word, lengthField, eventCount, nodeCount, nodesAt, headFault, countAt, nextAt}
-use Rattle.sheet_spec.specs.Reading.{layoutFault, startOf, succOf, setsOf, rowAt, rowOf, sheetOf, bytesFault}
+use Rattle.sheet_spec.specs.Spelling.{byte, word, lengthField, eventCount, nodeCount, nodesAt, countAt, nextAt, startOf, succOf, setsOf, rowAt, rowOf, sheetOf}
+use Rattle.sheet_spec.specs.Refusals.{headFault, layoutFault, bytesFault}
 use Rattle.sheet_spec.specs.Encoding.{two, four, encodeSets, encodeRow, encodeRows, encodeBody, encode}
 use Rattle.sheet_spec.specs.Places.{Node, Head, head, whole, last-end}
 use Rattle.sheet_spec.specs.RuleLaws.{ranges→}

@@ -13,7 +13,8 @@ use borrow.Author.Tests.{eqb-true, eqb-false, ltb-true, ltb-false, leb-true, leb
 use Rattle.base.specs.Truth.{dec, lt-or-ge}
 use Rattle.base.specs.Refusal.{unless, unless-other}
 use Rattle.sheet_spec.specs.Rules.{countOk}
-use Rattle.sheet_spec.specs.Reading.{eventCount, nodeCount, nodesAt, countAt, nextAt, layoutFault, startOf}
+use Rattle.sheet_spec.specs.Spelling.{eventCount, nodeCount, nodesAt, countAt, nextAt, startOf}
+use Rattle.sheet_spec.specs.Refusals.{layoutFault}
 use Rattle.sheet_spec.specs.Faults.{BadCount}
 use Rattle.sheet_spec.specs.RuleLaws.{count-finds}
 

@@ -18,12 +18,13 @@ use Rattle.base.specs.Table.{upTo}
 use Rattle.sheet_spec.specs.declared.Row.{Row}
 use Rattle.sheet_spec.specs.declared.Sheet.{Sheet}
 use Rattle.sheet_spec.specs.Kept.{noRow, row, successor, acceptance}
-use Rattle.sheet_spec.specs.Rules.{rangesOk, countOk, countsOk, blank, unusedOk, blanksOk, sheetFault}
+use Rattle.sheet_spec.specs.Rules.{rangesOk, countOk, countsOk, blank, unusedOk, blanksOk}
+use Rattle.sheet_spec.specs.Refusals.{headFault, layoutFault, bytesFault, sheetFault}
 use Rattle.sheet_spec.specs.Form.{SheetForm}
-use Rattle.sheet_spec.specs.Reading.{byte, word, lengthField, version, eventCount, nodeCount, nodesAt, headFault, countAt, nextAt}
-use Rattle.sheet_spec.specs.Reading.{layoutFault, startOf, succOf, setsOf, rowAt, unusedRow, rowOf, sheetOf, bytesFault}
+use Rattle.sheet_spec.specs.Spelling.{byte, word, lengthField, version, eventCount, nodeCount, nodesAt, countAt, nextAt, startOf, succOf, setsOf, rowAt, unusedRow, rowOf, sheetOf}
 use Rattle.sheet_spec.specs.Encoding.{two, four, encodeSets, encodeRow, encodeRows, encodeBody, encode}
-use Rattle.sheet_spec.specs.RuleLaws.{between→, Ranges, ranges→}
+use Rattle.sheet_spec.specs.RuleLaws.{between→, ranges→}
+use Rattle.sheet_spec.specs.Sound.{Ranges}
 use Rattle.sheet_spec.specs.Accepted.{Passes, passes, graph-passed}
 use Rattle.sheet_spec.specs.Slices.{getD-inside, upTo-is, getD-tail, drop-tail, length-tail}
 

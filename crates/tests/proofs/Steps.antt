@@ -8,7 +8,7 @@ use borrow.Author.Tests.{le-leb, lt-leb, ne-eqb}
 use Rattle.base.specs.Refusal.{unless, orElse-some}
 use Rattle.sheet_spec.specs.declared.Sheet.{Sheet}
 use Rattle.sheet_spec.specs.Kept.{row, sheetWith}
-use Rattle.sheet_spec.specs.Rules.{sheetFault}
+use Rattle.sheet_spec.specs.Refusals.{sheetFault}
 use Rattle.tests_spec.specs.declared.Run.{Run}
 use Rattle.tests_spec.specs.declared.Report.{Report}
 use Rattle.tests_spec.specs.declared.Answer.the-variants.{Going, Denied}

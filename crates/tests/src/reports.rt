@@ -2,7 +2,7 @@
 // at a node of a sheet that is not refused.
 ghost use mathlib.Core.Path.{_≡_};
 ghost use Prim.Native.Nat.{_≤_, _<_};
-ghost use Rattle.sheet_spec.specs.Rules.{sheetFault};
+ghost use Rattle.sheet_spec.specs.Refusals.{sheetFault};
 ghost use Rattle.tests_spec.specs.Runs.{endedRun, stepOf};
 ghost use Rattle.tests_spec.specs.declared.Report.the-variants.{Event, Blocked};
 ghost use Rattle.sheet_spec.specs.Kept.{sheetWith};

@@ -16,8 +16,7 @@ use Rattle.base.specs.Truth.{dec, lt-or-ge, or-r}
 use Rattle.events.specs.Bit.{bit, bit≤1, bit-or, bits-zero, bit-rest, bit-high, narrow}
 use Rattle.sheet_spec.specs.declared.Row.{Row}
 use Rattle.sheet_spec.specs.declared.Sheet.{Sheet}
-use Rattle.sheet_spec.specs.Kept.{row, initials}
-use Rattle.sheet_spec.specs.Faults.{Initial}
+use Rattle.sheet_spec.specs.Kept.{row, initials, Initial}
 use Rattle.sheet_spec.specs.RuleLaws.{initials→, initials←}
 use Rattle.tests_spec.specs.declared.Run.{Run}
 use Rattle.tests_spec.specs.Flags.{flag}

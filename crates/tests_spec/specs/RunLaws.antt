@@ -13,12 +13,12 @@ use Rattle.base.specs.Refusal.{unless, unless-hit, unless-pass, unless-none, un
 use Rattle.events.specs.Bit.{bit}
 use Rattle.events.specs.Sets.{has, has→, has←}
 use Rattle.sheet_spec.specs.declared.Sheet.{Sheet}
-use Rattle.sheet_spec.specs.Kept.{row, initials, mayStop}
-use Rattle.sheet_spec.specs.Faults.{Initial}
-use Rattle.sheet_spec.specs.Rules.{sheetFault}
+use Rattle.sheet_spec.specs.Kept.{row, initials, Initial, mayStop}
+use Rattle.sheet_spec.specs.Refusals.{sheetFault, Own, NotOwn}
 use Rattle.sheet_spec.specs.RuleLaws.{initials→, initials←}
-use Rattle.sheet_spec.specs.CheckLaws.{Own, NotOwn, check-other, further, finally}
-use Rattle.sheet_spec.specs.Sound.{check-sound}
+use Rattle.sheet_spec.specs.CheckLaws.{check-other}
+use Rattle.sheet_spec.specs.Chains.{further, finally}
+use Rattle.sheet_spec.specs.SoundLaws.{check-sound}
 use Rattle.tests_spec.specs.declared.Run.{Run}
 use Rattle.tests_spec.specs.declared.Report.{Report}
 use Rattle.tests_spec.specs.declared.Report.the-variants.{Event, Blocked}

@@ -10,7 +10,7 @@ use Rattle.base.specs.Refusal.{unless, orElse}
 use Rattle.events.specs.Sets.{has}
 use Rattle.sheet_spec.specs.declared.Sheet.{Sheet}
 use Rattle.sheet_spec.specs.Kept.{row, successor, acceptances, initials, mayStop}
-use Rattle.sheet_spec.specs.Rules.{sheetFault}
+use Rattle.sheet_spec.specs.Refusals.{sheetFault}
 use Rattle.probes_spec.specs.Probes.{probes}
 use Rattle.tests_spec.specs.declared.Run.{Run}
 use Rattle.tests_spec.specs.declared.Report.{Report}

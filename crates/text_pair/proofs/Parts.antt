@@ -8,7 +8,8 @@ use native.Mathlib.Omega.{arith}
 use lib.Dec.{eqb}
 use lib.ListN.{length}
 use Rattle.sheet_spec.specs.declared.ReadSheet.{ReadSheet}
-use Rattle.sheet_spec.specs.Reading.{lengthField, readSheet}
+use Rattle.sheet_spec.specs.Reading.{readSheet}
+use Rattle.sheet_spec.specs.Spelling.{lengthField}
 use Rattle.text_spec.specs.Adds.{Adds}
 use Rattle.text_pair_spec.specs.Split.{firstEnd, firstSheet, secondSheet}
 use Rattle.text_pair_spec.specs.SplitLaws.{end-all, end-two}

@@ -6,7 +6,7 @@ ghost use Prim.Native.Nat.{_≤_, _<_};
 ghost use lib.Dec.{eqb};
 ghost use lib.ListN.{length};
 ghost use Rattle.sheet_spec.specs.declared.Sheet.{Sheet};
-ghost use Rattle.sheet_spec.specs.Reading.{lengthField};
+ghost use Rattle.sheet_spec.specs.Spelling.{lengthField};
 ghost use Rattle.text_spec.specs.Adds.{Adds};
 ghost use Rattle.text_spec.specs.Input.{cutInput};
 ghost use Rattle.text_pair_spec.specs.Split.{firstEnd};

@@ -4,7 +4,7 @@ use mathlib.Core.List.{List}
 use Prim.Native.Nat.{ℕ, _+_}
 use lib.Dec.{ltb}
 use lib.ListN.{length, take, drop}
-use Rattle.sheet_spec.specs.Reading.{lengthField}
+use Rattle.sheet_spec.specs.Spelling.{lengthField}
 
 -- where the first sheet ends: if the input has under 4 bytes, or the first length field plus 4 exceeds it, all of it is
 -- the first sheet

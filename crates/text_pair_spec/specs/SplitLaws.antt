@@ -11,7 +11,7 @@ use lib.ListN.{length, take, drop, length-drop, take-append-drop}
 use lib.Seq.{take-length, drop-length, length-take-le, take-all}
 use borrow.Author.Tests.{lt-ltb, le-ltb}
 use Rattle.base.specs.Truth.{or-r}
-use Rattle.sheet_spec.specs.Reading.{lengthField}
+use Rattle.sheet_spec.specs.Spelling.{lengthField}
 use Rattle.text_pair_spec.specs.Split.{firstEnd, firstSheet, secondSheet}
 
 -- where the input has under 4 bytes, or its length field exceeds it, the first sheet ends with the input

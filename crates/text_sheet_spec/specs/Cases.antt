@@ -11,7 +11,9 @@ use Rattle.walks.specs.Graph.{walk}
 use Rattle.walks.specs.Reach.{nearer, leads}
 use Rattle.sheet_spec.specs.Kept.{successor, acceptance, acceptances, initials, mayStop, step}
 use Rattle.sheet_spec.specs.Rules.{rangesOk, countOk, successorOk, rowSuccessorsOk, successorsOk, ascends, noneInside, setOk, rowSetsOk, setsOk, reachedOk}
-use Rattle.sheet_spec.specs.Reading.{lengthField, headFault, nextAt, layoutFault, startOf, succOf, setsOf, rowAt, rowOf, sheetOf, graphFault, bytesFault, answer, readSheet}
+use Rattle.sheet_spec.specs.Reading.{answer, readSheet}
+use Rattle.sheet_spec.specs.Spelling.{lengthField, nextAt, startOf, succOf, setsOf, rowAt, rowOf, sheetOf}
+use Rattle.sheet_spec.specs.Refusals.{headFault, layoutFault, graphFault, bytesFault}
 use Rattle.text_spec.specs.Lines.{ascii, decimalIn, decimal, numberLine, sheetLine, eventList}
 use Rattle.text_spec.specs.Sets.{eventsIn, members, setWords}
 use Rattle.text_spec.specs.Input.{cutInput}

@@ -14,12 +14,13 @@ use borrow.Author.Tests.{eqb-true}
 use Rattle.base.specs.Truth.{dec, lt-or-ge}
 use Rattle.sheet_spec.specs.declared.Sheet.{Sheet}
 use Rattle.sheet_spec.specs.Kept.{row, successor, acceptance, acceptances, mayStop}
-use Rattle.sheet_spec.specs.Rules.{sheetFault}
+use Rattle.sheet_spec.specs.Refusals.{sheetFault}
 use Rattle.sheet_spec.specs.Reading.{readSheet}
 use Rattle.sheet_spec.specs.AnswerLaws.{read-refusal, read-kept}
 use Rattle.sheet_spec.specs.ReadLaws.{read-numbers}
 use Rattle.sheet_spec.specs.CheckLaws.{check-below}
-use Rattle.sheet_spec.specs.Sound.{Sound, check-sound}
+use Rattle.sheet_spec.specs.Sound.{Sound}
+use Rattle.sheet_spec.specs.SoundLaws.{check-sound}
 use Rattle.probes_spec.specs.ProbeLaws.{probe-small, probe-listed}
 use Rattle.probes_spec.specs.Listing.{nodeProbes}
 use Rattle.probes_spec.specs.ListingLaws.{node-narrow, node-probe, node-few}

@@ -9,7 +9,7 @@ use borrow.Author.Tests.{eq-eqb, ne-eqb}
 use Rattle.base.specs.Truth.{lt-or-ge, clash}
 use Rattle.sheet_spec.specs.declared.Sheet.{Sheet}
 use Rattle.sheet_spec.specs.Kept.{row, mayStop}
-use Rattle.sheet_spec.specs.Rules.{sheetFault}
+use Rattle.sheet_spec.specs.Refusals.{sheetFault}
 use Rattle.probes_spec.specs.Listing.{nodeProbes, listFault}
 use Rattle.probes_spec.specs.ListingLaws.{list-sheet, list-9, list-0, node-few, node-stop}
 use Rattle.text_sheet_spec.specs.Node.{probeSpace, probesLine, mayStopLine, deniedLine, nodeLine}

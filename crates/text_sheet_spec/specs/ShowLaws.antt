@@ -11,7 +11,7 @@ use Rattle.sheet_spec.specs.declared.ReadSheet.{ReadSheet}
 use Rattle.sheet_spec.specs.Kept.{successor, mayStop}
 use Rattle.sheet_spec.specs.Reading.{readSheet}
 use Rattle.sheet_spec.specs.AnswerLaws.{read-kept}
-use Rattle.sheet_spec.specs.Sound.{check-sound}
+use Rattle.sheet_spec.specs.SoundLaws.{check-sound}
 use Rattle.text_spec.specs.Lines.{ascii, sheetLine}
 use Rattle.text_spec.specs.InputLaws.{cut-more}
 use Rattle.text_spec.specs.Joined.{joined}

@@ -8,8 +8,9 @@ use lib.ListN.{length, drop}
 use Rattle.base.specs.Table.{upTo, length-upTo, upTo-ext}
 use Rattle.base.specs.Front.{atFront-count}
 use Rattle.sheet_spec.specs.declared.Sheet.{Sheet}
-use Rattle.sheet_spec.specs.Rules.{sheetFault}
-use Rattle.sheet_spec.specs.Sound.{Sound, check-sound, nodes-most}
+use Rattle.sheet_spec.specs.Refusals.{sheetFault}
+use Rattle.sheet_spec.specs.Sound.{Sound}
+use Rattle.sheet_spec.specs.SoundLaws.{nodes-most, check-sound}
 use Rattle.verdicts_spec.specs.declared.Verdict.{Verdict}
 use Rattle.verdicts_spec.specs.declared.Verdict.the-variants.{Passes, Fails}
 use Rattle.verdicts_spec.specs.Verdicts.{failsFrom}

@@ -6,7 +6,7 @@ use native.Mathlib.Omega.{arith}
 use borrow.Author.Tests.{le-leb, lt-leb, eq-eqb, ne-eqb}
 use Rattle.base.specs.Refusal.{orElse-some}
 use Rattle.sheet_spec.specs.declared.Sheet.{Sheet}
-use Rattle.sheet_spec.specs.Rules.{sheetFault}
+use Rattle.sheet_spec.specs.Refusals.{sheetFault}
 use Rattle.verdicts_spec.specs.declared.Verdict.{Verdict}
 use Rattle.verdicts_spec.specs.declared.Verdict.the-variants.{Passes, Fails, Denied}
 use Rattle.verdicts_spec.specs.Verdicts.{failsFrom, verdictFault, verdictOf}

@@ -8,8 +8,8 @@ use Prim.Native.Nat.{ℕ, _≤_, _<_}
 use native.Mathlib.Omega.{arith}
 use lib.ListN.{length, getD}
 use Rattle.sheet_spec.specs.declared.Sheet.{Sheet}
-use Rattle.sheet_spec.specs.Rules.{sheetFault}
-use Rattle.sheet_spec.specs.Sound.{check-sound, nodes-most}
+use Rattle.sheet_spec.specs.Refusals.{sheetFault}
+use Rattle.sheet_spec.specs.SoundLaws.{nodes-most, check-sound}
 use Rattle.refinement_spec.specs.Refinement.{RefinesIn}
 use Rattle.verdicts_spec.specs.declared.Verdict.{Verdict}
 use Rattle.verdicts_spec.specs.declared.Verdict.the-variants.{Passes, Fails, Denied as NoVerdict}

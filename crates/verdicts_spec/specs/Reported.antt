@@ -10,8 +10,9 @@ use Rattle.walks.specs.Reach.{nearer, leads}
 use Rattle.sheet_spec.specs.Kept.{row, successor, acceptance, initials, step}
 use Rattle.sheet_spec.specs.Rules.{rangesOk, countOk, successorsOk, rowSuccessorsOk, successorOk, setsOk, rowSetsOk, setOk, ascends, noneInside}
 use Rattle.sheet_spec.specs.Rules.{reachedOk}
-use Rattle.sheet_spec.specs.Reading.{readSheet, answer, bytesFault, headFault, lengthField, layoutFault, nextAt}
-use Rattle.sheet_spec.specs.Reading.{startOf, succOf, setsOf, rowAt, rowOf, sheetOf, graphFault}
+use Rattle.sheet_spec.specs.Reading.{readSheet, answer}
+use Rattle.sheet_spec.specs.Refusals.{headFault, layoutFault, graphFault, bytesFault}
+use Rattle.sheet_spec.specs.Spelling.{lengthField, nextAt, startOf, succOf, setsOf, rowAt, rowOf, sheetOf}
 use Rattle.sheet_spec.specs.Examples.{exampleDevice, sheet}
 use Rattle.tests_spec.specs.declared.Report.the-variants.{Event, Blocked}
 use Rattle.verdicts_spec.specs.Verdicts.{CanReport}

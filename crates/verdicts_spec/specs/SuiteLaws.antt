@@ -14,9 +14,9 @@ use Rattle.base.specs.Refusal.{unless, unless-hit, unless-none, unless-other}
 use Rattle.base.specs.Table.{upTo, length-upTo, getD-upTo}
 use Rattle.base.specs.Front.{atFront, atFront-length, atFront-before, atFront-behind}
 use Rattle.sheet_spec.specs.declared.Sheet.{Sheet}
-use Rattle.sheet_spec.specs.Rules.{sheetFault}
-use Rattle.sheet_spec.specs.CheckLaws.{Own, finally}
-use Rattle.sheet_spec.specs.PairFaults.{BothAccepted, pair-reference, pair-device, pair-sheet, pair-11, pair-rest}
+use Rattle.sheet_spec.specs.Refusals.{sheetFault, BothAccepted, Own}
+use Rattle.sheet_spec.specs.Chains.{finally}
+use Rattle.sheet_spec.specs.PairFaults.{pair-reference, pair-device, pair-sheet, pair-11, pair-rest}
 use Rattle.verdicts_spec.specs.declared.Suite.the-variants.{Judged, Denied}
 use Rattle.verdicts_spec.specs.Suites.{testCount, verdictNumber, suiteFault, suiteOf, verdictsAfter}
 use Rattle.verdicts_spec.specs.Numbers.{suited}

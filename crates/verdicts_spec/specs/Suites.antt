@@ -10,7 +10,7 @@ use Rattle.base.specs.Refusal.{unless}
 use Rattle.base.specs.Table.{upTo}
 use Rattle.base.specs.Front.{atFront}
 use Rattle.sheet_spec.specs.declared.Sheet.{Sheet}
-use Rattle.sheet_spec.specs.Rules.{pairFault}
+use Rattle.sheet_spec.specs.Refusals.{pairFault}
 use Rattle.verdicts_spec.specs.Verdicts.{verdictOf}
 use Rattle.verdicts_spec.specs.Numbers.{judged}
 use Rattle.verdicts_spec.specs.declared.Suite.{Suite}

@@ -13,9 +13,10 @@ use Rattle.walks.specs.Graph.{walk}
 use Rattle.walks.specs.Pairs.{PairLeads, pairDistance, pairDistance≤, pairTrace, pairTrace-length, pairTrace-leads}
 use Rattle.sheet_spec.specs.declared.Sheet.{Sheet}
 use Rattle.sheet_spec.specs.Kept.{row, acceptance, mayStop, graph}
-use Rattle.sheet_spec.specs.Rules.{sheetFault}
+use Rattle.sheet_spec.specs.Refusals.{sheetFault}
 use Rattle.sheet_spec.specs.RowLaws.{mayStop-means}
-use Rattle.sheet_spec.specs.Sound.{Sound, check-sound, nodes-most}
+use Rattle.sheet_spec.specs.Sound.{Sound}
+use Rattle.sheet_spec.specs.SoundLaws.{nodes-most, check-sound}
 use Rattle.refinement_spec.specs.Refinement.{After, Trace, Strays, Overrefuses, TraceRefines, RefinesIn}
 use Rattle.refinement_spec.specs.ViolatingPairs.{hasStray, hasRefusal, violating}
 use Rattle.refinement_spec.specs.PairLaws.{violates-means}

@@ -14,12 +14,12 @@ use Rattle.base.specs.Finds.{finds-le}
 use Rattle.base.specs.Refusal.{unless-hit, unless-none, unless-other}
 use Rattle.events.specs.Bit.{bit, bit≤1, Within, Apart}
 use Rattle.sheet_spec.specs.declared.Sheet.{Sheet}
-use Rattle.sheet_spec.specs.Kept.{row, successor, acceptance, acceptances, mayStop, step}
-use Rattle.sheet_spec.specs.Faults.{Initial}
-use Rattle.sheet_spec.specs.Rules.{sheetFault}
-use Rattle.sheet_spec.specs.CheckLaws.{Own, finally}
-use Rattle.sheet_spec.specs.PairFaults.{BothAccepted, pair-sheet, pair-11, pair-rest}
-use Rattle.sheet_spec.specs.Sound.{Sound, check-sound}
+use Rattle.sheet_spec.specs.Kept.{row, successor, acceptance, acceptances, Initial, mayStop, step}
+use Rattle.sheet_spec.specs.Refusals.{sheetFault, BothAccepted, Own}
+use Rattle.sheet_spec.specs.Chains.{finally}
+use Rattle.sheet_spec.specs.PairFaults.{pair-sheet, pair-11, pair-rest}
+use Rattle.sheet_spec.specs.Sound.{Sound}
+use Rattle.sheet_spec.specs.SoundLaws.{check-sound}
 use Rattle.probes_spec.specs.Probes.{probes}
 use Rattle.refinement_spec.specs.Refinement.{MayRefuse}
 use Rattle.refinement_spec.specs.ViolatingPairs.{hasStray, hasRefusal, violating}

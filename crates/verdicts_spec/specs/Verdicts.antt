@@ -10,9 +10,8 @@ use Rattle.base.specs.Range.{any}
 use Rattle.base.specs.Refusal.{unless}
 use Rattle.events.specs.Bit.{bit}
 use Rattle.sheet_spec.specs.declared.Sheet.{Sheet}
-use Rattle.sheet_spec.specs.Kept.{row, successor, mayStop, step}
-use Rattle.sheet_spec.specs.Faults.{Initial}
-use Rattle.sheet_spec.specs.Rules.{pairFault}
+use Rattle.sheet_spec.specs.Kept.{row, successor, Initial, mayStop, step}
+use Rattle.sheet_spec.specs.Refusals.{pairFault}
 use Rattle.refinement_spec.specs.Refinement.{MayRefuse}
 use Rattle.refinement_spec.specs.ViolatingPairs.{hasStray, violating}
 use Rattle.tests_spec.specs.declared.Run.{Run}

@@ -7,8 +7,8 @@ use native.Mathlib.Nat.{mul-pos}
 use borrow.Author.Tests.{eq-eqb, ne-eqb, le-leb, lt-leb}
 use Rattle.base.specs.Refusal.{orElse-some}
 use Rattle.sheet_spec.specs.declared.Sheet.{Sheet}
-use Rattle.sheet_spec.specs.Rules.{sheetFault}
-use Rattle.sheet_spec.specs.Sound.{check-sound, nodes-most}
+use Rattle.sheet_spec.specs.Refusals.{sheetFault}
+use Rattle.sheet_spec.specs.SoundLaws.{nodes-most, check-sound}
 use Rattle.comparison_spec.specs.Comparison.{pairCount}
 use Rattle.comparison.specs.FaultOn.{faultOn}
 

@@ -9,9 +9,9 @@ use lib.ListN.{getD}
 use Rattle.base.specs.Table.{upTo, getD-upTo}
 use Rattle.sheet_spec.specs.declared.Sheet.{Sheet}
 use Rattle.sheet_spec.specs.Kept.{row, initials}
-use Rattle.sheet_spec.specs.Rules.{sheetFault}
-use Rattle.sheet_spec.specs.RuleLaws.{Ranges}
-use Rattle.sheet_spec.specs.Sound.{check-sound, nodes-most}
+use Rattle.sheet_spec.specs.Refusals.{sheetFault}
+use Rattle.sheet_spec.specs.Sound.{Ranges}
+use Rattle.sheet_spec.specs.SoundLaws.{nodes-most, check-sound}
 use Rattle.base.specs.Loops.{Filling}
 use Rattle.refinement_spec.specs.ViolatingPairs.{violates, violating}
 use Rattle.refinement.specs.Shapes.{violatesBy, violates-by}

@@ -5,7 +5,7 @@ use native.Mathlib.Omega.{arith}
 use denote.Ref.{now}
 use lib.ListN.{length, replicate}
 use Rattle.base.specs.Front.{atFront}
-use Rattle.sheet_spec.specs.Rules.{sheetFault}
+use Rattle.sheet_spec.specs.Refusals.{sheetFault}
 use Rattle.sheet_spec.specs.Form.{SheetForm}
 use Rattle.sheet_rows.proofs.Shape.{sheet-form}
 use Rattle.probes_spec.specs.Listing.{nodeProbes}

@@ -7,7 +7,8 @@ use lib.Dec.{eqb}
 use lib.ListN.{length}
 use borrow.Author.Tests.{le-leb, lt-leb, eq-eqb, ne-eqb, not-true, not-false}
 use Rattle.sheet_spec.specs.Rules.{rangesOk}
-use Rattle.sheet_spec.specs.Reading.{byte, word, lengthField, headFault}
+use Rattle.sheet_spec.specs.Spelling.{byte, word, lengthField}
+use Rattle.sheet_spec.specs.Refusals.{headFault}
 use Rattle.sheet_bytes.specs.LayoutShapes.{lengthOk}
 
 -- the two tests of the length, x and y being its halves

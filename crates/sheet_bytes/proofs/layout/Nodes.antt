@@ -8,7 +8,8 @@ use native.Mathlib.Omega.{arith}
 use lib.ListN.{length}
 use borrow.Author.Tests.{lt-ltb, le-ltb, le-leb, lt-leb, eq-eqb, ne-eqb, not-true, not-false}
 use Rattle.sheet_spec.specs.Rules.{countOk}
-use Rattle.sheet_spec.specs.Reading.{byte, nextAt, layoutFault}
+use Rattle.sheet_spec.specs.Spelling.{byte, nextAt}
+use Rattle.sheet_spec.specs.Refusals.{layoutFault}
 
 -- v of n nodes are passed, the next begins at a place, and the nodes from there on give the answer r
 pub record Walking (b : List ℕ) (e n r v at : ℕ) : Type 0 where

@@ -1,6 +1,6 @@
 -- The row is put together from its parts as in the definition.
 use native.Mathlib.Omega.{arith}
-use Rattle.sheet_spec.specs.Reading.{rowAt}
+use Rattle.sheet_spec.specs.Spelling.{rowAt}
 use Rattle.sheet_bytes.proofs.row_at.Statement.{statement}
 use Rattle.sheet_bytes.proofs.row_at.Tie as tie
 

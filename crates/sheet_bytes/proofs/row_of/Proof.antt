@@ -1,7 +1,7 @@
 -- The test is the definition's, and the place is where the node begins.
 use native.Mathlib.Omega.{arith}
 use borrow.Author.Tests.{lt-ltb, le-ltb}
-use Rattle.sheet_spec.specs.Reading.{rowOf}
+use Rattle.sheet_spec.specs.Spelling.{rowOf}
 use Rattle.sheet_bytes.proofs.row_of.Statement.{statement}
 use Rattle.sheet_bytes.proofs.row_of.Tie as tie
 

@@ -3,7 +3,7 @@ use mathlib.Core.Path.{_≡_, refl}
 use Prim.Native.Nat.{_+_, _-_, _*_, _≤_}
 use native.Mathlib.Omega.{arith}
 use native.Mathlib.Numerals.{add-one}
-use Rattle.sheet_spec.specs.Reading.{unusedRow, rowOf, startOf}
+use Rattle.sheet_spec.specs.Spelling.{startOf, unusedRow, rowOf}
 use Rattle.base.specs.Loops.{Filling, empty, stored, filled}
 use Rattle.sheet_bytes.proofs.rows_of.Statement.{statement}
 use Rattle.sheet_bytes.proofs.rows_of.Tie as tie

@@ -1,7 +1,7 @@
 -- The test is the definition's.
 use native.Mathlib.Omega.{arith}
 use borrow.Author.Tests.{lt-ltb, le-ltb}
-use Rattle.sheet_spec.specs.Reading.{setsOf}
+use Rattle.sheet_spec.specs.Spelling.{setsOf}
 use Rattle.sheet_bytes.proofs.set_of.Statement.{statement}
 use Rattle.sheet_bytes.proofs.set_of.Tie as tie
 

@@ -1,7 +1,7 @@
 -- After j rounds the first j places are filled, the others hold 0.
 use Prim.Native.Nat.{_-_}
 use native.Mathlib.Omega.{arith}
-use Rattle.sheet_spec.specs.Reading.{setsOf}
+use Rattle.sheet_spec.specs.Spelling.{setsOf}
 use Rattle.base.specs.Loops.{Filling, empty, stored, filled}
 use Rattle.sheet_bytes.proofs.sets_of.Statement.{statement}
 use Rattle.sheet_bytes.proofs.sets_of.Tie as tie

@@ -1,6 +1,6 @@
 -- The sheet is put together from its parts as in the definition.
 use native.Mathlib.Omega.{arith}
-use Rattle.sheet_spec.specs.Reading.{sheetOf}
+use Rattle.sheet_spec.specs.Spelling.{sheetOf}
 use Rattle.sheet_bytes.proofs.sheet_of.Statement.{statement}
 use Rattle.sheet_bytes.proofs.sheet_of.Tie as tie
 

@@ -1,7 +1,7 @@
 -- The test is the definition's.
 use native.Mathlib.Omega.{arith}
 use borrow.Author.Tests.{lt-ltb, le-ltb}
-use Rattle.sheet_spec.specs.Reading.{succOf}
+use Rattle.sheet_spec.specs.Spelling.{succOf}
 use Rattle.sheet_bytes.proofs.succ_of.Statement.{statement}
 use Rattle.sheet_bytes.proofs.succ_of.Tie as tie
 

@@ -1,7 +1,7 @@
 -- After i rounds the first i places are filled, the others hold 255.
 use Prim.Native.Nat.{_-_}
 use native.Mathlib.Omega.{arith}
-use Rattle.sheet_spec.specs.Reading.{succOf}
+use Rattle.sheet_spec.specs.Spelling.{succOf}
 use Rattle.base.specs.Loops.{Filling, empty, stored, filled}
 use Rattle.sheet_bytes.proofs.succs_of.Statement.{statement}
 use Rattle.sheet_bytes.proofs.succs_of.Tie as tie

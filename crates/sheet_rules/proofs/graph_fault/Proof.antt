@@ -1,6 +1,6 @@
 -- The tests are those of the definition, in its order.
 use native.Mathlib.Omega.{arith}
-use Rattle.sheet_spec.specs.Reading.{graphFault}
+use Rattle.sheet_spec.specs.Refusals.{graphFault}
 use Rattle.sheet_rules.proofs.Picked.{kept, broken}
 use Rattle.sheet_rules.proofs.graph_fault.Statement.{statement}
 use Rattle.sheet_rules.proofs.graph_fault.Tie as tie

@@ -1,5 +1,5 @@
 -- The tests are those of the definition, in its order.
-use Rattle.sheet_spec.specs.Rules.{sheetFault}
+use Rattle.sheet_spec.specs.Refusals.{sheetFault}
 use Rattle.sheet_rules.proofs.Picked.{kept, broken, both, few}
 use Rattle.sheet_rules.proofs.sheet_fault.Statement.{statement}
 use Rattle.sheet_rules.proofs.sheet_fault.Tie as tie

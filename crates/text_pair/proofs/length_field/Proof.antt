@@ -1,6 +1,6 @@
 -- Four bytes, each below 256.
 use native.Mathlib.Omega.{arith}
-use Rattle.sheet_spec.specs.Reading.{lengthField}
+use Rattle.sheet_spec.specs.Spelling.{lengthField}
 use Rattle.text_pair.proofs.length_field.Statement.{statement}
 use Rattle.text_pair.proofs.length_field.Tie as tie
 

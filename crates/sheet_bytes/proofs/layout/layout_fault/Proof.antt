@@ -1,7 +1,7 @@
 -- After v rounds the walk over the nodes that are left gives the answer; each law is one way out of it.
 use Prim.Native.Nat.{_-_}
 use native.Mathlib.Omega.{arith}
-use Rattle.sheet_spec.specs.Reading.{layoutFault}
+use Rattle.sheet_spec.specs.Refusals.{layoutFault}
 use Rattle.sheet_bytes.proofs.layout.Nodes.{Walking, sets-out, cut-short, count-wrong, cut-inside, walks-on, more-behind, all-passed}
 use Rattle.sheet_bytes.proofs.layout.layout_fault.Statement.{statement}
 use Rattle.sheet_bytes.proofs.layout.layout_fault.Tie as tie

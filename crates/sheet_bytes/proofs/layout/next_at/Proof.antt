@@ -1,6 +1,6 @@
 -- The place is the sum of the definition, and a byte is at most 255.
 use native.Mathlib.Omega.{arith}
-use Rattle.sheet_spec.specs.Reading.{nextAt}
+use Rattle.sheet_spec.specs.Spelling.{nextAt}
 use Rattle.sheet_bytes.proofs.layout.next_at.Statement.{statement}
 use Rattle.sheet_bytes.proofs.layout.next_at.Tie as tie
 
