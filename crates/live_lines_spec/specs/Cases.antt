@@ -8,9 +8,8 @@ use Rattle.base.specs.Range.{all}
 use Rattle.base.specs.Gather.{gather, select}
 use Rattle.events.specs.Bit.{bit}
 use Rattle.events.specs.Sets.{has}
-use Rattle.text_spec.specs.Lines.{ascii, decimalIn, decimal, numberLine, eventList}
+use Rattle.text_spec.specs.Lines.{ascii, decimalIn, decimal, valueFrom, numberLine, eventList}
 use Rattle.text_spec.specs.Sets.{eventsIn, members, setWords}
-use Rattle.text_spec.specs.DecimalLaws.{valueFrom}
 use Rattle.tests_spec.specs.declared.Report.the-variants.{Event, Blocked}
 use Rattle.tests_spec.specs.declared.Answer.the-variants.{Going, Stray, Refused, Passed, Denied}
 use Rattle.live_lines_spec.specs.Numbers.{isDigit, digitAt, allDigits, fewDigits, numberIn, numberOf}

@@ -6,7 +6,7 @@ use Prim.Native.Nat.{ℕ, _+_, _≤_, _<_}
 use lib.Dec.{leb}
 use lib.ListN.{length, getD}
 use Rattle.base.specs.Range.{all}
-use Rattle.text_spec.specs.DecimalLaws.{valueFrom}
+use Rattle.text_spec.specs.Lines.{valueFrom}
 
 -- whether a byte is the code of a digit, 0 to 9
 unfoldable pub isDigit : ℕ → Bool

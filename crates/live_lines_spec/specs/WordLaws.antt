@@ -14,14 +14,15 @@ use Rattle.base.specs.Truth.{dec, and-l, and-r, and-i, not-i}
 use Rattle.base.specs.Range.{all→, all←}
 use Rattle.sheet_spec.specs.declared.Sheet.{Sheet}
 use Rattle.sheet_spec.specs.SoundLaws.{check-sound}
-use Rattle.text_spec.specs.Lines.{ascii, decimal}
-use Rattle.text_spec.specs.DecimalLaws.{valueFrom, decimal-value}
+use Rattle.text_spec.specs.Lines.{ascii, decimal, valueFrom}
+use Rattle.text_spec.specs.DecimalLaws.{decimal-value}
 use Rattle.tests_spec.specs.declared.Run.{Run}
 use Rattle.tests_spec.specs.declared.Report.{Report}
 use Rattle.tests_spec.specs.declared.Report.the-variants.{Event, Blocked}
 use Rattle.tests_spec.specs.declared.Answer.the-variants.{Denied}
 use Rattle.tests_spec.specs.Runs.{reportFault, stepOf}
-use Rattle.tests_spec.specs.RunLaws.{Beyond, report-15, report-0}
+use Rattle.tests_spec.specs.RunLaws.{report-15, report-0}
+use Rattle.tests_spec.specs.Reports.{Beyond}
 use Rattle.tests_spec.specs.RunRecords.{step-refused}
 use Rattle.live_lines_spec.specs.Numbers.{numberIn, numberOf, Digits}
 use Rattle.live_lines_spec.specs.NumberLaws.{number-from, number-most, number-long, number-large, number-decimal, word-number}

@@ -11,7 +11,7 @@ use lib.Seq.{drop-cons}
 use borrow.Author.Tests.{eq-eqb, ne-eqb}
 use Rattle.base.specs.Truth.{and-i}
 use Rattle.base.specs.Range.{all, all-more, all-stop, all-done}
-use Rattle.text_spec.specs.DecimalLaws.{valueFrom}
+use Rattle.text_spec.specs.Lines.{valueFrom}
 use Rattle.live_lines_spec.specs.Numbers.{isDigit, digitAt, allDigits}
 use Rattle.live_lines_spec.specs.Words.{agreeAt, sameText}
 

@@ -7,8 +7,7 @@ use native.Mathlib.Omega.{arith}
 use lib.ListN.{length, take, drop, length-take, length-drop}
 use lib.Seq.{take-all}
 use borrow.Author.Tests.{le-leb, lt-leb}
-use Rattle.text_spec.specs.Lines.{ascii}
-use Rattle.text_spec.specs.DecimalLaws.{valueFrom}
+use Rattle.text_spec.specs.Lines.{ascii, valueFrom}
 use Rattle.tests_spec.specs.declared.Report.the-variants.{Event, Blocked}
 use Rattle.live_lines_spec.specs.Numbers.{allDigits, fewDigits, numberIn, numberOf, Digits}
 use Rattle.live_lines_spec.specs.NumberLaws.{digits→, number-most}

@@ -2,7 +2,7 @@
 // a device.
 ghost use mathlib.Core.Path.{_≡_};
 ghost use Prim.Native.Nat.{_+_, _-_, _*_, _≤_, _<_};
-ghost use Rattle.text_spec.specs.DecimalLaws.{valueFrom};
+ghost use Rattle.text_spec.specs.Lines.{valueFrom};
 ghost use Rattle.live_lines_spec.specs.Numbers.{isDigit, allDigits, fewDigits, numberIn, numberOf, Digits};
 ghost use Rattle.live_lines_spec.specs.Words.{sameText, eventNamed, heard, lastOk, askedOf};
 use live_lines_spec::Asked;

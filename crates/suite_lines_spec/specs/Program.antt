@@ -13,6 +13,10 @@ use Rattle.suite_lines_spec.specs.Lines.{suiteLines}
 unfoldable pub verdictList : List ℕ
 verdictList = replicate 1024 0
 
+-- the list of verdicts after the call
+abbrev pub after : Sheet → Sheet → List ℕ
+after P Q = verdictsAfter false P Q verdictList
+
 -- the lines after those of two accepted sheets: their tests, those with refusals
 unfoldable pub judgedLines : Sheet → Sheet → List ℕ
 judgedLines P Q = suiteLines (testCount P Q) (suiteOf P Q verdictList) (verdictsAfter false P Q verdictList)

@@ -14,11 +14,11 @@ use Rattle.sheet_spec.specs.declared.Sheet.{Sheet}
 use Rattle.sheet_spec.specs.Refusals.{sheetFault}
 use Rattle.refinement_spec.specs.Refinement.{RefinesIn}
 use Rattle.text_spec.specs.Lines.{ascii, numberLine}
-use Rattle.verdicts_spec.specs.Suites.{testCount, suiteFault, verdictsAfter}
+use Rattle.verdicts_spec.specs.Suites.{testCount, suiteFault}
 use Rattle.verdicts_spec.specs.SuiteLaws.{suite-11, suite-fits, denied-suite, given-suite}
 use Rattle.verdicts_spec.specs.Complete.{tests-few, suite-complete}
 use Rattle.suite_lines_spec.specs.Lines.{testLines, passedOf, lastWords, lastLine, suiteLines}
-use Rattle.suite_lines_spec.specs.Program.{verdictList, judgedLines}
+use Rattle.suite_lines_spec.specs.Program.{verdictList, after, judgedLines}
 
 -- no more tests pass than there are
 pub passed-few : (vs : List ℕ) (n : ℕ) → passedOf vs n ≤ n
@@ -31,10 +31,6 @@ unfolding verdictList
 list-length = length-replicate {A = ℕ} 1024 0
 
 module _ (P Q : Sheet) (accP : sheetFault P ≡ 0) (accQ : sheetFault Q ≡ 0) where
-  -- the list of verdicts after the call
-  abbrev pub after : List ℕ
-  after = verdictsAfter false P Q verdictList
-
   -- where E differs, the refusal 11 is printed
   pub unequal-lines : P .e ≢ Q .e → judgedLines P Q ≡ numberLine (ascii "suite refused ") 11
   unfolding judgedLines suiteLines
@@ -47,27 +43,27 @@ module _ (P Q : Sheet) (accP : sheetFault P ≡ 0) (accQ : sheetFault Q ≡ 0) w
     room = omega (arith, list-length, tests-few P Q accP accQ same)
 
     -- where E is the same, a line for each test is printed, and the last line
-    pub equal-lines : judgedLines P Q ≡ testLines after (testCount P Q) ++ lastLine (testCount P Q) (testCount P Q) (passedOf after (testCount P Q))
+    pub equal-lines : judgedLines P Q ≡ testLines (after P Q) (testCount P Q) ++ lastLine (testCount P Q) (testCount P Q) (passedOf (after P Q) (testCount P Q))
     unfolding judgedLines suiteLines
     equal-lines = rw (given-suite P Q verdictList (suite-fits P Q verdictList accP accQ same room))
 
     -- as many pass as there are tests exactly if the device refines the reference
-    pub all-passed : (passedOf after (testCount P Q) ≡ testCount P Q) ↔ RefinesIn false P Q
+    pub all-passed : (passedOf (after P Q) (testCount P Q) ≡ testCount P Q) ↔ RefinesIn false P Q
     unfolding passedOf
     all-passed =
-        (λ z. w .0 (λ k l. eqb-true (getD after k 0) 1 (count-all→ f (testCount P Q) z k l)), λ r. count-all← f (testCount P Q) (λ k l. eq-eqb (getD after k 0) 1 (w .1 r k l)))
+        (λ z. w .0 (λ k l. eqb-true (getD (after P Q) k 0) 1 (count-all→ f (testCount P Q) z k l)), λ r. count-all← f (testCount P Q) (λ k l. eq-eqb (getD (after P Q) k 0) 1 (w .1 r k l)))
       where
         f : ℕ → Bool
-        f k = eqb (getD after k 0) 1
+        f k = eqb (getD (after P Q) k 0) 1
 
-        w : ((k : ℕ) → k < testCount P Q → getD after k 0 ≡ 1) ↔ RefinesIn false P Q
+        w : ((k : ℕ) → k < testCount P Q → getD (after P Q) k 0 ≡ 1) ↔ RefinesIn false P Q
         w = suite-complete P Q accP accQ same verdictList room false
 
     -- the last line says "all pass" exactly if the device refines the reference, else how many tests failed
-    pub says-all : RefinesIn false P Q → lastWords (testCount P Q) (testCount P Q) (passedOf after (testCount P Q)) ≡ ascii " all pass\n"
+    pub says-all : RefinesIn false P Q → lastWords (testCount P Q) (testCount P Q) (passedOf (after P Q) (testCount P Q)) ≡ ascii " all pass\n"
     unfolding lastWords
-    says-all r = rw (eq-eqb (passedOf after (testCount P Q)) (testCount P Q) (all-passed .1 r))
+    says-all r = rw (eq-eqb (passedOf (after P Q) (testCount P Q)) (testCount P Q) (all-passed .1 r))
 
-    pub says-failed : ¬ RefinesIn false P Q → lastWords (testCount P Q) (testCount P Q) (passedOf after (testCount P Q)) ≡ numberLine (ascii " failed ") (testCount P Q - passedOf after (testCount P Q))
+    pub says-failed : ¬ RefinesIn false P Q → lastWords (testCount P Q) (testCount P Q) (passedOf (after P Q) (testCount P Q)) ≡ numberLine (ascii " failed ") (testCount P Q - passedOf (after P Q) (testCount P Q))
     unfolding lastWords
-    says-failed n = rw (ne-eqb (passedOf after (testCount P Q)) (testCount P Q) (λ e. n (all-passed .0 e)))
+    says-failed n = rw (ne-eqb (passedOf (after P Q) (testCount P Q)) (testCount P Q) (λ e. n (all-passed .0 e)))

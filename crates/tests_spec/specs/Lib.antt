@@ -1,6 +1,7 @@
 pub mod Flags
 pub mod Runs
 pub mod Numbers
+pub mod Reports
 pub mod Offers
 pub mod RunLaws
 pub mod RunRecords

@@ -28,6 +28,7 @@ use Rattle.tests_spec.specs.declared.Stepped.{Stepped}
 use Rattle.tests_spec.specs.Flags.{flag}
 use Rattle.tests_spec.specs.Runs.{offerOf, newRun, zeroRun, answered, openFault, openOf, recordOk, eventFault, reportFault, movedBy, endedRun, answerOf, stepOf}
 use Rattle.tests_spec.specs.Numbers.{said}
+use Rattle.tests_spec.specs.Reports.{Beyond, NotOffered, WrongRecord, Shown, Fitting, Taken, denies, moves, strays, refuses, passes}
 
 -- the refusals and the answers of an opening
 module _ (s : Sheet) (k : ℕ) where
@@ -70,30 +71,7 @@ module _ (s : Sheet) (k : ℕ) where
         go (inl t) = inl (offerOf s (newRun traceOnly k h), ap (λ (z : Stepped). z .answer) (open-going (eqb-true _ 0 t)))
         go (inr t) = let n = eqb-false (openFault s k) 0 t in inr (openFault s k, n, ap (λ (z : Stepped). z .answer) (open-denied n))
 
--- ---- a report: what 15, 17 and 9 are
-
--- 15: an event that the sheet has not
-unfoldable pub Beyond : Sheet → Report → Type 0
-Beyond s (Event i) = s .e ≤ i
-Beyond s Blocked = ⊥
-
--- 17: an event that is not offered
-unfoldable pub NotOffered : Sheet → Run → Report → Type 0
-NotOffered s r (Event i) = bit (offerOf s r) i ≢ 1
-NotOffered s r Blocked = ⊥
-
--- 9: the node is not on the sheet, the depth exceeds k, or k is above 1,023
-abbrev pub WrongRecord : Sheet → Run → Type 0
-WrongRecord s r = (s .n ≤ r .node) ⊎ ((r .k < r .depth) ⊎ (1023 < r .k))
-
--- neither the sheet's own refusal nor 16: the sheet is accepted and the run has not ended
-abbrev pub Shown : Sheet → Run → Type 0
-Shown s r = (sheetFault s ≡ 0) × (¬ (flag (r .ended) ≡ true))
-
--- none of the sheet's own refusal, 16 and 9: the sheet is accepted, the run has not ended, and the record fits the
--- sheet
-abbrev pub Fitting : Sheet → Run → Type 0
-Fitting s r = Shown s r × (¬ WrongRecord s r)
+-- ---- a report: its refusals
 
 -- the tests of 9, 16 and 17 find their faults
 record-finds : (s : Sheet) (r : Run) → Finds (recordOk s r) (WrongRecord s r)
@@ -247,16 +225,6 @@ module _ (s : Sheet) (r : Run) where
       → stepOf s r Blocked ≡ answered (Refused (offerOf s r)) (endedRun r)
   unfolding answerOf
   blocked-refused z t m = step-answers s r Blocked z ∙ rw (t, m)
-
--- What becomes of a report: it is refused and alters nothing, or moves the run on below depth k, or ends it.
-pub data Taken (s : Sheet) (r : Run) (x : Report) : Type 0 where
-  denies : reportFault s r x ≢ 0 → stepOf s r x ≡ answered (Denied (reportFault s r x)) r → Taken s r x
-  moves : (i : ℕ) → x ≡ Event i → reportFault s r x ≡ 0 → Initial (s .e) (row s (r .node)) i → r .depth < r .k
-      → stepOf s r x ≡ answered (Going (offerOf s (movedBy s r i))) (movedBy s r i) → Taken s r x
-  strays : (i : ℕ) → x ≡ Event i → reportFault s r x ≡ 0 → ¬ Initial (s .e) (row s (r .node)) i → stepOf s r x ≡ answered (Stray i) (endedRun r) → Taken s r x
-  refuses : x ≡ Blocked → reportFault s r x ≡ 0 → flag (r .«trace_only») ≡ false → mayStop (row s (r .node)) ≡ false
-      → stepOf s r x ≡ answered (Refused (offerOf s r)) (endedRun r) → Taken s r x
-  passes : reportFault s r x ≡ 0 → stepOf s r x ≡ answered Passed (endedRun r) → Taken s r x
 
 -- every report is refused, moves the run on, or ends it
 pub taken : (s : Sheet) (r : Run) (x : Report) → Taken s r x

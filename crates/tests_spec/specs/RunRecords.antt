@@ -11,28 +11,18 @@ use borrow.Author.Tests.{eqb-true, eqb-false}
 use Rattle.base.specs.Truth.{dec, clash}
 use Rattle.base.specs.Refusal.{orElse-some}
 use Rattle.sheet_spec.specs.declared.Sheet.{Sheet}
-use Rattle.sheet_spec.specs.Kept.{row, successor}
 use Rattle.sheet_spec.specs.Refusals.{sheetFault}
 use Rattle.tests_spec.specs.declared.Run.{Run}
 use Rattle.tests_spec.specs.declared.Report.{Report}
 use Rattle.tests_spec.specs.declared.Report.the-variants.{Event}
 use Rattle.tests_spec.specs.declared.Answer.{Answer}
-use Rattle.tests_spec.specs.declared.Answer.the-variants.{Going, Stray, Refused, Passed, Denied}
+use Rattle.tests_spec.specs.declared.Answer.the-variants.{Going, Refused, Denied}
 use Rattle.tests_spec.specs.Flags.{flag, flag-clear, flag-set, flag-of}
 use Rattle.tests_spec.specs.Runs.{answered, offerOf, newRun, openFault, openOf, reportFault, movedBy, endedRun, stepOf}
 use Rattle.tests_spec.specs.declared.Stepped.{Stepped}
 use Rattle.tests_spec.specs.Numbers.{said}
-use Rattle.tests_spec.specs.RunLaws.{Taken, open-going, answer-of, denies, kind-same, moves, passes, refuses, report-16, run-of, step-denied, strays, taken, unrefused, value-same}
-
--- the record q is that of a run at its start: test k with the choice number h, trace-only or not, which has not ended
--- and is at node 0 and depth 0
-pub record Started (traceOnly : Bool) (k h : ℕ) (q : Run) : Type 0 where
-  pub test : q .k ≡ k
-  pub choice : q .h ≡ h
-  pub kind : flag (q .«trace_only») ≡ traceOnly
-  pub going : flag (q .ended) ≡ false
-  pub node : q .node ≡ 0
-  pub depth : q .depth ≡ 0
+use Rattle.tests_spec.specs.RunLaws.{open-going, answer-of, kind-same, report-16, run-of, step-denied, taken, unrefused, value-same}
+use Rattle.tests_spec.specs.Reports.{Taken, denies, moves, strays, refuses, passes, Started, Moved, Marked, counts, takenCount, runAfter}
 
 -- an opening that is not refused has the record of a run at its start
 pub opening-starts : (traceOnly : Bool) (s : Sheet) (k h : ℕ) → openFault s k ≡ 0 → Started traceOnly k h (openOf traceOnly s k h .run)
@@ -40,24 +30,6 @@ unfolding newRun
 opening-starts traceOnly s k h z =
     rw (ap (λ (x : Stepped). x .run) (open-going s k h traceOnly z))
     (record { test = refl; choice = refl; kind = flag-of traceOnly; going = flag-clear; node = refl; depth = refl })
-
--- the record q is r moved on by event i
-pub record Moved (s : Sheet) (r : Run) (i : ℕ) (q : Run) : Type 0 where
-  pub depth : q .depth ≡ r .depth + 1
-  pub node : q .node ≡ successor (row s (r .node)) i
-  pub k : q .k ≡ r .k
-  pub h : q .h ≡ r .h
-  pub «trace_only» : q .«trace_only» ≡ r .«trace_only»
-  pub ended : q .ended ≡ r .ended
-
--- the record q is r, marked with 1 as ended
-pub record Marked (r q : Run) : Type 0 where
-  pub ended : q .ended ≡ 1
-  pub node : q .node ≡ r .node
-  pub depth : q .depth ≡ r .depth
-  pub k : q .k ≡ r .k
-  pub h : q .h ≡ r .h
-  pub «trace_only» : q .«trace_only» ≡ r .«trace_only»
 
 module _ (s : Sheet) (r : Run) (x : Report) where
   -- a refusal is answered exactly with the number of the report's refusal
@@ -151,24 +123,6 @@ module _ (s : Sheet) (r : Run) (x : Report) where
 pub ended-marked : (r : Run) → flag (endedRun r .ended) ≡ true
 unfolding endedRun
 ended-marked r = flag-set 1 (λ e. omega arith)
-
--- 1 for an answer that is not a refusal
-unfoldable pub counts : Answer → ℕ
-counts (Going x) = 1
-counts (Stray i) = 1
-counts (Refused x) = 1
-counts Passed = 1
-counts (Denied m) = 0
-
--- how many of a sequence of reports, each shown some sheet, are not denied
-unfoldable pub takenCount : Run → List (Sheet × Report) → ℕ
-takenCount r [] = 0
-takenCount r (l ∷ ls) = counts (stepOf (l .0) r (l .1) .answer) + takenCount (stepOf (l .0) r (l .1) .run) ls
-
--- the record after a sequence of reports
-unfoldable pub runAfter : Run → List (Sheet × Report) → Run
-runAfter r [] = r
-runAfter r (l ∷ ls) = runAfter (stepOf (l .0) r (l .1) .run) ls
 
 -- whatever an ended run is shown, its record stays
 pub ended-stays : (ls : List (Sheet × Report)) (r : Run) → flag (r .ended) ≡ true → runAfter r ls ≡ r

@@ -12,7 +12,7 @@ use lib.ListN.{length, getD, length-append, List·getD-append}
 use lib.Seq.{getD-at}
 use borrow.Author.Tests.{lt-ltb, le-ltb}
 use Rattle.base.specs.Truth.{lt-or-ge}
-use Rattle.text_spec.specs.Lines.{decimalIn, decimal}
+use Rattle.text_spec.specs.Lines.{decimalIn, decimal, valueFrom}
 
 -- more digits than needed make no difference
 fuel : (f g n : ℕ) → n < f → n < g → decimalIn f n ≡ decimalIn g n
@@ -35,11 +35,6 @@ decimal-small n h = rw (lt-ltb n 10 h)
 pub decimal-large : (n : ℕ) → 10 ≤ n → decimal n ≡ decimal (n / 10) ++ ((48 + n % 10) ∷ [])
 unfolding decimal decimalIn
 decimal-large n h = rw (le-ltb n 10 h) (ap (λ (l : List ℕ). l ++ ((48 + n % 10) ∷ [])) (fuel n (suc (n / 10)) (n / 10) (omega arith) (omega arith)))
-
--- the number that a list of digits writes, after the number that the digits before it write
-unfoldable pub valueFrom : ℕ → List ℕ → ℕ
-valueFrom v [] = v
-valueFrom v (x ∷ t) = valueFrom (v * 10 + (x - 48)) t
 
 value-snoc : (v : ℕ) (t : List ℕ) (x : ℕ) → valueFrom v (t ++ (x ∷ [])) ≡ valueFrom v t * 10 + (x - 48)
 unfolding valueFrom

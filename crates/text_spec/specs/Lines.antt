@@ -2,7 +2,7 @@
 -- one newline, words stand one blank apart, and numbers are in base ten.
 use mathlib.Core.Bool.{cond}
 use mathlib.Core.List.{List, [], _∷_, _++_}
-use Prim.Native.Nat.{ℕ, zero, suc, _+_, _/_, _%_}
+use Prim.Native.Nat.{ℕ, zero, suc, _+_, _-_, _*_, _/_, _%_}
 use Prim.Native.Char.{code}
 use Prim.Native.String.{String, [] as []ˢ, _∷_ as _∷ˢ_}
 use lib.Dec.{ltb}
@@ -20,6 +20,11 @@ decimalIn (suc most) n = cond (ltb n 10) ((48 + n) ∷ []) (decimalIn most (n / 
 -- n in base ten, without leading zeros (n + 1 digits are always enough)
 unfoldable pub decimal : ℕ → List ℕ
 decimal n = decimalIn (suc n) n
+
+-- the number that a list of digits writes, after the number that the digits before it write
+unfoldable pub valueFrom : ℕ → List ℕ → ℕ
+valueFrom v [] = v
+valueFrom v (x ∷ t) = valueFrom (v * 10 + (x - 48)) t
 
 -- a line of some words and a number, as in `reference refused k`, `refines cleared c`, `stray e`
 unfoldable pub numberLine : List ℕ → ℕ → List ℕ

@@ -1,6 +1,7 @@
 pub mod Verdicts
 pub mod Numbers
 pub mod Suites
+pub mod Failures
 pub mod Blocks
 pub mod FaultyPairs
 pub mod VerdictLaws

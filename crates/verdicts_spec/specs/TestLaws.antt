@@ -12,12 +12,12 @@ use Rattle.base.specs.Truth.{clash, lt-or-ge, not-i}
 use Rattle.walks.specs.Graph.{walk}
 use Rattle.walks.specs.Pairs.{PairLeads, pairDistance, pairDistance≤, pairTrace, pairTrace-length, pairTrace-leads}
 use Rattle.sheet_spec.specs.declared.Sheet.{Sheet}
-use Rattle.sheet_spec.specs.Kept.{row, acceptance, mayStop, graph}
+use Rattle.sheet_spec.specs.Kept.{row, mayStop, graph}
 use Rattle.sheet_spec.specs.Refusals.{sheetFault}
 use Rattle.sheet_spec.specs.RowLaws.{mayStop-means}
 use Rattle.sheet_spec.specs.Sound.{Sound}
 use Rattle.sheet_spec.specs.SoundLaws.{nodes-most, check-sound}
-use Rattle.refinement_spec.specs.Refinement.{After, Trace, Strays, Overrefuses, TraceRefines, RefinesIn}
+use Rattle.refinement_spec.specs.Refinement.{After, Trace, TraceRefines, RefinesIn}
 use Rattle.refinement_spec.specs.ViolatingPairs.{hasStray, hasRefusal, violating}
 use Rattle.refinement_spec.specs.PairLaws.{violates-means}
 use Rattle.refinement_spec.specs.RefinementLaws.{walk-after, trace-means, after-unique, strays-at, overrefuses-at, violation-means, refines-means, refines-distance}
@@ -25,16 +25,8 @@ use Rattle.verdicts_spec.specs.declared.Verdict.the-variants.{Passes}
 use Rattle.verdicts_spec.specs.Verdicts.{FailsTest, failsFrom, verdictOf}
 use Rattle.verdicts_spec.specs.Blocks.{stop-refusal}
 use Rattle.verdicts_spec.specs.FaultyPairs.{StopsAt, faulty, faulty-means, FaultyEnd, fails-end, end-fails}
+use Rattle.verdicts_spec.specs.Failures.{Stops, Shows}
 use Rattle.verdicts_spec.specs.VerdictLaws.{fails-means, verdict-passes}
-
--- after t the sheet may stop: one of the sets of the node reached is empty
-abbrev pub Stops : Sheet → List ℕ → Type 0
-Stops s t = (v : ℕ) × After s t v × ((j : ℕ) × (j < row s v .c) × (acceptance (row s v) j ≡ 0))
-
--- what makes test k fail after a common trace t: a stray; and, unless traces alone count, a device that may stop where
--- the reference may not, or, if t has k events, a refusal
-abbrev pub Shows : Bool → Sheet → Sheet → ℕ → List ℕ → Type 0
-Shows traceOnly P Q k t = Strays P Q t ⊎ ((traceOnly ≡ false) × ((Stops Q t × (¬ Stops P t)) ⊎ ((length t ≡ k) × Overrefuses P Q t)))
 
 -- after a trace a sheet may stop exactly if the node reached may
 stops-at : {s : Sheet} → Sound s → (t : List ℕ) (v : ℕ) → After s t v → Stops s t ↔ (mayStop (row s v) ≡ true)

@@ -3,7 +3,7 @@ use native.Mathlib.Omega.{arith}
 use mathlib.Core.Path.{refl, _≡_}
 use Prim.Native.Nat.{_-_, _^_, _≤_, _<_}
 use lib.ListN.{length, drop}
-use Rattle.text_spec.specs.DecimalLaws.{valueFrom}
+use Rattle.text_spec.specs.Lines.{valueFrom}
 use Rattle.live_words.proofs.Loops.{value-small, value-below, value-next, value-done}
 use Rattle.live_words.proofs.value.Statement.{statement}
 use Rattle.live_words.proofs.value.Tie as tie
