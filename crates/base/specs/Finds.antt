@@ -1,5 +1,5 @@
--- A test and the fault that it looks for. The fault is said with "there is" and "for every", the test can be run; it
--- passes exactly if there is no such fault.
+-- Nothing to believe: laws of a test and the fault that it looks for. The fault is said with "there is" and "for
+-- every", the test can be run; it passes exactly if there is no such fault.
 use mathlib.Core.Path.{_≡_}
 use mathlib.Core.Logic.{_⊎_, inl, inr, _≢_}
 use mathlib.Core.Bool.{Bool, true, false, not, _&&_, _||_}

@@ -1,5 +1,5 @@
--- Loops that count up: one that fills a table place by place, and one that leaves at the first place where a test
--- fails.
+-- Nothing to believe: laws of loops that count up: one that fills a table place by place, and one that leaves at the
+-- first place where a test fails.
 use mathlib.Core.Path.{_≡_, refl, sym, _∙_}
 use mathlib.Core.Bool.{Bool, true, false, not}
 use mathlib.Core.List.{List, _++_, append-nil}

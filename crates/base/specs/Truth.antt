@@ -1,4 +1,5 @@
--- Truth values. A test passes if it is `true`; these are the laws of "and", "or" and "not" in that form.
+-- Nothing to believe: laws of truth values. A test passes if it is `true`; these are the laws of "and", "or" and "not"
+-- in that form.
 use mathlib.Core.Path.{_≡_, refl, sym, _∙_}
 use mathlib.Core.Logic.{_⊎_, inl, inr}
 use mathlib.Core.Bool.{Bool, true, false, not, _&&_, _||_, true≢false, false≢true}

@@ -1,7 +1,7 @@
--- The P cases of 01 as one table, in 01's order: each row is a call or a whole run, beside it stand the numbers that it
--- answers, and one equation has them all. Comments that begin with 01 have the words of its case. The rows `adding` are
--- for 02, K5, the rows `lending` for K7. Sheets come as bytes, through the definition of reading. The rows compute
--- through the definitions that the contracts cite, the probe lists among them.
+-- Nothing to believe: 01's cases (P) as one table, to be read beside 01 and in its order: each row is a call or a whole
+-- run, beside it stand the numbers that it answers, and one equation has them all. Comments that begin with 01 have the
+-- words of its case. The rows `adding` are for 02, K5, the rows `lending` for K7. Sheets come as bytes, through the
+-- definition of reading. The rows compute through the definitions that the contracts cite, the probe lists among them.
 use mathlib.Core.Path.{_≡_, refl}
 use mathlib.Core.Bool.{Bool, true, false}
 use mathlib.Core.List.{List, [], _∷_, _++_, map}

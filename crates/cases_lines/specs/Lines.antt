@@ -1,5 +1,4 @@
--- For the programs of cases; nothing to believe.
--- What a line of a Run program is after each byte.
+-- Nothing to believe: for the programs of cases. What a line of a Run program is after each byte.
 use mathlib.Core.Bool.{true, false, cond, _&&_}
 use Prim.Native.Nat.{ℕ, _+_, _-_, _*_}
 use lib.Dec.{eqb, ltb}

@@ -1,5 +1,5 @@
--- For the programs of cases; nothing to believe.
--- The sheets that the Run programs name: their bytes, and how a sheet is changed to deserve a refusal.
+-- Nothing to believe: for the programs of cases. The sheets that the Run programs name: their bytes, and how a sheet is
+-- changed to deserve a refusal.
 use mathlib.Core.Bool.{cond}
 use mathlib.Core.List.{List, [], _∷_}
 use Prim.Native.Nat.{ℕ, _+_}

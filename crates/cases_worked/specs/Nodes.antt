@@ -1,4 +1,5 @@
--- The lines of the program `probe_list`: of 01's example reference, and of three nodes of which one may stop.
+-- Nothing to believe: cases. The lines of the program `probe_list`: of 01's example reference, and of three nodes of
+-- which one may stop.
 use mathlib.Core.Path.{_≡_, refl}
 use mathlib.Core.List.{[], _∷_, map}
 use Rattle.base.specs.Range.{all, any}

@@ -1,4 +1,4 @@
--- A case beyond the table: a run that ends failed, as a term of the definition of a failed test.
+-- Nothing to believe: a case beyond the table. A run that ends failed, as a term of the definition of a failed test.
 use mathlib.Core.Path.{refl}
 use mathlib.Core.Logic.{inl, inr, _≢_}
 use mathlib.Core.Bool.{false}

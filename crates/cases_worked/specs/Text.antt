@@ -1,5 +1,5 @@
--- The text of the program `compare` on 01's example, whole, and on a pair that names a refused probe after the empty
--- trace.
+-- Nothing to believe: cases. The text of the program `compare` on 01's example, whole, and on a pair that names a
+-- refused probe after the empty trace.
 use mathlib.Core.Path.{_≡_, refl}
 use mathlib.Core.List.{List, [], _∷_, _++_, map}
 use Prim.Native.Nat.{ℕ}

@@ -1,5 +1,5 @@
--- For the proofs of this crate; nothing to believe.
--- The nearest bad pair and the least trace to one depend on a test of pairs only at the pairs of nodes.
+-- Nothing to believe: for the proofs of this crate. The nearest bad pair and the least trace to one depend on a test of
+-- pairs only at the pairs of nodes.
 use mathlib.Core.Path.{_≡_, sym, _∙_}
 use mathlib.Core.Logic.{_⊎_, inl, inr}
 use mathlib.Core.Bool.{Bool}

@@ -1,5 +1,5 @@
--- For the proofs of this crate; nothing to believe.
--- The refusal of a comparison by the lengths of its two lists, and that it is the definition's.
+-- Nothing to believe: for the proofs of this crate. The refusal of a comparison by the lengths of its two lists, and
+-- that it is the definition's.
 use mathlib.Core.Path.{_≡_, refl}
 use mathlib.Core.List.{List}
 use Prim.Native.Nat.{ℕ, _-_}

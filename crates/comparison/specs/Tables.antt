@@ -1,6 +1,6 @@
--- For the proofs of this crate; nothing to believe.
--- From the tables to the definitions: the graph that a sheet's table draws is the sheet's, the table of violating pairs
--- holds what the definition says, and so a search over them gives the answer and leaves the lists as they are defined.
+-- Nothing to believe: for the proofs of this crate. From the tables to the definitions: the graph that a sheet's table
+-- draws is the sheet's, the table of violating pairs holds what the definition says, and so a search over them gives
+-- the answer and leaves the lists as they are defined.
 use mathlib.Core.Path.{_≡_, sym, ap, _∙_, fun-ext}
 use mathlib.Core.Logic.{_⊎_, inl, inr, _≢_}
 use mathlib.Core.Bool.{Bool}

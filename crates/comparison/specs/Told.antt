@@ -1,4 +1,4 @@
--- The answer by what the search found, and the numbers that this may have; nothing to believe.
+-- Nothing to believe: the answer by what the search found, and the numbers that this may have.
 use Prim.Native.Nat.{_≤_, _<_}
 use Rattle.sheet_spec.specs.declared.Sheet.{Sheet}
 use Rattle.sheet_spec.specs.Kept.{row}

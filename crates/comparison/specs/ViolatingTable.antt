@@ -1,4 +1,4 @@
--- The table of violating pairs; nothing to believe. A law says what stands at the place of a pair.
+-- Nothing to believe: the table of violating pairs. A law says what stands at the place of a pair.
 use mathlib.Core.Path.{_≡_, _∙_}
 use mathlib.Core.Bool.{Bool, false}
 use mathlib.Core.List.{List, _++_}

@@ -1,4 +1,4 @@
--- Sets that gather the numbers below n which pass a test.
+-- Nothing to believe: laws of sets that gather the numbers below n which pass a test.
 use mathlib.Core.Path.{_≡_, refl, _∙_}
 use mathlib.Core.Logic.{_⊎_, inl, inr}
 use mathlib.Core.Bool.{Bool, true, false, _||_, cond}

@@ -1,4 +1,5 @@
--- What an opening prints: the reference's own refusal, 14, or the first offer. And no line has more than 100 bytes.
+-- Nothing to believe: laws. What an opening prints: the reference's own refusal, 14, or the first offer. And no line
+-- has more than 100 bytes.
 use mathlib.Core.Path.{_≡_, sym, _∙_}
 use mathlib.Core.Logic.{_⊎_, inl, inr, _≢_}
 use mathlib.Core.Bool.{Bool, true, false, cond}

@@ -1,5 +1,5 @@
--- Lines that are reports and lines that are not, words that are numbers and words that are not, and every kind of line
--- that is printed.
+-- Nothing to believe: cases. Lines that are reports and lines that are not, words that are numbers and words that are
+-- not, and every kind of line that is printed.
 use mathlib.Core.Path.{_≡_, refl}
 use mathlib.Core.Bool.{true, false}
 use mathlib.Core.List.{List, [], _∷_, _++_, map}

@@ -1,4 +1,5 @@
--- Which bytes are a number, and which number they are: exactly the digits of a number that is not too large.
+-- Nothing to believe: laws. Which bytes are a number, and which number they are: exactly the digits of a number that is
+-- not too large.
 use mathlib.Core.Path.{_≡_, refl, sym, _∙_}
 use mathlib.Core.Logic.{_⊎_, inl, inr, _≢_}
 use mathlib.Core.Bool.{Bool, true, false, _&&_, cond}

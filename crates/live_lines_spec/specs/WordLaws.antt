@@ -1,5 +1,6 @@
--- Which lines are reports: `blocked`, and `event ` with one to three digits. Every other line is an event that no sheet
--- has, and is refused with 15. And which words ask for a test: any others are refused with 14.
+-- Nothing to believe: laws. Which lines are reports: `blocked`, and `event ` with one to three digits. Every other line
+-- is an event that no sheet has, and is refused with 15. And which words ask for a test: any others are refused with
+-- 14.
 use mathlib.Core.Path.{_≡_, refl, sym, ap, _∙_}
 use mathlib.Core.Logic.{_⊎_, inl, inr, _≢_}
 use mathlib.Core.Bool.{Bool, true, false, not, _&&_, _||_, true≢false, false≢true, cond}

@@ -1,4 +1,4 @@
--- Sets of nodes as numbers: nothing to believe, inner functions cite these definitions. Who is in a set is `has`, as
+-- Nothing to believe: sets of nodes as numbers; inner functions cite these definitions. Who is in a set is `has`, as
 -- for events.
 use mathlib.Core.Path.{_≡_, refl, ap, _∙_}
 use Prim.Native.Nat.{ℕ, zero, suc, _+_, _-_, _*_, _/_, _%_, _^_, _<_, min, max}

@@ -1,4 +1,4 @@
--- The tests over lent sets, as the loops make them; nothing to believe. Laws join them to the definitions.
+-- Nothing to believe: the tests over lent sets, as the loops make them. Laws join them to the definitions.
 use mathlib.Core.Path.{_≡_, refl}
 use mathlib.Core.Bool.{Bool, not, _&&_, _||_}
 use mathlib.Core.List.{List}

@@ -1,5 +1,5 @@
--- What the tests of ViolatingPairs mean: strays as events, refusals as acceptances and as the sets that may be refused.
--- r is the reference's row, q the device's.
+-- Nothing to believe: laws. What the tests of ViolatingPairs mean: strays as events, refusals as acceptances and as the
+-- sets that may be refused. r is the reference's row, q the device's.
 use mathlib.Core.Path.{_≡_, refl, ap}
 use mathlib.Core.Logic.{_⊎_, inl, inr, _↔_}
 use mathlib.Core.Bool.{Bool, true, false, not, _&&_}

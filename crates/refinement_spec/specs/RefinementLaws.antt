@@ -1,5 +1,5 @@
--- What sound sheets do and refuse after a trace, and what violations and refinement come to over the pairs of their
--- nodes.
+-- Nothing to believe: laws. What sound sheets do and refuse after a trace, and what violations and refinement come to
+-- over the pairs of their nodes.
 use mathlib.Core.Path.{_≡_, refl, sym, _∙_, subst}
 use mathlib.Core.Logic.{_⊎_, inl, inr, _↔_}
 use mathlib.Core.Bool.{Bool, true, false, true≢false}

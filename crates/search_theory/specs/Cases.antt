@@ -1,6 +1,6 @@
--- The theory of the search; nothing to believe.
--- Examples of the definitions, computed. The first graph has nodes 0 and 1, the second 0, 1 and 2; each of two events
--- leads to the next node, round and round, but event 1 has no successor at the second's last node.
+-- Nothing to believe: the theory of the search. Examples of the definitions, computed. The first graph has nodes 0 and
+-- 1, the second 0, 1 and 2; each of two events leads to the next node, round and round, but event 1 has no successor at
+-- the second's last node.
 use mathlib.Core.Path.{_≡_, refl}
 use mathlib.Core.Bool.{Bool, true, false}
 use mathlib.Core.List.{List, [], _∷_, _++_}

@@ -1,5 +1,5 @@
--- The theory of the search; nothing to believe.
--- What the search answers and leaves behind, said by the theory of walks alone; and that the queue's end gives it.
+-- Nothing to believe: the theory of the search. What the search answers and leaves behind, said by the theory of walks
+-- alone; and that the queue's end gives it.
 use mathlib.Core.Path.{_≡_, sym, ap, _∙_}
 use mathlib.Core.Logic.{_⊎_, inl, inr}
 use mathlib.Core.Bool.{Bool, true, false, cond}

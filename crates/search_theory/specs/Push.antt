@@ -1,6 +1,6 @@
--- The theory of the search; nothing to believe.
--- What holds of the queue stays true: when an event leads to a node without an entry, which becomes the last entry;
--- when an event leads to no such node; when all events of an entry have been tried; and at the start.
+-- Nothing to believe: the theory of the search. What holds of the queue stays true: when an event leads to a node
+-- without an entry, which becomes the last entry; when an event leads to no such node; when all events of an entry have
+-- been tried; and at the start.
 use mathlib.Core.Path.{_≡_, refl, sym, ap, _∙_}
 use mathlib.Core.Logic.{_≢_, _⊎_, ⊎-elim}
 use Prim.Native.Nat.{ℕ, suc, _+_, _*_, _≤_, _<_}

@@ -1,8 +1,7 @@
--- The theory of the search; nothing to believe.
--- Breadth-first search in one graph: what holds of its queue, and that the first bad entry ends the least trace to a
--- bad node. Entry x of the queue is the node N x. K v is the link of node v: 0 while it has no entry, 1 at the start,
--- and linkOf j i if the event i of entry j first led to it, so that the order of links is the order in which the search
--- tries events. D v is the number of events that led to v.
+-- Nothing to believe: the theory of the search. Breadth-first search in one graph: what holds of its queue, and that
+-- the first bad entry ends the least trace to a bad node. Entry x of the queue is the node N x. K v is the link of node
+-- v: 0 while it has no entry, 1 at the start, and linkOf j i if the event i of entry j first led to it, so that the
+-- order of links is the order in which the search tries events. D v is the number of events that led to v.
 use mathlib.Core.Path.{_≡_, refl, sym, ap, _∙_}
 use mathlib.Core.Logic.{_≢_, _⊎_, inl, inr}
 use mathlib.Core.Bool.{Bool, true, false, cond}

@@ -1,6 +1,6 @@
--- The theory of the search; nothing to believe.
--- Reading the answer off the work list when the search has ended: the trace, link by link from the last event to the
--- first; the answer's numbers; and what the whole search leaves in its lists.
+-- Nothing to believe: the theory of the search. Reading the answer off the work list when the search has ended: the
+-- trace, link by link from the last event to the first; the answer's numbers; and what the whole search leaves in its
+-- lists.
 use mathlib.Core.Path.{_≡_, refl, sym, ap, _∙_}
 use mathlib.Core.Logic.{_⊎_, inl, inr, _≢_}
 use mathlib.Core.Bool.{Bool}

@@ -1,5 +1,5 @@
--- The theory of the search; nothing to believe.
--- What the functions of the search ask of one another, and that each gives the next what it asks.
+-- Nothing to believe: the theory of the search. What the functions of the search ask of one another, and that each
+-- gives the next what it asks.
 use mathlib.Core.Path.{_≡_, refl, sym, ap, _∙_}
 use mathlib.Core.Logic.{_⊎_, inl, inr, ⊎-elim}
 use mathlib.Core.Bool.{Bool, true, false, cond}

@@ -1,7 +1,6 @@
--- The theory of the search; nothing to believe.
--- Successors as a flat table: node n's successor on event i stands at place n * 12 + i, and a number that is no node
--- stands for none. The bad pairs as a table of truth values: with q nodes in the second graph, the pair (n, m) stands
--- at n * q + m.
+-- Nothing to believe: the theory of the search. Successors as a flat table: node n's successor on event i stands at
+-- place n * 12 + i, and a number that is no node stands for none. The bad pairs as a table of truth values: with q
+-- nodes in the second graph, the pair (n, m) stands at n * q + m.
 use mathlib.Core.Path.{_≡_, ap, _∙_}
 use mathlib.Core.Logic.{_⊎_, inl, inr}
 use mathlib.Core.Bool.{Bool, true, false, cond, _&&_}

@@ -1,8 +1,7 @@
--- The theory of the search; nothing to believe.
--- The search's work list: with n nodes, n words each for the queue's entries and for the links of the nodes. The
--- distances of the nodes stand nowhere; a function of the proofs has them (`D`).
--- The steps of the search on it, each a definition of the shape of its code, and that they keep what holds of the
--- queue.
+-- Nothing to believe: the theory of the search. The search's work list: with n nodes, n words each for the queue's
+-- entries and for the links of the nodes. The distances of the nodes stand nowhere; a function of the proofs has them
+-- (`D`). The steps of the search on it, each a definition of the shape of its code, and that they keep what holds of
+-- the queue.
 use mathlib.Core.Path.{_≡_, refl, sym, ap, _∙_}
 use mathlib.Core.Logic.{_⊎_, inl, inr, _≢_}
 use mathlib.Core.Bool.{Bool, true, false, cond}

@@ -1,4 +1,4 @@
--- The shape of a test; nothing to believe. An inner function cites it, a law joins it to the refusals of the bytes.
+-- Nothing to believe: the shape of a test. An inner function cites it, a law joins it to the refusals of the bytes.
 use mathlib.Core.Bool.{Bool, _&&_}
 use mathlib.Core.List.{List}
 use Prim.Native.Nat.{ℕ, _+_}

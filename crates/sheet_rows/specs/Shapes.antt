@@ -1,4 +1,4 @@
--- The shape of a loop; nothing to believe. An inner function cites it, a law joins it to the initials.
+-- Nothing to believe: the shape of a loop. An inner function cites it, a law joins it to the initials.
 use mathlib.Core.Bool.{not, _&&_, cond}
 use Prim.Native.Nat.{ℕ}
 use lib.Dec.{eqb, ltb}

@@ -1,5 +1,5 @@
--- For contracts of inner functions; nothing to believe.
--- Tables over all rows: the successors of all nodes, twelve to a node, and the initials of each node.
+-- Nothing to believe: for contracts of inner functions. Tables over all rows: the successors of all nodes, twelve to a
+-- node, and the initials of each node.
 use mathlib.Core.Path.{_≡_, _∙_}
 use mathlib.Core.List.{List}
 use Prim.Native.Nat.{ℕ, zero, suc, _+_, _*_, _/_, _%_, _<_}

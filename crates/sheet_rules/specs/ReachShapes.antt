@@ -1,4 +1,4 @@
--- The shapes of loops; nothing to believe. Inner functions cite them; laws join them to the walks of a sheet.
+-- Nothing to believe: the shapes of loops. Inner functions cite them; laws join them to the walks of a sheet.
 use mathlib.Core.Bool.{cond}
 use mathlib.Core.List.{List}
 use Prim.Native.Nat.{ℕ, zero, suc}

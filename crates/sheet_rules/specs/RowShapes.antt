@@ -1,4 +1,4 @@
--- The shapes of loops; nothing to believe. Inner functions cite them, laws join them to the rules.
+-- Nothing to believe: the shapes of loops. Inner functions cite them, laws join them to the rules.
 use mathlib.Core.Bool.{Bool, _||_, cond}
 use Prim.Native.Nat.{ℕ, zero, suc}
 use lib.Dec.{eqb, ltb}

@@ -1,4 +1,4 @@
--- The shape in which the inner functions see a row; nothing to believe. A law joins it to the rules.
+-- Nothing to believe: the shape in which the inner functions see a row. A law joins it to the rules.
 use mathlib.Core.List.{List, []}
 use Prim.Native.Nat.{ℕ}
 use Rattle.sheet_spec.specs.declared.Row.{Row}

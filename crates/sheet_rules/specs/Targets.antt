@@ -1,5 +1,5 @@
--- For the proofs of this crate; nothing to believe.
--- The nodes to which a row leads, as a set: what is in it, node by node.
+-- Nothing to believe: for the proofs of this crate. The nodes to which a row leads, as a set: what is in it, node by
+-- node.
 use mathlib.Core.Path.{_≡_, refl, sym, ap, _∙_}
 use mathlib.Core.Logic.{_⊎_, inl, inr}
 use mathlib.Core.Bool.{Bool, true, false, _||_, cond}

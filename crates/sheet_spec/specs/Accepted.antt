@@ -1,4 +1,5 @@
--- What reading accepts, a later call accepts: the sheet that accepted bytes spell passes every test of a kept sheet.
+-- Nothing to believe: steps of proofs. What reading accepts, a later call accepts: the sheet that accepted bytes spell
+-- passes every test of a kept sheet.
 use mathlib.Core.Path.{_≡_, refl, _∙_}
 use mathlib.Core.Logic.{_⊎_, inl, inr}
 use mathlib.Core.Bool.{true, _&&_, _||_}

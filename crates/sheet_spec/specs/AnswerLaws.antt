@@ -1,4 +1,5 @@
--- What reading answers: the number of the refusal; with it 0 in every place, without it the sheet that the bytes spell.
+-- Nothing to believe: laws. What reading answers: the number of the refusal; with it 0 in every place, without it the
+-- sheet that the bytes spell.
 use mathlib.Core.Path.{_≡_, refl}
 use mathlib.Core.Logic.{_≢_}
 use mathlib.Core.List.{List}

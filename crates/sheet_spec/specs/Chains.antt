@@ -1,5 +1,5 @@
--- For the proofs of this crate and of those above it; nothing to believe.
--- Steps along a chain of refusals: what is known of the numbers before a number.
+-- Nothing to believe: steps of proofs, here and in crates above: along a chain of refusals, what is known of the
+-- numbers before a number.
 use mathlib.Core.Path.{_≡_}
 use mathlib.Core.Logic.{_⊎_, inl, inr, _≢_, _↔_}
 use Prim.Native.Nat.{ℕ, _≤_, _<_}

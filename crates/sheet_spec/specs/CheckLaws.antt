@@ -1,5 +1,5 @@
--- The refusals of a kept sheet: each number is given exactly if its fault is there and no earlier one is (01, "Checks
--- run in the order of the numbers").
+-- Nothing to believe: laws. The refusals of a kept sheet: each number is given exactly if its fault is there and no
+-- earlier one is (01, "Checks run in the order of the numbers").
 use mathlib.Core.Path.{_≡_, refl, sym}
 use mathlib.Core.Logic.{_⊎_, inl, inr, _≢_, _↔_}
 use mathlib.Core.Bool.{Bool, true, false, _&&_}

@@ -1,5 +1,5 @@
--- The bytes of a sheet (01, "A sheet"), as a recursion over the kept sheet. It knows nothing of reading: that reading
--- undoes it, and nothing else, is the law of EncodingLaws.
+-- Nothing to believe: words for laws alone. The bytes of a sheet (01, "A sheet"), as a recursion over the kept sheet.
+-- It knows nothing of reading: that reading undoes it, and nothing else, is the law of EncodingLaws.
 use mathlib.Core.List.{List, [], _∷_, _++_}
 use Prim.Native.Nat.{ℕ, _/_, _%_}
 use lib.ListN.{length, take}

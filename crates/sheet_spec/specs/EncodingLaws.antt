@@ -1,7 +1,7 @@
--- Reading undoes writing, and nothing else: bytes are read as a sheet exactly if they are the bytes of that sheet and a
--- later call accepts it (`read-encode`); bytes are accepted exactly if they are the bytes of an accepted sheet
--- (`accepted-exactly`); bytes with a right head and layout are the bytes of the sheet that they spell, whatever its
--- rules (`encode-spelled`), and that sheet has the machine's form (`sheetOf-form`).
+-- Nothing to believe: laws. Reading undoes writing, and nothing else: bytes are read as a sheet exactly if they are the
+-- bytes of that sheet and a later call accepts it (`read-encode`); bytes are accepted exactly if they are the bytes of
+-- an accepted sheet (`accepted-exactly`); bytes with a right head and layout are the bytes of the sheet that they
+-- spell, whatever its rules (`encode-spelled`), and that sheet has the machine's form (`sheetOf-form`).
 use mathlib.Core.Path.{_≡_, sym, ap, _∙_}
 use mathlib.Core.Logic.{_↔_}
 use mathlib.Core.List.{List}

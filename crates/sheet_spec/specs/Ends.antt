@@ -1,6 +1,5 @@
--- For the proofs of this crate; nothing to believe.
--- What the walk over the nodes finds is what the encoding says of 4 and 5: nodes that are whole are the bytes of their
--- rows, and rows that are written after the head are whole nodes.
+-- Nothing to believe: steps of proofs. What the walk over the nodes finds is what the encoding says of 4 and 5: nodes
+-- that are whole are the bytes of their rows, and rows that are written after the head are whole nodes.
 use mathlib.Core.Path.{_≡_, refl, sym, ap, _∙_}
 use mathlib.Core.Logic.{_⊎_, inl, inr, _↔_, Iff·trans, Iff·and, Iff·not}
 use mathlib.Core.Bool.{true, false}

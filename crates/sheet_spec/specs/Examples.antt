@@ -1,4 +1,4 @@
--- The sheets of 01's cases, as bytes. Every crate with cases takes them from here.
+-- Nothing to believe: the sheets of 01's cases, as bytes. Every crate with cases takes them from here.
 use mathlib.Core.List.{List, [], _∷_}
 use Prim.Native.Nat.{ℕ}
 use Rattle.sheet_spec.specs.declared.Sheet.{Sheet}

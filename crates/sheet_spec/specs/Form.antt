@@ -1,4 +1,5 @@
--- The machine's form of a sheet and of a list of bytes: what the types of the code say, in numbers.
+-- Nothing to believe: words for laws alone. The machine's form of a sheet and of a list of bytes: what the types of the
+-- code say, in numbers.
 use mathlib.Core.Path.{_≡_}
 use mathlib.Core.List.{List}
 use Prim.Native.Nat.{ℕ, _<_}

@@ -1,4 +1,5 @@
--- What bytes spell has the machine's form: rows of twelve bytes, sixteen words and a byte, whatever the bytes are.
+-- Nothing to believe: steps of proofs. What bytes spell has the machine's form: rows of twelve bytes, sixteen words and
+-- a byte, whatever the bytes are.
 use mathlib.Core.Logic.{_⊎_, inl, inr}
 use mathlib.Core.Bool.{Bool, true, false, cond}
 use mathlib.Core.List.{List}

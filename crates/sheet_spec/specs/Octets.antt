@@ -1,4 +1,4 @@
--- What is written of a sheet of the machine's form is bytes, each below 256.
+-- Nothing to believe: steps of proofs. What is written of a sheet of the machine's form is bytes, each below 256.
 use mathlib.Core.List.{List, [], _∷_, _++_}
 use Prim.Native.Nat.{ℕ, zero, suc, _/_, _%_, _≤_, _<_}
 use native.Mathlib.Omega.{arith}

@@ -1,5 +1,5 @@
--- The refusals of a call that is handed two sheets: a sheet's own number, the reference's before the device's; 11 where
--- E differs; then what else the call looks for (`rest`).
+-- Nothing to believe: laws. The refusals of a call that is handed two sheets: a sheet's own number, the reference's
+-- before the device's; 11 where E differs; then what else the call looks for (`rest`).
 use mathlib.Core.Path.{_≡_, refl, _∙_}
 use mathlib.Core.Logic.{_⊎_, inl, inr, _≢_, _↔_}
 use Prim.Native.Nat.{ℕ, zero, suc}

@@ -1,5 +1,6 @@
--- Where the nodes of a sheet stand in its bytes: a head that is not refused gives the ranges of E and N, and a layout
--- that is not refused puts each node whole into the bytes, one after another from byte 7 to the end.
+-- Nothing to believe: steps of proofs. Where the nodes of a sheet stand in its bytes: a head that is not refused gives
+-- the ranges of E and N, and a layout that is not refused puts each node whole into the bytes, one after another from
+-- byte 7 to the end.
 use mathlib.Core.Path.{_≡_}
 use mathlib.Core.Bool.{true, _&&_}
 use mathlib.Core.List.{List}

@@ -1,5 +1,5 @@
--- The refusals of bytes: each number is given exactly if its fault is there and no earlier one is (01, "Checks run in
--- the order of the numbers, each over the whole sheet", 4 and 5 by position).
+-- Nothing to believe: laws. The refusals of bytes: each number is given exactly if its fault is there and no earlier
+-- one is (01, "Checks run in the order of the numbers, each over the whole sheet", 4 and 5 by position).
 use mathlib.Core.Path.{_≡_, refl}
 use mathlib.Core.Logic.{_⊎_, inl, inr, _≢_, _↔_, Iff·trans, Iff·and, Iff·rfl}
 use mathlib.Core.Bool.{_&&_}

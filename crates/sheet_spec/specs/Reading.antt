@@ -1,5 +1,5 @@
--- What reading a sheet from its bytes answers: the sheet that they spell (Spelling), or a refusal 1 to 8 (Refusals) and 0
--- in every other place.
+-- What reading a sheet from its bytes answers: the sheet that they spell (Spelling), or a refusal 1 to 8 (Refusals) and
+-- 0 in every other place.
 use mathlib.Core.Path.{_≡_}
 use mathlib.Core.Bool.{cond}
 use mathlib.Core.List.{List}

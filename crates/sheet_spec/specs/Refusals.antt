@@ -1,6 +1,6 @@
 -- The refusals of a sheet, each a number (01, "Who can cause a refusal"), in both orders: as reading checks bytes, 1 to
--- 8, and as a later call checks a kept sheet again, by 3 and 5 to 8. In both, a number is given where its test fails and
--- no earlier one does; 0 is no refusal.
+-- 8, and as a later call checks a kept sheet again, by 3 and 5 to 8. In both, a number is given where its test fails
+-- and no earlier one does; 0 is no refusal.
 use mathlib.Core.Path.{_≡_}
 use mathlib.Core.Bool.{_&&_}
 use mathlib.Core.List.{List}

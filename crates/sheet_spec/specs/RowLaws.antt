@@ -1,4 +1,4 @@
--- What the definitions of a row mean.
+-- Nothing to believe: laws. What the definitions of a row mean.
 use mathlib.Core.Path.{_≡_, sym}
 use mathlib.Core.Logic.{_↔_}
 use mathlib.Core.Bool.{true, _&&_}

@@ -1,4 +1,4 @@
--- Each test of Rules looks for its fault of Faults.
+-- Nothing to believe: laws. Each test of Rules looks for its fault of Faults.
 use mathlib.Core.Path.{_≡_, refl, sym, _∙_}
 use mathlib.Core.Logic.{_⊎_, inl, inr, _≢_}
 use mathlib.Core.Bool.{Bool, true, false, not, _&&_, cond}

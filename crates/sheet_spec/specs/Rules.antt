@@ -1,5 +1,5 @@
--- The rules of a sheet (01, "Who can cause a refusal"), each as a test that a program can run. What each test means, with
--- no test in it, is said in Faults; that the two agree, in RuleLaws. Refusals puts the tests in order.
+-- The rules of a sheet (01, "Who can cause a refusal"), each as a test that a program can run. What each test means,
+-- with no test in it, is said in Faults; that the two agree, in RuleLaws. Refusals puts the tests in order.
 use mathlib.Core.Bool.{Bool, not, _&&_, _||_, cond}
 use Prim.Native.Nat.{ℕ, _-_}
 use lib.Dec.{eqb, ltb, leb}

@@ -1,4 +1,5 @@
--- Lists read from a place on: what `drop` leaves there says what each later place holds.
+-- Nothing to believe: steps of proofs. Lists read from a place on: what `drop` leaves there says what each later place
+-- holds.
 use mathlib.Core.Path.{_≡_, refl, sym, ap, _∙_}
 use mathlib.Core.List.{List, [], _∷_, _++_}
 use Prim.Native.Nat.{ℕ, zero, suc, _+_, _≤_, _<_}

@@ -1,4 +1,5 @@
--- What a sheet that is not refused is like, as 01 says it ("A sheet"). SoundLaws says that it is so.
+-- Nothing to believe: words for laws alone. What a sheet that is not refused is like, as 01 says it ("A sheet").
+-- SoundLaws says that it is so.
 use mathlib.Core.Path.{_≡_}
 use mathlib.Core.Logic.{_⊎_, _≢_}
 use mathlib.Core.List.{List}

@@ -1,4 +1,5 @@
--- A sheet that is not refused is what 01 says of an accepted one, item by item: what upper crates use of it.
+-- Nothing to believe: laws. A sheet that is not refused is what 01 says of an accepted one, item by item: what upper
+-- crates use of it.
 use mathlib.Core.Path.{_≡_}
 use mathlib.Core.Logic.{_⊎_, inl, inr, _≢_}
 use mathlib.Core.Bool.{true}

@@ -1,5 +1,5 @@
--- Bytes with a right head and layout are the bytes of the sheet that they spell: node by node, what is written of a row
--- that was read, before the bytes after the node, is what stood there.
+-- Nothing to believe: steps of proofs. Bytes with a right head and layout are the bytes of the sheet that they spell:
+-- node by node, what is written of a row that was read, before the bytes after the node, is what stood there.
 use mathlib.Core.Path.{_≡_, sym, _∙_}
 use mathlib.Core.List.{List, [], _∷_, _++_, append-assoc}
 use Prim.Native.Nat.{ℕ, suc, _+_, _*_, _/_, _%_, _≤_, _<_}

@@ -1,6 +1,5 @@
--- For the proofs of this crate; nothing to believe.
--- What the walk over the nodes finds, said by places of the bytes. Ends joins it to the faults 4 and 5, which are said
--- by the encoding.
+-- Nothing to believe: steps of proofs. What the walk over the nodes finds, said by places of the bytes. Ends joins it
+-- to the faults 4 and 5, which are said by the encoding.
 use mathlib.Core.Path.{_≡_, refl, sym, _∙_}
 use mathlib.Core.Logic.{_⊎_, inl, inr, _≢_, _↔_}
 use mathlib.Core.Bool.{true, false}

@@ -1,5 +1,5 @@
--- The bytes of a sheet that a later call accepts are read as that sheet: node by node, what is left of the bytes says
--- what is read there.
+-- Nothing to believe: steps of proofs. The bytes of a sheet that a later call accepts are read as that sheet: node by
+-- node, what is left of the bytes says what is read there.
 use mathlib.Core.Path.{_≡_, refl, sym, _∙_}
 use mathlib.Core.Logic.{_⊎_, inl, inr}
 use mathlib.Core.Bool.{Bool, true, _&&_, _||_}

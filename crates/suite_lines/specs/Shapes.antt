@@ -1,4 +1,4 @@
--- What an inner function needs; nothing to believe.
+-- Nothing to believe: what an inner function needs.
 use mathlib.Core.List.{List}
 use Prim.Native.Nat.{ℕ, _≤_}
 use lib.ListN.{length}

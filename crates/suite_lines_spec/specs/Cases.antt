@@ -1,4 +1,4 @@
--- Texts of inputs, one for each kind of line.
+-- Nothing to believe: cases. Texts of inputs, one for each kind of line.
 use mathlib.Core.Path.{_≡_, refl}
 use mathlib.Core.List.{List, [], _∷_, _++_, map}
 use Prim.Native.Nat.{ℕ}

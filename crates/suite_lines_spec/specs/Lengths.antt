@@ -1,4 +1,4 @@
--- How long the text can be: at most 17,495 bytes.
+-- Nothing to believe: laws. How long the text can be: at most 17,495 bytes.
 use mathlib.Core.Path.{_≡_}
 use mathlib.Core.Bool.{Bool, true, false, cond}
 use mathlib.Core.List.{List, _++_}

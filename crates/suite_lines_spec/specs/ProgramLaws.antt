@@ -1,5 +1,6 @@
--- What the text says after two accepted sheets: with the same E they get a line for each test and the last line, which
--- says "all pass" exactly if the device refines the reference; with another E they get the refusal 11.
+-- Nothing to believe: laws. What the text says after two accepted sheets: with the same E they get a line for each test
+-- and the last line, which says "all pass" exactly if the device refines the reference; with another E they get the
+-- refusal 11.
 use mathlib.Core.Path.{_≡_}
 use mathlib.Core.Logic.{_≢_, _↔_}
 use mathlib.Core.Bool.{Bool, false}

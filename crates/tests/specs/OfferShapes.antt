@@ -1,4 +1,4 @@
--- The shapes of inner functions; nothing to believe. Each is a part of a run's offer over a row instead of a sheet.
+-- Nothing to believe: the shapes of inner functions. Each is a part of a run's offer over a row instead of a sheet.
 use mathlib.Core.Bool.{Bool, _||_, cond}
 use Prim.Native.Nat.{ℕ, _-_}
 use lib.Bits.{bitOr}

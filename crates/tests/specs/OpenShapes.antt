@@ -1,4 +1,4 @@
--- The shape of an inner function; nothing to believe.
+-- Nothing to believe: the shape of an inner function.
 use Prim.Native.Nat.{ℕ}
 use Rattle.tests_spec.specs.declared.Answer.the-variants.{Denied}
 use Rattle.tests_spec.specs.declared.Stepped.{Stepped}

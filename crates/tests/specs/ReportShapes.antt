@@ -1,4 +1,4 @@
--- The shapes of functions; nothing to believe. Each is a part of a report's definition over rows instead of a sheet.
+-- Nothing to believe: the shapes of functions. Each is a part of a report's definition over rows instead of a sheet.
 use mathlib.Core.Bool.{not, _&&_}
 use Prim.Native.Nat.{ℕ, _+_}
 use lib.Dec.{ltb, leb}

@@ -1,5 +1,5 @@
--- The record of a refused opening, and the bytes of a flag. (The worked cases of runs compute through the probe lists,
--- so they stand in `cases_worked`; those of verdicts are in `verdicts_spec`.)
+-- Nothing to believe: cases. The record of a refused opening, and the bytes of a flag. (The worked cases of runs
+-- compute through the probe lists, so they stand in `cases_worked`; those of verdicts are in `verdicts_spec`.)
 use mathlib.Core.Path.{_≡_, refl}
 use mathlib.Core.Bool.{true, false}
 use Rattle.tests_spec.specs.Flags.{flag}

@@ -1,4 +1,4 @@
--- What a run offers, event by event (01, "Test k and a live run").
+-- Nothing to believe: laws. What a run offers, event by event (01, "Test k and a live run").
 use mathlib.Core.Path.{_≡_, ap}
 use mathlib.Core.Logic.{_⊎_, inl, inr, _↔_}
 use mathlib.Core.Bool.{true, false, _||_}

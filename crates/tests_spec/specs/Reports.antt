@@ -1,4 +1,5 @@
--- In words: what a report can be refused for, what becomes of it, and what becomes of a run's record.
+-- Nothing to believe: words for laws alone. What a report can be refused for, what becomes of it, and what becomes of a
+-- run's record.
 use mathlib.Core.Path.{_≡_}
 use mathlib.Core.Logic.{_⊎_, _≢_}
 use mathlib.Core.Bool.{Bool, true, false}

@@ -1,5 +1,5 @@
--- The rules of a live run (01, "Test k and a live run" and "Who can cause a refusal"): what is refused, and what each
--- report is answered.
+-- Nothing to believe: laws. The rules of a live run (01, "Test k and a live run" and "Who can cause a refusal"): what
+-- is refused, and what each report is answered.
 use mathlib.Core.Path.{_≡_, refl, sym, ap, _∙_}
 use mathlib.Core.Logic.{_⊎_, inl, inr, _≢_, _↔_}
 use mathlib.Core.Bool.{Bool, true, false, not}

@@ -1,5 +1,5 @@
--- What the record of a run is after its opening, and what a report does to it: refused it stays, going on it moves, an
--- ending marks it; and that a run ends within k + 1 accepted reports.
+-- Nothing to believe: laws. What the record of a run is after its opening, and what a report does to it: refused it
+-- stays, going on it moves, an ending marks it; and that a run ends within k + 1 accepted reports.
 use mathlib.Core.Path.{_≡_, refl, sym, ap, _∙_}
 use mathlib.Core.Logic.{_⊎_, inl, inr, _≢_, _↔_}
 use mathlib.Core.Bool.{Bool, true, false}

@@ -1,4 +1,4 @@
--- Texts of `show`, one for each kind of line and each refusal; lines of `probe_list`.
+-- Nothing to believe: cases. Texts of `show`, one for each kind of line and each refusal; lines of `probe_list`.
 use mathlib.Core.Path.{_≡_, refl}
 use mathlib.Core.List.{List, [], _∷_, map}
 use Prim.Native.Nat.{ℕ}

@@ -1,4 +1,5 @@
--- How long the texts can be: nothing is ever cut where `show` has 65,536 bytes and a line of `probe_list` 262,144.
+-- Nothing to believe: laws. How long the texts can be: nothing is ever cut where `show` has 65,536 bytes and a line of
+-- `probe_list` 262,144.
 use mathlib.Core.Path.{_≡_, refl}
 use mathlib.Core.Logic.{_⊎_, inl, inr}
 use mathlib.Core.Bool.{Bool, true, false, cond}

@@ -1,4 +1,5 @@
--- What `probe_list` prints of a node in each case. Probes are used by their name and laws alone.
+-- Nothing to believe: laws. What `probe_list` prints of a node in each case. Probes are used by their name and laws
+-- alone.
 use mathlib.Core.Path.{_≡_, sym, _∙_}
 use mathlib.Core.Logic.{_⊎_, inl, inr, _≢_}
 use mathlib.Core.Bool.{true, false}

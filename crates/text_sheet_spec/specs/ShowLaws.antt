@@ -1,4 +1,4 @@
--- What `show` prints in each case, and that bytes behind 4,096 play no part.
+-- Nothing to believe: laws. What `show` prints in each case, and that bytes behind 4,096 play no part.
 use mathlib.Core.Path.{_≡_, ap}
 use mathlib.Core.Logic.{_≢_}
 use mathlib.Core.Bool.{true, false}

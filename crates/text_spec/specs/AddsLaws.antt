@@ -1,5 +1,5 @@
--- A list that texts are added to: one byte, one piece after another, the steps of loops over words and events, and the
--- whole.
+-- Nothing to believe: laws. A list that texts are added to: one byte, one piece after another, the steps of loops over
+-- words and events, and the whole.
 use mathlib.Core.Path.{_≡_, refl, sym, ap, _∙_}
 use mathlib.Core.List.{List, [], _∷_, _++_, append-assoc, append-nil}
 use Prim.Native.Nat.{ℕ, suc, _+_, _-_, _≤_, _<_, min}

@@ -1,4 +1,4 @@
--- Texts of numbers, lines and sets.
+-- Nothing to believe: cases. Texts of numbers, lines and sets.
 use mathlib.Core.Path.{_≡_, refl}
 use mathlib.Core.List.{[], _∷_, map}
 use Rattle.base.specs.Gather.{gather, select}

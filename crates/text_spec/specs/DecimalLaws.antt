@@ -1,5 +1,5 @@
--- What a number in base ten is: its digits give the number back, each is one of 0 to 9, and the first is 0 only for the
--- number 0.
+-- Nothing to believe: laws. What a number in base ten is: its digits give the number back, each is one of 0 to 9, and
+-- the first is 0 only for the number 0.
 use mathlib.Core.Path.{_≡_, refl, ap}
 use mathlib.Core.Logic.{_⊎_, inl, inr}
 use mathlib.Core.Bool.{cond}

@@ -1,4 +1,5 @@
--- Where a text that was put over a list ends: within the list, so that the bytes before that place can be written.
+-- Nothing to believe: laws. Where a text that was put over a list ends: within the list, so that the bytes before that
+-- place can be written.
 use mathlib.Core.Path.{_≡_, sym, ap}
 use mathlib.Core.List.{List}
 use Prim.Native.Nat.{ℕ, _≤_}

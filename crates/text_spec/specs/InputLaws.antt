@@ -1,4 +1,5 @@
--- How much of an input counts: at most 4,096 bytes, all of them if there are no more; later ones play no part.
+-- Nothing to believe: laws. How much of an input counts: at most 4,096 bytes, all of them if there are no more; later
+-- ones play no part.
 use mathlib.Core.Path.{_≡_}
 use mathlib.Core.List.{List, _++_}
 use Prim.Native.Nat.{ℕ, _≤_}

@@ -1,4 +1,4 @@
--- Texts one after another: one more, the same texts, and how long they are together.
+-- Nothing to believe: laws. Texts one after another: one more, the same texts, and how long they are together.
 use mathlib.Core.Path.{_≡_}
 use mathlib.Core.List.{List, _++_}
 use Prim.Native.Nat.{ℕ, zero, suc, _+_, _*_, _≤_, _<_}

@@ -1,4 +1,4 @@
--- How long lines are, by the digits of their numbers.
+-- Nothing to believe: laws. How long lines are, by the digits of their numbers.
 use mathlib.Core.Path.{_≡_, refl}
 use mathlib.Core.Bool.{Bool, true, false}
 use mathlib.Core.List.{List, _++_}

@@ -1,4 +1,4 @@
--- The events that are printed of a set are those in it, each once and in order.
+-- Nothing to believe: laws. The events that are printed of a set are those in it, each once and in order.
 use mathlib.Core.Path.{_≡_, ap, _∙_}
 use mathlib.Core.Bool.{true, false}
 use mathlib.Core.List.{[], _∷_, _++_}

@@ -1,4 +1,4 @@
--- The shapes of loops; nothing to believe. The functions cite them; laws tell which pairs are in the next layer.
+-- Nothing to believe: the shapes of loops. The functions cite them; laws tell which pairs are in the next layer.
 use mathlib.Core.Bool.{Bool, cond}
 use mathlib.Core.List.{List}
 use Prim.Native.Nat.{ℕ, zero, suc}

@@ -1,5 +1,5 @@
--- What a device's node can block, and the refusals of a pair (by the promise of the probe lists alone). r is the
--- reference's row, q the device's.
+-- Nothing to believe: steps of proofs. What a device's node can block, and the refusals of a pair (by the promise of
+-- the probe lists alone). r is the reference's row, q the device's.
 use mathlib.Core.Path.{_≡_, sym, ap, _∙_}
 use mathlib.Core.Logic.{_⊎_, inl, inr, _≢_}
 use mathlib.Core.Bool.{true, false}

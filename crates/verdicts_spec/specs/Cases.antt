@@ -1,5 +1,5 @@
--- 01's example pair: of its six tests the first five pass and the last fails; trace-only all pass; a list of five
--- places is too short, and sheets with different E are refused first.
+-- Nothing to believe: cases. 01's example pair: of its six tests the first five pass and the last fails; trace-only all
+-- pass; a list of five places is too short, and sheets with different E are refused first.
 use mathlib.Core.Path.{_≡_, refl}
 use mathlib.Core.Bool.{Bool, true, false}
 use mathlib.Core.List.{List, [], _∷_}

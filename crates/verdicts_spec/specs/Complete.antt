@@ -1,5 +1,5 @@
--- What the list of verdicts means: each place is the verdict of its test, never a refusal, and all places hold 1
--- exactly if the device refines the reference (the mission's demand 3).
+-- Nothing to believe: laws. What the list of verdicts means: each place is the verdict of its test, never a refusal,
+-- and all places hold 1 exactly if the device refines the reference (the mission's demand 3).
 use mathlib.Core.Path.{_≡_, refl, sym, ap, _∙_}
 use mathlib.Core.Logic.{_⊎_, inl, inr, _≢_, _↔_}
 use mathlib.Core.Bool.{Bool}

@@ -1,4 +1,5 @@
--- In words: what makes a test fail after a common trace. TestLaws says that a verdict fails exactly for it.
+-- Nothing to believe: words for laws alone. What makes a test fail after a common trace. TestLaws says that a verdict
+-- fails exactly for it.
 use mathlib.Core.Path.{_≡_}
 use mathlib.Core.Logic.{_⊎_}
 use mathlib.Core.Bool.{Bool, false}

@@ -1,4 +1,5 @@
--- The test of a verdict by the pairs that common lists of events reach: it fails exactly if one of them is faulty.
+-- Nothing to believe: steps of proofs. The test of a verdict by the pairs that common lists of events reach: it fails
+-- exactly if one of them is faulty.
 use mathlib.Core.Path.{_≡_, refl}
 use mathlib.Core.Logic.{_⊎_, inl, inr, _↔_}
 use mathlib.Core.Bool.{Bool, true, false, not, _&&_, _||_}

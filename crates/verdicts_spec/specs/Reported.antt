@@ -1,4 +1,4 @@
--- What a device cannot report, on the device of 01's example.
+-- Nothing to believe: cases. What a device cannot report, on the device of 01's example.
 use mathlib.Core.Path.{_≡_, refl}
 use Prim.Native.Nat.{ℕ, zero, suc, _+_, _≤_, _<_}
 use native.Mathlib.Omega.{arith}

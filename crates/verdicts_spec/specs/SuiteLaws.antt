@@ -1,4 +1,5 @@
--- The call that judges all tests: when each refusal is given, what is then answered, and what stands in the list.
+-- Nothing to believe: laws. The call that judges all tests: when each refusal is given, what is then answered, and what
+-- stands in the list.
 use mathlib.Core.Path.{_≡_, refl, _∙_}
 use mathlib.Core.Logic.{_⊎_, inl, inr, _≢_, _↔_}
 use mathlib.Core.Bool.{Bool, true, false, cond}

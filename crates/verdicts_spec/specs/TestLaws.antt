@@ -1,5 +1,5 @@
--- The theorem that ties tests to violations (001; the mission's demand 2): which traces make a test fail, and that the
--- tests below p·q together decide refinement, with refusals or with traces alone.
+-- Nothing to believe: laws. The theorem that ties tests to violations (001; the mission's demand 2): which traces make
+-- a test fail, and that the tests below p·q together decide refinement, with refusals or with traces alone.
 use mathlib.Core.Path.{_≡_}
 use mathlib.Core.Logic.{_⊎_, inl, inr, _↔_}
 use mathlib.Core.Bool.{Bool, true, false, true≢false}

@@ -1,5 +1,5 @@
--- What a verdict means (01, "A device node can do ..."): the test fails exactly if some run against the device, opened
--- and stepped as the bench does it, can end failed. And which verdicts are refused.
+-- Nothing to believe: laws. What a verdict means (01, "A device node can do ..."): the test fails exactly if some run
+-- against the device, opened and stepped as the bench does it, can end failed. And which verdicts are refused.
 use mathlib.Core.Path.{_≡_, refl, sym, ap, _∙_, subst}
 use mathlib.Core.Logic.{_⊎_, inl, inr, _≢_, _↔_}
 use mathlib.Core.Bool.{Bool, true, false, cond, false≢true}

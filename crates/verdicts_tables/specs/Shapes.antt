@@ -1,4 +1,4 @@
--- The shapes of loops and tables; nothing to believe. Inner functions cite them; laws join them to the test of a pair.
+-- Nothing to believe: the shapes of loops and tables. Inner functions cite them; laws join them to the test of a pair.
 use mathlib.Core.Bool.{Bool, not, _&&_, _||_, cond}
 use mathlib.Core.List.{List}
 use Prim.Native.Nat.{ℕ, _+_, _*_, _/_, _%_}

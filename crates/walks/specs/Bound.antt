@@ -1,4 +1,4 @@
--- Whatever a walk reaches, a walk shorter than the number of nodes reaches.
+-- Nothing to believe: a law. Whatever a walk reaches, a walk shorter than the number of nodes reaches.
 use mathlib.Core.Path.{_≡_, refl, sym, ap, _∙_}
 use mathlib.Core.Logic.{_⊎_, inl, inr}
 use mathlib.Core.List.{List, _++_}

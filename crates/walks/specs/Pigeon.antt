@@ -1,4 +1,4 @@
--- The pigeonhole principle: among n + 1 numbers below n, two are equal.
+-- Nothing to believe: a law, the pigeonhole principle: among n + 1 numbers below n, two are equal.
 use mathlib.Core.Path.{_≡_, sym, _∙_}
 use mathlib.Core.Logic.{_≢_, _⊎_, inl, inr}
 use mathlib.Core.Bool.{true, false, cond}
