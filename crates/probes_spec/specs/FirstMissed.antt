@@ -31,6 +31,17 @@ firstMissing (p ∷ ps) dev = orNext (missing p dev) (firstMissing ps dev)
 unfoldable pub firstMissed : List ℕ → ℕ → List ℕ → Missed
 firstMissed accs e dev = firstMissing (probes accs e) dev
 
+-- the numbers of what is named: 1 where a probe is found and 0 where none is, the probe, the acceptance that misses it
+pub record MissedNumbers : Type 0 where
+  pub found : ℕ
+  pub probe : ℕ
+  pub acceptance : ℕ
+
+-- the numbers of each case of an answer; a probe and an acceptance that are not found are 0
+unfoldable pub missedNumbers : Missed → MissedNumbers
+missedNumbers Nothing = record { found = 0; probe = 0; acceptance = 0 }
+missedNumbers (Found p a) = record { found = 1; probe = p; acceptance = a }
+
 -- no set of the list is missed by an acceptance, in plain words
 abbrev pub NoneMissed : List ℕ → List ℕ → Type 0
 NoneMissed ps dev = (x : ℕ) → x < length ps → (j : ℕ) → j < length dev → ¬ Apart (getD ps x 0) (getD dev j 0)

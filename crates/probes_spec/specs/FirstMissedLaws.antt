@@ -15,7 +15,7 @@ use Rattle.probes_spec.specs.declared.Missed.{Missed}
 use Rattle.probes_spec.specs.declared.Missed.the-variants.{Nothing, Found}
 use Rattle.probes_spec.specs.Probes.{probes, Narrow}
 use Rattle.probes_spec.specs.ProbeLaws.{probe-at, probe-listed, missed→, missed←}
-use Rattle.probes_spec.specs.FirstMissed.{missing, orNext, firstMissing, firstMissed, NoneMissed, MissedFirst}
+use Rattle.probes_spec.specs.FirstMissed.{missing, orNext, firstMissing, firstMissed, missedNumbers, NoneMissed, MissedFirst}
 
 -- what an answer about a list of sets says, in plain words
 abbrev Says : List ℕ → List ℕ → Missed → Type 0
@@ -134,6 +134,40 @@ missed-found accs e dev p a = ((λ q. subst (Says (probes accs e) dev) q (says (
     go : MissedFirst (probes accs e) dev p a → (m : Missed) → firstMissing (probes accs e) dev ≡ m → Says (probes accs e) dev m → firstMissing (probes accs e) dev ≡ Found p a
     go h Nothing q s = absurd (none-or-first (probes accs e) dev p a s h)
     go h (Found r b) q s = let w = missed-once (probes accs e) dev r b p a s h in rw (q, w .0, w .1)
+
+module _ (accs : List ℕ) (e : ℕ) (dev : List ℕ) where
+  -- "found" is 0 exactly if no probe is missed
+  pub found-0 : (missedNumbers (firstMissed accs e dev) .found ≡ 0) ↔ NoneMissed (probes accs e) dev
+  unfolding missedNumbers
+  found-0 = (λ z. missed-nothing accs e dev .0 (forth (firstMissed accs e dev) z), λ h. rw (missed-nothing accs e dev .1 h))
+    where
+      forth : (m : Missed) → missedNumbers m .found ≡ 0 → m ≡ Nothing
+      forth Nothing z = refl
+      forth (Found p a) z = absurd (omega arith)
+
+  -- "found" is 1 exactly if some probe is missed by some acceptance
+  pub found-1 : (missedNumbers (firstMissed accs e dev) .found ≡ 1) ↔ (¬ NoneMissed (probes accs e) dev)
+  unfolding missedNumbers
+  found-1 = (λ z h. omega (arith, z, found-0 .1 h), λ n. forth (firstMissed accs e dev) (λ q. n (missed-nothing accs e dev .0 q)))
+    where
+      forth : (m : Missed) → (¬ (m ≡ Nothing)) → missedNumbers m .found ≡ 1
+      forth Nothing n = absurd (n refl)
+      forth (Found p a) n = refl
+
+  -- where no probe is missed, the probe and the acceptance are 0
+  pub none-named : NoneMissed (probes accs e) dev → (missedNumbers (firstMissed accs e dev) .probe ≡ 0) × (missedNumbers (firstMissed accs e dev) .acceptance ≡ 0)
+  unfolding missedNumbers
+  none-named h = rw (missed-nothing accs e dev .1 h) (refl, refl)
+
+  -- where some probe is missed, the probe is the first such probe of the list, the acceptance the first that misses it
+  pub first-named : (¬ NoneMissed (probes accs e) dev)
+      → MissedFirst (probes accs e) dev (missedNumbers (firstMissed accs e dev) .probe) (missedNumbers (firstMissed accs e dev) .acceptance)
+  unfolding missedNumbers
+  first-named n = go (firstMissed accs e dev) refl
+    where
+      go : (m : Missed) → firstMissed accs e dev ≡ m → MissedFirst (probes accs e) dev (missedNumbers m .probe) (missedNumbers m .acceptance)
+      go Nothing q = absurd (n (missed-nothing accs e dev .0 q))
+      go (Found p a) q = missed-found accs e dev p a .0 q
 
 -- every device acceptance includes a reference acceptance exactly if nothing is named (Lemma 4 over the two lists)
 pub missed-none : (accs : List ℕ) (e : ℕ) → Narrow accs e → (dev : List ℕ)

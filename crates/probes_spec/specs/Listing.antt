@@ -27,6 +27,10 @@ unfoldable pub listedNumbers : Listed → ℕ × ℕ
 listedNumbers (Count m) = (0, m)
 listedNumbers (Denied k) = (k, 0)
 
+-- how many probes a probe call answers: the node's, 0 where it is refused
+unfoldable pub listCount : Sheet → ℕ → List ℕ → ℕ
+listCount s v out = cond (eqb (listFault s v out) 0) (length (nodeProbes s v)) 0
+
 -- the answer of a probe call: the refusal, or how many probes there are
 unfoldable pub listedOf : Sheet → ℕ → List ℕ → Listed
 listedOf s v out = cond (eqb (listFault s v out) 0) (Count (length (nodeProbes s v))) (Denied (listFault s v out))

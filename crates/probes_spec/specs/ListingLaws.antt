@@ -9,7 +9,7 @@ use native.Mathlib.Omega.{arith}
 use lib.Dec.{eqb, ltb, leb}
 use lib.ListN.{length, getD}
 use lib.Pow.{pow-mono}
-use borrow.Author.Tests.{eqb-true, eq-eqb, ne-eqb}
+use borrow.Author.Tests.{eqb-true, eqb-false, eq-eqb, ne-eqb}
 use Rattle.base.specs.Truth.{dec, clash, lt-or-ge}
 use Rattle.base.specs.Finds.{finds-lt, finds-le}
 use Rattle.base.specs.Front.{atFront, atFront-length, atFront-before, atFront-behind}
@@ -24,9 +24,9 @@ use Rattle.sheet_spec.specs.SoundLaws.{check-sound}
 use Rattle.probes_spec.specs.declared.Listed.the-variants.{Count, Denied}
 use Rattle.probes_spec.specs.Probes.{probes, Probe, Narrow}
 use Rattle.probes_spec.specs.ProbeLaws.{probe-at, probe-listed, probes-few, probes-none, probes-some}
-use Rattle.probes_spec.specs.Listing.{nodeProbes, listFault, listedNumbers, listedOf, listAfter}
+use Rattle.probes_spec.specs.Listing.{nodeProbes, listFault, listCount, listedNumbers, listedOf, listAfter}
 
--- the numbers of each case of an answer
+-- the numbers of each case of an answer, for crates that may not unfold them
 pub listedNumbers-count : (m : ℕ) → listedNumbers (Count m) ≡ (0, m)
 unfolding listedNumbers
 listedNumbers-count m = refl
@@ -98,11 +98,21 @@ module _ (s : Sheet) (v : ℕ) (out : List ℕ) where
     unfolding listAfter
     after-denied = rw (ne-eqb (listFault s v out) 0 n)
 
+    -- a refusal has no count beside its number
+    pub count-denied : listCount s v out ≡ 0
+    unfolding listCount
+    count-denied = rw (ne-eqb (listFault s v out) 0 n)
+
   module _ (z : listFault s v out ≡ 0) where
     -- without a refusal the number of probes is answered
     pub listed-count : listedOf s v out ≡ Count (length (nodeProbes s v))
     unfolding listedOf
     listed-count = rw (eq-eqb (listFault s v out) 0 z)
+
+    -- without a refusal the count is how many probes the node has
+    pub count-given : listCount s v out ≡ length (nodeProbes s v)
+    unfolding listCount
+    count-given = rw (eq-eqb (listFault s v out) 0 z)
 
     -- without a refusal the probes stand at the front of the list, the rest is untouched
     pub after-front : listAfter s v out ≡ atFront out (nodeProbes s v)
@@ -115,6 +125,15 @@ module _ (s : Sheet) (v : ℕ) (out : List ℕ) where
 
     pub after-rest : (x : ℕ) → length (nodeProbes s v) ≤ x → getD (listAfter s v out) x 0 ≡ getD out x 0
     after-rest x l = rw after-front (atFront-behind out (nodeProbes s v) x 0 l)
+
+  -- in every probe call the two numbers of the answer are its refusal and its count
+  pub listed-numbers : listedNumbers (listedOf s v out) ≡ (listFault s v out, listCount s v out)
+  unfolding listedNumbers
+  listed-numbers = go (dec (eqb (listFault s v out) 0))
+    where
+      go : (eqb (listFault s v out) 0 ≡ true) ⊎ (eqb (listFault s v out) 0 ≡ false) → listedNumbers (listedOf s v out) ≡ (listFault s v out, listCount s v out)
+      go (inl t) = let z = eqb-true (listFault s v out) 0 t in rw (listed-count z, count-given z, z)
+      go (inr t) = let n = eqb-false (listFault s v out) 0 t in rw (listed-denied n, count-denied n)
 
   -- the list keeps its length in every probe call
   pub after-length : length (listAfter s v out) ≡ length out
