@@ -16,16 +16,16 @@ use Rattle.sheet_spec.specs.SoundLaws.{check-sound}
 use Rattle.probes_spec.specs.declared.Listed.{Listed}
 use Rattle.probes_spec.specs.declared.Listed.the-variants.{Count, Denied}
 use Rattle.probes_spec.specs.Probes.{probes}
-use Rattle.probes_spec.specs.Listing.{nodeProbes, listFault, listedNumbers, listedOf, listAfter}
-use Rattle.probes_spec.specs.ListingLaws.{list-sheet, list-9, list-10, list-0, listed-denied, after-denied, listed-count, after-front, node-few}
+use Rattle.probes_spec.specs.Listing.{nodeProbes, listFault, listCount, listedNumbers, listedOf, listAfter}
+use Rattle.probes_spec.specs.ListingLaws.{list-sheet, list-9, list-10, list-0, listed-denied, after-denied, listed-count, after-front, listed-numbers, node-few}
 
 module _ (s : Sheet) (v : ℕ) (out : List ℕ) where
   -- what the call promises of its answer and of the list after it
   abbrev Told : Listed → List ℕ → Type 0
-  Told r after = (r ≡ listedOf s v out) × (listedNumbers r ≡ listedNumbers (listedOf s v out)) × (after ≡ listAfter s v out)
+  Told r after = (r ≡ listedOf s v out) × (listedNumbers r ≡ (listFault s v out, listCount s v out)) × (after ≡ listAfter s v out)
 
   told : (r : Listed) (after : List ℕ) → r ≡ listedOf s v out → after ≡ listAfter s v out → Told r after
-  told r after p q = (p, ap listedNumbers p, q)
+  told r after p q = (p, ap listedNumbers p ∙ listed-numbers s v out, q)
 
   denied : (k : ℕ) → listFault s v out ≡ k → k ≢ 0 → Told (Denied k) out
   denied k e n =

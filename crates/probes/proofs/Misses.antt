@@ -1,6 +1,6 @@
 -- The two loops that look for a missed probe.
 use mathlib.Core.Path.{_≡_, refl, sym, ap, _∙_}
-use mathlib.Core.Logic.{_≢_}
+use mathlib.Core.Logic.{_≢_, _↔_}
 use mathlib.Core.List.{List, [], _∷_, _++_}
 use Prim.Native.Nat.{ℕ, _+_, _≤_, _<_}
 use lib.Bits.{bitAnd}
@@ -9,8 +9,10 @@ use borrow.Author.Tests.{eq-eqb, ne-eqb}
 use Rattle.events.specs.Sets.{meets}
 use Rattle.probes_spec.specs.declared.Missed.{Missed}
 use Rattle.probes_spec.specs.declared.Missed.the-variants.{Nothing, Found}
+use Rattle.probes_spec.specs.Probes.{probes}
 use Rattle.probes_spec.specs.Shapes.{candidateCount, candidate, listed, nextFrom}
-use Rattle.probes_spec.specs.FirstMissed.{missing, orNext, firstMissing, firstMissed}
+use Rattle.probes_spec.specs.FirstMissed.{missing, orNext, firstMissing, firstMissed, missedNumbers, NoneMissed}
+use Rattle.probes_spec.specs.FirstMissedLaws.{found-0}
 use Rattle.probes.proofs.candidates.Passes.{left-some, left-none}
 use Rattle.probes.proofs.Seen.{Stands, seen, seen-start, seen-next, seen-split, seen-end}
 
@@ -56,3 +58,8 @@ module _ (accs : List ℕ) (e : ℕ) (dev : List ℕ) (x : ℕ) (s : Stands accs
   pub named-end : candidateCount e ≤ x → firstMissed accs e dev ≡ Nothing
   unfolding firstMissed
   named-end h = rw (← seen-end accs e x s h) n
+
+-- what the call promises of its answer: it is the definition's, and nothing is found exactly if no probe is missed
+pub told-missed : {r : Missed} (accs : List ℕ) (e : ℕ) (dev : List ℕ) → r ≡ firstMissed accs e dev
+    → (r ≡ firstMissed accs e dev) × ((missedNumbers r .found ≡ 0) ↔ NoneMissed (probes accs e) dev)
+told-missed accs e dev p = (p, rw p (found-0 accs e dev))

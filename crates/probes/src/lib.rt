@@ -4,12 +4,13 @@
 mod candidates;
 
 ghost use mathlib.Core.Path.{_≡_};
+ghost use mathlib.Core.Logic.{_↔_};
 ghost use Prim.Native.Nat.{_≤_};
 ghost use lib.ListN.{length, take};
 ghost use Rattle.base.specs.Front.{atFront};
 ghost use Rattle.probes_spec.specs.Probes.{probes};
-ghost use Rattle.probes_spec.specs.FirstMissed.{firstMissed};
-ghost use Rattle.probes_spec.specs.Listing.{listedNumbers, listedOf, listAfter};
+ghost use Rattle.probes_spec.specs.FirstMissed.{firstMissed, missedNumbers, NoneMissed};
+ghost use Rattle.probes_spec.specs.Listing.{listFault, listCount, listedNumbers, listedOf, listAfter};
 use probes_spec::Listed;
 use probes_spec::Missed;
 use sheet_spec::Sheet;
@@ -50,7 +51,7 @@ fn copy(found: &[u16], m: usize, out: &mut [u16])
 // probes.
 pub fn list(sheet: Sheet, node: u8, out: &mut [u16]) -> Listed
     ensures { λ r. ⌜ (r ≡ listedOf sheet node (now (out .entry)))
-        × (listedNumbers r ≡ listedNumbers (listedOf sheet node (now (out .entry))))
+        × (listedNumbers r ≡ (listFault sheet node (now (out .entry)), listCount sheet node (now (out .entry))))
         × (now (out .exit) ≡ listAfter sheet node (now (out .entry))) ⌝ }
 {
     let fault = sheet::check(sheet);
@@ -79,7 +80,8 @@ pub fn list(sheet: Sheet, node: u8, out: &mut [u16]) -> Listed
 // The first probe of the reference that some device acceptance misses, with the first such acceptance.
 pub fn first_missed(sets: [u16; 16], c: usize, e: usize, device: [u16; 16], d: usize) -> Missed
     requires { ⌜ (c ≤ 16) × (e ≤ 12) × (d ≤ 16) ⌝ }
-    ensures { λ r. ⌜ r ≡ firstMissed (take c sets) e (take d device) ⌝ }
+    ensures { λ r. ⌜ (r ≡ firstMissed (take c sets) e (take d device))
+        × ((missedNumbers r .found ≡ 0) ↔ NoneMissed (probes (take c sets) e) (take d device)) ⌝ }
 {
     let end = candidates::candidate_count(e);
     let mut probe: u16 = 0;

@@ -10,7 +10,7 @@ use Rattle.probes_spec.specs.declared.Missed.the-variants.{Nothing, Found}
 use Rattle.probes_spec.specs.Shapes.{candidateCount, listed}
 use Rattle.probes_spec.specs.FirstMissed.{missing, firstMissing}
 use Rattle.probes.proofs.Seen.{next-low, Stands, seen, stands-next}
-use Rattle.probes.proofs.Misses.{miss-at, miss-more, miss-end, named-start, named-at, named-more, named-end}
+use Rattle.probes.proofs.Misses.{miss-at, miss-more, miss-end, named-start, named-at, named-more, named-end, told-missed}
 use Rattle.probes.proofs.first_missed.Statement.{statement}
 use Rattle.probes.proofs.first_missed.Tie as tie
 
@@ -94,23 +94,25 @@ returns : tie.Need-returns Inv-loop μ-loop Inv-probes μ-probes
 returns c =
     let o = c .before .before in
     let g = o .before .before .before .args in
-    ⊎-elim
+    told-missed (take (g .c) (g .sets)) (g .e) (take (g .d) (g .t4))
+    (⊎-elim
     (λ w. absurd (true≢false (sym (c .if2 .taken) ∙ w .3 ∙ o .probes .inv .1)))
     (λ w.
     let k = w .2 .k in
     let m = ap (λ (q : ℕ). missing q (take (g .d) (g .t4))) (sym (w .1 .ensures)) ∙ sym (w .2 .inv .2) ∙ miss-at (g .d) (g .t4) k (w .1 .result) (w .3 .taken) (omega (arith, w .3)) (w .4 .taken) in
     ap₂ Found (w .5) (w .6)
     ∙ sym (named-at (take (g .c) (g .sets)) (g .e) (take (g .d) (g .t4)) (o .probes .x) (o .probes .inv .2) (o .probes .inv .3) (omega (arith, w .0)) (w .1 .result) (getD (g .t4) k 0) m))
-    (c .before .probes-test .came)
+    (c .before .probes-test .came))
 
 returns-2 : tie.Need-returns-2 Inv-loop μ-loop Inv-probes μ-probes
 returns-2 c =
     let o = c .before .before in
     let g = o .before .before .before .args in
-    ⊎-elim
+    told-missed (take (g .c) (g .sets)) (g .e) (take (g .d) (g .t4))
+    (⊎-elim
     (λ w. sym (named-end (take (g .c) (g .sets)) (g .e) (take (g .d) (g .t4)) (o .probes .x) (o .probes .inv .2) (o .probes .inv .3) (omega (arith, w .0))))
     (λ w. absurd (true≢false (sym (w .7) ∙ c .if2 .left)))
-    (c .before .probes-test .came)
+    (c .before .probes-test .came))
 
 pub first-missed-spec : {M : Type 1} → statement M
 first-missed-spec =

@@ -46,7 +46,7 @@ returns-2 c =
     named-nothing (a .d) (a .cleared) (a .e) (a .reference) (a .device) (w .before .before .before .before .before .initials-of .ensures) (w .before .before .before .before .initials-of2 .ensures)
     (w .before .before .before .stray-events .ensures) (w .before .before .if1 .left)
     (front-sets (a .reference) _ (s .good .0) (w .before .wide .result) (w .before .wide .ensures) (s .pre .0))
-    (front-sets (a .device) _ (s .good .1 .0) (w .wide2 .result) (w .wide2 .ensures) (s .pre .2)) (b .first-missed .ensures) (c .enum-told .given .1)
+    (front-sets (a .device) _ (s .good .1 .0) (w .wide2 .result) (w .wide2 .ensures) (s .pre .2)) (b .first-missed .ensures .0) (c .enum-told .given .1)
 
 returns-3 : tie.Need-returns-3
 returns-3 c =
@@ -57,7 +57,7 @@ returns-3 c =
     named-found (a .d) (a .cleared) (a .e) (a .reference) (a .device) (w .before .before .before .before .before .initials-of .ensures) (w .before .before .before .before .initials-of2 .ensures)
     (w .before .before .before .stray-events .ensures) (w .before .before .if1 .left)
     (front-sets (a .reference) _ (s .good .0) (w .before .wide .result) (w .before .wide .ensures) (s .pre .0))
-    (front-sets (a .device) _ (s .good .1 .0) (w .wide2 .result) (w .wide2 .ensures) (s .pre .2)) (b .first-missed .ensures) (c .before .probe .given .1)
+    (front-sets (a .device) _ (s .good .1 .0) (w .wide2 .result) (w .wide2 .ensures) (s .pre .2)) (b .first-missed .ensures .0) (c .before .probe .given .1)
 
 pub name-spec : {M : Type 1} → statement M
 name-spec =
