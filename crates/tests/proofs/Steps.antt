@@ -16,14 +16,18 @@ use Rattle.tests_spec.specs.declared.Stepped.{Stepped}
 use Rattle.tests_spec.specs.Flags.{flag, flagOf}
 use Rattle.tests_spec.specs.Runs.{newRun, answered, openFault, openOf, recordOk, eventFault, reportFault, stepOf}
 use Rattle.tests_spec.specs.Numbers.{said}
+use Rattle.tests_spec.specs.NumberLaws.{opening-refusal, report-refusal}
 use Rattle.tests.specs.OfferShapes.{offerAt}
 use Rattle.tests.specs.ReportShapes.{recordFault}
 use Rattle.tests.proofs.reports.Answers.{offer-is, sound, refused}
 use Rattle.tests.specs.OpenShapes.{notOpened}
 
--- answers that are the same are the same in their numbers
-pub told : {o o′ : Stepped} → o ≡ o′ → (o ≡ o′) × (said (o .answer) ≡ said (o′ .answer))
-told p = (p, ap (λ (z : Stepped). said (z .answer)) p)
+-- the answer of the definition says the refusal of the call: of an opening, and of a report
+pub told-open : (s : Sheet) (k h : ℕ) (traceOnly : Bool) {o : Stepped} → o ≡ openOf traceOnly s k h → (o ≡ openOf traceOnly s k h) × (said (o .answer) .refusal ≡ openFault s k)
+told-open s k h traceOnly p = (p, ap (λ (z : Stepped). said (z .answer) .refusal) p ∙ opening-refusal traceOnly s k h)
+
+pub told-step : (s : Sheet) (r : Run) (x : Report) {o : Stepped} → o ≡ stepOf s r x → (o ≡ stepOf s r x) × (said (o .answer) .refusal ≡ reportFault s r x)
+told-step s r x p = (p, ap (λ (z : Stepped). said (z .answer) .refusal) p ∙ report-refusal s r x)
 
 -- ---- opening
 

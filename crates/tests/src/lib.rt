@@ -5,7 +5,7 @@ mod reports;
 
 ghost use mathlib.Core.Path.{_≡_};
 ghost use Rattle.tests_spec.specs.Flags.{flagOf};
-ghost use Rattle.tests_spec.specs.Runs.{openOf, stepOf};
+ghost use Rattle.tests_spec.specs.Runs.{openFault, openOf, reportFault, stepOf};
 ghost use Rattle.tests_spec.specs.Numbers.{said};
 ghost use Rattle.tests.specs.OpenShapes.{notOpened};
 use sheet_spec::Sheet;
@@ -47,7 +47,7 @@ fn flag_of(set: bool) -> u8
 // Opens test `k` with the choice number `h`: the first offer and the record, or the number of a refusal.
 pub fn open_test(sheet: Sheet, k: u16, h: u16, trace_only: bool) -> Stepped
     ensures { λ r. ⌜ (r ≡ openOf «trace_only» sheet k h)
-        × (said (r .answer) ≡ said (openOf «trace_only» sheet k h .answer)) ⌝ }
+        × (said (r .answer) .refusal ≡ openFault sheet k) ⌝ }
 {
     let fault = sheet::check(sheet);
     if fault != 0 {
@@ -76,7 +76,7 @@ pub fn open_test(sheet: Sheet, k: u16, h: u16, trace_only: bool) -> Stepped
 
 // Answers a report, and gives the record after it; a refusal gives its number and the record as it came.
 pub fn step(sheet: Sheet, run: Run, report: Report) -> Stepped
-    ensures { λ r. ⌜ (r ≡ stepOf sheet run report) × (said (r .answer) ≡ said (stepOf sheet run report .answer)) ⌝ }
+    ensures { λ r. ⌜ (r ≡ stepOf sheet run report) × (said (r .answer) .refusal ≡ reportFault sheet run report) ⌝ }
 {
     let fault = sheet::check(sheet);
     if fault != 0 {
@@ -108,7 +108,7 @@ pub fn step(sheet: Sheet, run: Run, report: Report) -> Stepped
 // Answers a report on the record that the bench holds, and stores the record after it there.
 pub fn take_report(run: &mut Run, sheet: Sheet, report: Report) -> Answer
     ensures { λ r. ⌜ (r ≡ stepOf sheet (now (run .entry)) report .answer)
-        × (said r ≡ said (stepOf sheet (now (run .entry)) report .answer))
+        × (said r .refusal ≡ reportFault sheet (now (run .entry)) report)
         × (now (run .exit) ≡ stepOf sheet (now (run .entry)) report .run) ⌝ }
 {
     let stepped = step(sheet, *run, report);

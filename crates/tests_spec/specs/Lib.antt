@@ -5,4 +5,5 @@ pub mod Reports
 pub mod Offers
 pub mod RunLaws
 pub mod RunRecords
+pub mod NumberLaws
 pub mod Cases

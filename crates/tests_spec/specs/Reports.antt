@@ -68,6 +68,28 @@ pub record Marked (r q : Run) : Type 0 where
   pub h : q .h ≡ r .h
   pub «trace_only» : q .«trace_only» ≡ r .«trace_only»
 
+-- a report with which a run that takes it goes on: an event inside the initials below depth k
+unfoldable pub Moving : Sheet → Run → Report → Type 0
+Moving s r (Event i) = Initial (s .e) (row s (r .node)) i × (r .depth < r .k)
+Moving s r Blocked = ⊥
+
+-- a report by which a run that takes it has failed as stray: an event outside the initials
+unfoldable pub Straying : Sheet → Run → Report → Type 0
+Straying s r (Event i) = ¬ Initial (s .e) (row s (r .node)) i
+Straying s r Blocked = ⊥
+
+-- a report by which a run that takes it has failed as refused: blocked, in a run that is not trace-only, at a node that
+-- may not stop
+unfoldable pub Refusing : Sheet → Run → Report → Type 0
+Refusing s r (Event i) = ⊥
+Refusing s r Blocked = (flag (r .«trace_only») ≡ false) × (mayStop (row s (r .node)) ≡ false)
+
+-- a report with which a run that takes it has passed: an event inside the initials at depth k; or blocked, in a
+-- trace-only run or where the node may stop
+unfoldable pub Passing : Sheet → Run → Report → Type 0
+Passing s r (Event i) = Initial (s .e) (row s (r .node)) i × (r .k ≤ r .depth)
+Passing s r Blocked = (flag (r .«trace_only») ≡ true) ⊎ (mayStop (row s (r .node)) ≡ true)
+
 -- what becomes of a report: it is refused and alters nothing, or moves the run on below depth k, or ends it
 pub data Taken (s : Sheet) (r : Run) (x : Report) : Type 0 where
   denies : reportFault s r x ≢ 0 → stepOf s r x ≡ answered (Denied (reportFault s r x)) r → Taken s r x
@@ -76,7 +98,7 @@ pub data Taken (s : Sheet) (r : Run) (x : Report) : Type 0 where
   strays : (i : ℕ) → x ≡ Event i → reportFault s r x ≡ 0 → ¬ Initial (s .e) (row s (r .node)) i → stepOf s r x ≡ answered (Stray i) (endedRun r) → Taken s r x
   refuses : x ≡ Blocked → reportFault s r x ≡ 0 → flag (r .«trace_only») ≡ false → mayStop (row s (r .node)) ≡ false
       → stepOf s r x ≡ answered (Refused (offerOf s r)) (endedRun r) → Taken s r x
-  passes : reportFault s r x ≡ 0 → stepOf s r x ≡ answered Passed (endedRun r) → Taken s r x
+  passes : reportFault s r x ≡ 0 → Passing s r x → stepOf s r x ≡ answered Passed (endedRun r) → Taken s r x
 
 -- 1 for an answer that is not a refusal
 unfoldable pub counts : Answer → ℕ

@@ -28,7 +28,7 @@ use Rattle.tests_spec.specs.declared.Stepped.{Stepped}
 use Rattle.tests_spec.specs.Flags.{flag}
 use Rattle.tests_spec.specs.Runs.{offerOf, newRun, zeroRun, answered, openFault, openOf, recordOk, eventFault, reportFault, movedBy, endedRun, answerOf, stepOf}
 use Rattle.tests_spec.specs.Numbers.{said}
-use Rattle.tests_spec.specs.Reports.{Beyond, NotOffered, WrongRecord, Shown, Fitting, Taken, denies, moves, strays, refuses, passes}
+use Rattle.tests_spec.specs.Reports.{Beyond, NotOffered, WrongRecord, Shown, Fitting, Passing, Taken, denies, moves, strays, refuses, passes}
 
 -- the refusals and the answers of an opening
 module _ (s : Sheet) (k : ℕ) where
@@ -228,6 +228,7 @@ module _ (s : Sheet) (r : Run) where
 
 -- every report is refused, moves the run on, or ends it
 pub taken : (s : Sheet) (r : Run) (x : Report) → Taken s r x
+unfolding Passing
 taken s r x = go (dec (eqb (reportFault s r x) 0))
   where
     given : (x : Report) → reportFault s r x ≡ 0 → Taken s r x
@@ -242,15 +243,15 @@ taken s r x = go (dec (eqb (reportFault s r x) 0))
         pick : (has (initials (s .e) (row s (r .node))) i ≡ true) ⊎ (has (initials (s .e) (row s (r .node))) i ≡ false) → (r .depth < r .k) ⊎ (r .k ≤ r .depth)
             → Taken s r (Event i)
         pick (inl t) (inl l) = moves i refl z (initial t) l (moving-step s r i z (initial t) l)
-        pick (inl t) (inr l) = passes z (passing-step s r i z (initial t) l)
+        pick (inl t) (inr l) = passes z (initial t, l) (passing-step s r i z (initial t) l)
         pick (inr t) d =
             let n : ¬ Initial (s .e) (row s (r .node)) i = λ a. clash (inner s r i z a) t in
             strays i refl z n (stray-step s r i z n)
     given Blocked z = pick (dec (flag (r .«trace_only»))) (dec (mayStop (row s (r .node))))
       where
         pick : (flag (r .«trace_only») ≡ true) ⊎ (flag (r .«trace_only») ≡ false) → (mayStop (row s (r .node)) ≡ true) ⊎ (mayStop (row s (r .node)) ≡ false) → Taken s r Blocked
-        pick (inl t) m = passes z (blocked-passes s r z (inl t))
-        pick (inr t) (inl m) = passes z (blocked-passes s r z (inr m))
+        pick (inl t) m = passes z (inl t) (blocked-passes s r z (inl t))
+        pick (inr t) (inl m) = passes z (inr m) (blocked-passes s r z (inr m))
         pick (inr t) (inr m) = refuses refl z t m (blocked-refused s r z t m)
 
     go : (eqb (reportFault s r x) 0 ≡ true) ⊎ (eqb (reportFault s r x) 0 ≡ false) → Taken s r x

@@ -42,7 +42,7 @@ module _ (s : Sheet) (r : Run) (x : Report) where
       forth e (moves i _ z a l p) = absurd (omega (arith, kind-same (sym (answer-of p) ∙ e)))
       forth e (strays i _ z n p) = absurd (omega (arith, kind-same (sym (answer-of p) ∙ e)))
       forth e (refuses _ z t m p) = absurd (omega (arith, kind-same (sym (answer-of p) ∙ e)))
-      forth e (passes z p) = absurd (omega (arith, kind-same (sym (answer-of p) ∙ e)))
+      forth e (passes z _ p) = absurd (omega (arith, kind-same (sym (answer-of p) ∙ e)))
 
       back : (reportFault s r x ≡ m) × (m ≢ 0) → stepOf s r x .answer ≡ Denied m
       back (e, n) = answer-of (step-denied s r x (λ z. n (sym e ∙ z))) ∙ ap Denied e
@@ -82,7 +82,7 @@ module _ (s : Sheet) (r : Run) (x : Report) where
       go (moves i _ z a l p) = omega (arith, kind-same (sym (answer-of p) ∙ e))
       go (strays i _ z n p) = omega (arith, kind-same (sym (answer-of p) ∙ e))
       go (refuses _ z f m p) = clash t f
-      go (passes z p) = omega (arith, kind-same (sym (answer-of p) ∙ e))
+      go (passes z _ p) = omega (arith, kind-same (sym (answer-of p) ∙ e))
 
   -- a report with which the run goes on is an event; the run, at most k deep, is one deeper and at the event's
   -- successor, and nothing else of it alters; the answer has its next offer
@@ -102,7 +102,7 @@ module _ (s : Sheet) (r : Run) (x : Report) where
       )
       go (strays i _ z n p) = absurd (omega (arith, kind-same (sym (answer-of p) ∙ e)))
       go (refuses _ z f m p) = absurd (omega (arith, kind-same (sym (answer-of p) ∙ e)))
-      go (passes z p) = absurd (omega (arith, kind-same (sym (answer-of p) ∙ e)))
+      go (passes z _ p) = absurd (omega (arith, kind-same (sym (answer-of p) ∙ e)))
 
   -- an answer that neither refuses nor goes on ends the run: the record is marked, and nothing else of it alters
   pub ending-marks : ((m : ℕ) → stepOf s r x .answer ≢ Denied m) → ((X : ℕ) → stepOf s r x .answer ≢ Going X) → Marked r (stepOf s r x .run)
@@ -117,7 +117,7 @@ module _ (s : Sheet) (r : Run) (x : Report) where
       go (moves i _ z u l p) = absurd (b (offerOf s (movedBy s r i)) (answer-of p))
       go (strays i _ z n p) = marked p
       go (refuses _ z f m p) = marked p
-      go (passes z p) = marked p
+      go (passes z _ p) = marked p
 
 -- a marked record reads as ended
 pub ended-marked : (r : Run) → flag (endedRun r .ended) ≡ true
@@ -144,7 +144,7 @@ ended-none (l ∷ ls) r t = go (taken (l .0) r (l .1)) (ended-none ls r t)
     go (moves i _ z a h p) ih = absurd (live z)
     go (strays i _ z n p) ih = absurd (live z)
     go (refuses _ z f m p) ih = absurd (live z)
-    go (passes z p) ih = absurd (live z)
+    go (passes z _ p) ih = absurd (live z)
 
 -- over any sequence of sheets and reports a record with depth at most k has at most k + 1 - depth reports that are not
 -- denied
@@ -162,7 +162,7 @@ taken-bound (l ∷ ls) r d = go (taken (l .0) r (l .1)) (taken-bound ls)
     go (moves i _ z a h p) ih = rw p (omega (arith, ih (movedBy (l .0) r i) (omega arith)))
     go (strays i _ z n p) ih = rw p (omega (arith, last))
     go (refuses _ z f m p) ih = rw p (omega (arith, last))
-    go (passes z p) ih = rw p (omega (arith, last))
+    go (passes z _ p) ih = rw p (omega (arith, last))
 
 -- with k + 1 - depth reports that are not denied the run has ended: it ends within k + 1 accepted reports
 pub taken-ends : (ls : List (Sheet × Report)) (r : Run) → r .depth ≤ r .k → takenCount r ls ≡ r .k + 1 - r .depth → flag (runAfter r ls .ended) ≡ true
@@ -179,4 +179,4 @@ taken-ends (l ∷ ls) r d e = go (taken (l .0) r (l .1)) (taken-ends ls)
     go (moves i _ z a h p) ih = rw p (ih (movedBy (l .0) r i) (omega arith) (omega (arith, rw p at e)))
     go (strays i _ z n p) ih = rw p last
     go (refuses _ z f m p) ih = rw p last
-    go (passes z p) ih = rw p last
+    go (passes z _ p) ih = rw p last

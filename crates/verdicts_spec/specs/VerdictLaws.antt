@@ -224,8 +224,8 @@ module _ (P Q : Sheet) (accP : sheetFault P ≡ 0) (accQ : sheetFault Q ≡ 0) (
           → failsFrom traceOnly P Q left n m ≡ true
       go (denies z p) (inl (_, f)) ih = absurd (subst Failed (answer-of p) f)
       go (denies z p) (inr (next, g, f)) ih = absurd (omega (arith, kind-same (sym (answer-of p) ∙ g)))
-      go (passes z p) (inl (_, f)) ih = absurd (subst Failed (answer-of p) f)
-      go (passes z p) (inr (next, g, f)) ih = absurd (omega (arith, kind-same (sym (answer-of p) ∙ g)))
+      go (passes z _ p) (inl (_, f)) ih = absurd (subst Failed (answer-of p) f)
+      go (passes z _ p) (inr (next, g, f)) ih = absurd (omega (arith, kind-same (sym (answer-of p) ∙ g)))
       go (moves i q z u l p) (inl (_, f)) ih = absurd (subst Failed (answer-of p) f)
       go (moves i q z u l p) (inr (next, g, f)) ih =
           moved i left e l u (subst (CanReport Q m (offerOf P (live h n x))) q can .1) ih

@@ -42,7 +42,7 @@ use Rattle.sheet_spec.specs.declared.Sheet.{Sheet}
 use Rattle.tests_spec.specs.declared.Report.{Report}
 use Rattle.tests_spec.specs.declared.Answer.{Answer}
 use Rattle.tests_spec.specs.declared.Stepped.{Stepped}
-use Rattle.tests_spec.specs.Runs.{stepOf}
+use Rattle.tests_spec.specs.Runs.{reportFault, stepOf}
 use Rattle.tests_spec.specs.Numbers.{said}
 use Rattle.tests_spec.proofs.Run as R
 use Rattle.tests_spec.proofs.Run.Laws as R′
@@ -102,7 +102,7 @@ module _ {M : Type 1} (𝓤 : URA M) (H : Heap 𝓤) (A : Atoms 𝓤) (W : Given
 
   -- what `step` tells of its result
   abbrev Told : Stepped → Type 0
-  Told r = (r ≡ found) × (said (r .answer) ≡ said (found .answer))
+  Told r = (r ≡ found) × (said (r .answer) .refusal ≡ reportFault p h n)
 
   -- what the callee's triple binds outside, and that it asks nothing but plain values
   abbrev to : Step 𝓤 H A at-mem run .Ghost
