@@ -1,5 +1,4 @@
--- The numbers of the answers that an opening and a report get: in which case each number is given, and with what
--- value.
+-- The numbers of the answers that an opening and a report get: in which case each kind is given, and with what value.
 use mathlib.Core.Path.{_≡_, sym, ap, _∙_}
 use mathlib.Core.Logic.{_⊎_, inl, inr, _≢_, _↔_}
 use mathlib.Core.Bool.{Bool, true, false}
@@ -21,7 +20,7 @@ use Rattle.tests_spec.specs.Reports.{Moving, Straying, Refusing, Passing
 -- ---- an opening
 
 module _ (traceOnly : Bool) (s : Sheet) (k h : ℕ) where
-  -- an opening that is not refused has the number 1, and the first offer of the run at its start
+  -- an opening that is not refused is of kind 1, with the first offer of the run at its start
   pub opened-said : openFault s k ≡ 0 → said (openOf traceOnly s k h .answer) ≡ record { refusal = 0; kind = 1; value = offerOf s (newRun traceOnly k h) }
   unfolding said
   opened-said z = rw (open-going s k h traceOnly z)
@@ -47,31 +46,31 @@ module _ (s : Sheet) (r : Run) where
   unfolding said
   denied-said x n = rw (step-denied s r x n)
 
-  -- an event inside the initials below depth k has the number 1, and the offer of the run after it
+  -- an event inside the initials below depth k is of kind 1, with the offer of the run after it
   pub moving-said : (x : Report) → reportFault s r x ≡ 0 → Moving s r x → said (stepOf s r x .answer) ≡ record { refusal = 0; kind = 1; value = offerOf s (stepOf s r x .run) }
   unfolding said Moving
   moving-said (Event i) z (a, l) = rw (moving-step s r i z a l)
   moving-said Blocked z m = absurd m
 
-  -- an event outside the initials has the number 2, and itself as the value
+  -- an event outside the initials is of kind 2, with itself as the value
   pub stray-said : (i : ℕ) → reportFault s r (Event i) ≡ 0 → Straying s r (Event i) → said (stepOf s r (Event i) .answer) ≡ record { refusal = 0; kind = 2; value = i }
   unfolding said Straying
   stray-said i z n = rw (stray-step s r i z n)
 
-  -- any report that is an event outside the initials has the number 2
+  -- any report that is an event outside the initials is of kind 2
   stray-parts : (x : Report) → reportFault s r x ≡ 0 → Straying s r x → (i : ℕ) × (said (stepOf s r x .answer) ≡ record { refusal = 0; kind = 2; value = i })
   unfolding Straying
   stray-parts (Event i) z n = (i, stray-said i z n)
   stray-parts Blocked z n = absurd n
 
-  -- blocked, not trace-only, where the node may not stop, has the number 3, and the set that was offered
+  -- blocked, not trace-only, where the node may not stop, is of kind 3, with the set that was offered
   pub refusing-said : (x : Report) → reportFault s r x ≡ 0 → Refusing s r x → said (stepOf s r x .answer) ≡ record { refusal = 0; kind = 3; value = offerOf s r }
   unfolding said Refusing
   refusing-said (Event i) z m = absurd m
   refusing-said Blocked z (t, m) = rw (blocked-refused s r z t m)
 
-  -- an event inside the initials at depth k, and blocked, trace-only or where the node may stop, have the number 4 and
-  -- no value
+  -- an event inside the initials at depth k, and blocked, trace-only or where the node may stop, are of kind 4, with no
+  -- value
   pub passing-said : (x : Report) → reportFault s r x ≡ 0 → Passing s r x → said (stepOf s r x .answer) ≡ record { refusal = 0; kind = 4; value = 0 }
   unfolding said Passing
   passing-said (Event i) z (a, l) = rw (passing-step s r i z a l)

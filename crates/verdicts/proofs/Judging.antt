@@ -22,7 +22,7 @@ use Rattle.verdicts_spec.specs.declared.Suite.{Suite}
 use Rattle.verdicts_spec.specs.declared.Suite.the-variants.{Judged, Denied}
 use Rattle.verdicts_spec.specs.Suites.{testCount, verdictNumber, suiteFault, suiteOf, verdictsAfter}
 use Rattle.verdicts_spec.specs.Numbers.{suited}
-use Rattle.verdicts_spec.specs.SuiteLaws.{suite-reference, suite-device, suite-11, suite-10, suite-fits, denied-suite, denied-verdicts, given-suite, given-verdicts}
+use Rattle.verdicts_spec.specs.SuiteLaws.{suite-reference, suite-device, suite-11, suite-10, suite-fits, denied-suite, denied-verdicts, given-suite, given-verdicts, suited-refusal}
 use Rattle.verdicts_spec.specs.Complete.{none-refused}
 
 -- a verdict's number is that of its test
@@ -54,13 +54,17 @@ module _ (P Q : Sheet) {f g e p′ q′ : ℕ} (p : f ≡ sheetFault P) (z : f �
 module _ (P Q : Sheet) (traceOnly : Bool) (o : List ℕ) where
   -- what the contract says of an answer and the list at exit
   abbrev pub Says : Suite → List ℕ → Type 0
-  Says r after = (r ≡ suiteOf P Q o) × (suited r ≡ suited (suiteOf P Q o)) × (after ≡ verdictsAfter traceOnly P Q o)
+  Says r after = (r ≡ suiteOf P Q o) × (suited r .refusal ≡ suiteFault P Q o) × (after ≡ verdictsAfter traceOnly P Q o)
+
+  -- the answer of the definition says the refusal of the call
+  says : {r : Suite} → r ≡ suiteOf P Q o → suited r .refusal ≡ suiteFault P Q o
+  says d = ap (λ (r : Suite). suited r .refusal) d ∙ suited-refusal P Q o
 
   refused : {m : ℕ} → suiteFault P Q o ≡ m → (m ≡ 0 → ⊥) → Says (Denied m) o
   refused {m} p n =
       let z : suiteFault P Q o ≡ 0 → ⊥ = λ e. n (sym p ∙ e) in
       let d : Denied m ≡ suiteOf P Q o = sym (denied-suite P Q o z ∙ ap Denied p) in
-      (d, ap suited d, sym (denied-verdicts P Q o z traceOnly))
+      (d, says d, sym (denied-verdicts P Q o z traceOnly))
 
   module _ {f : ℕ} (p : f ≡ sheetFault P) where
     pub by-reference : (f ≡ 0 → ⊥) → Says (Denied f) o
@@ -115,7 +119,7 @@ module _ (P Q : Sheet) (traceOnly : Bool) (o : List ℕ) where
                 let d : Judged (p′ * q′) ≡ suiteOf P Q o = ap Judged count ∙ sym (given-suite P Q o fits) in
                 let t = upTo-ext (λ k. kindOf (failsFrom traceOnly (sheetWith (P .rows) e p′) (sheetWith (Q .rows) e q′) k 0 0)) (verdictNumber traceOnly P Q) (p′ * q′) number in (
                   d,
-                  ap suited d,
+                  says d,
                   h ∙ ap (λ (x : List ℕ). x ++ drop (p′ * q′) o) t ∙ ap (λ (n : ℕ). upTo (verdictNumber traceOnly P Q) n ++ drop n o) count
                       ∙ sym (given-verdicts P Q o fits traceOnly ∙ atFront-count o (upTo (verdictNumber traceOnly P Q) (testCount P Q)) (length-upTo (verdictNumber traceOnly P Q) (testCount P Q))),
                 )

@@ -11,11 +11,12 @@ use Rattle.verdicts_spec.specs.declared.Verdict.{Verdict}
 use Rattle.verdicts_spec.specs.declared.Verdict.the-variants.{Passes, Fails, Denied}
 use Rattle.verdicts_spec.specs.Verdicts.{failsFrom, verdictFault, verdictOf}
 use Rattle.verdicts_spec.specs.Numbers.{judged}
+use Rattle.verdicts_spec.specs.NumberLaws.{verdict-refusal}
 use Rattle.sheet_spec.specs.Kept.{sheetWith}
 
--- verdicts that are the same are the same in their numbers
-pub numbered : {a b : Verdict} → a ≡ b → (a ≡ b) × (judged a ≡ judged b)
-numbered p = (p, ap judged p)
+-- the verdict of the definition says the refusal of the call
+pub told : (P Q : Sheet) (k : ℕ) (traceOnly : Bool) {v : Verdict} → v ≡ verdictOf traceOnly P Q k → (v ≡ verdictOf traceOnly P Q k) × (judged v .refusal ≡ verdictFault P Q k)
+told P Q k traceOnly p = (p, ap (λ (v : Verdict). judged v .refusal) p ∙ verdict-refusal traceOnly P Q k)
 
 module _ (P Q : Sheet) (k : ℕ) (traceOnly : Bool) where
   refused : {m : ℕ} → verdictFault P Q k ≡ m → (m ≡ 0 → ⊥) → Denied m ≡ verdictOf traceOnly P Q k

@@ -1,9 +1,9 @@
 // The verdict of a reference on a device: for one test, and for all tests from one pass over the layers of node pairs.
 // The entry points, `judge` and `judge_all`, take any content and answer, or refuse with a number.
 ghost use mathlib.Core.Path.{_≡_};
-ghost use Rattle.verdicts_spec.specs.Verdicts.{verdictOf};
+ghost use Rattle.verdicts_spec.specs.Verdicts.{verdictFault, verdictOf};
 ghost use Rattle.verdicts_spec.specs.Numbers.{judged};
-ghost use Rattle.verdicts_spec.specs.Suites.{suiteOf, verdictsAfter};
+ghost use Rattle.verdicts_spec.specs.Suites.{suiteFault, suiteOf, verdictsAfter};
 ghost use Rattle.verdicts_spec.specs.Numbers.{suited};
 use sheet_spec::Sheet;
 use verdicts_spec::Suite;
@@ -12,7 +12,7 @@ use verdicts_spec::Verdict;
 // The verdict of a reference on a device for test `k`, or the number of a refusal.
 pub fn judge(reference: Sheet, device: Sheet, k: u16, trace_only: bool) -> Verdict
     ensures { λ r. ⌜ (r ≡ verdictOf «trace_only» reference device k)
-        × (judged r ≡ judged (verdictOf «trace_only» reference device k)) ⌝ }
+        × (judged r .refusal ≡ verdictFault reference device k) ⌝ }
 {
     let fault = sheet::check(reference);
     if fault != 0 {
@@ -44,7 +44,7 @@ pub fn judge(reference: Sheet, device: Sheet, k: u16, trace_only: bool) -> Verdi
 // device's own; 11, E differs; 10, a list shorter than the tests.
 pub fn judge_all(reference: Sheet, device: Sheet, trace_only: bool, out: &mut [u8]) -> Suite
     ensures { λ r. ⌜ (r ≡ suiteOf reference device (now (out .entry)))
-        × (suited r ≡ suited (suiteOf reference device (now (out .entry))))
+        × (suited r .refusal ≡ suiteFault reference device (now (out .entry)))
         × (now (out .exit) ≡ verdictsAfter «trace_only» reference device (now (out .entry))) ⌝ }
 {
     let first = sheet::check(reference);

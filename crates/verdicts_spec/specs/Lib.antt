@@ -5,6 +5,7 @@ pub mod Failures
 pub mod Blocks
 pub mod FaultyPairs
 pub mod VerdictLaws
+pub mod NumberLaws
 pub mod TestLaws
 pub mod SuiteLaws
 pub mod Complete

@@ -38,11 +38,3 @@ pub record Suited : Type 0 where
 unfoldable pub suited : Suite → Suited
 suited (Judged n) = record { refusal = 0; count = n }
 suited (Denied m) = record { refusal = m; count = 0 }
-
-pub suited-judged : (n : ℕ) → suited (Judged n) ≡ record { refusal = 0; count = n }
-unfolding suited
-suited-judged n = refl
-
-pub suited-denied : (m : ℕ) → suited (Denied m) ≡ record { refusal = m; count = 0 }
-unfolding suited
-suited-denied m = refl

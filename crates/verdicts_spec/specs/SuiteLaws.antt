@@ -1,6 +1,6 @@
 -- Nothing to believe: laws. The call that judges all tests: when each refusal is given, what is then answered, and what
 -- stands in the list.
-use mathlib.Core.Path.{_≡_, refl, _∙_}
+use mathlib.Core.Path.{_≡_, refl, sym, ap, _∙_}
 use mathlib.Core.Logic.{_⊎_, inl, inr, _≢_, _↔_}
 use mathlib.Core.Bool.{Bool, true, false, cond}
 use mathlib.Core.List.{List}
@@ -8,8 +8,8 @@ use Prim.Native.Nat.{ℕ, _≤_, _<_}
 use native.Mathlib.Omega.{arith}
 use lib.Dec.{eqb, leb}
 use lib.ListN.{length, getD}
-use borrow.Author.Tests.{eqb-true, eq-eqb, ne-eqb}
-use Rattle.base.specs.Truth.{lt-or-ge}
+use borrow.Author.Tests.{eqb-true, eqb-false, eq-eqb, ne-eqb}
+use Rattle.base.specs.Truth.{dec, lt-or-ge}
 use Rattle.base.specs.Finds.{finds-le}
 use Rattle.base.specs.Refusal.{unless, unless-hit, unless-none, unless-other}
 use Rattle.base.specs.Table.{upTo, length-upTo, getD-upTo}
@@ -20,7 +20,7 @@ use Rattle.sheet_spec.specs.Chains.{finally}
 use Rattle.sheet_spec.specs.PairFaults.{pair-reference, pair-device, pair-sheet, pair-11, pair-rest}
 use Rattle.verdicts_spec.specs.declared.Suite.the-variants.{Judged, Denied}
 use Rattle.verdicts_spec.specs.Suites.{testCount, verdictNumber, suiteFault, suiteOf, verdictsAfter}
-use Rattle.verdicts_spec.specs.Numbers.{suited}
+use Rattle.verdicts_spec.specs.Numbers.{Suited, suited}
 
 module _ (P Q : Sheet) (out : List ℕ) where
   -- what is tested after the refusal 11
@@ -110,6 +110,14 @@ module _ (P Q : Sheet) (out : List ℕ) where
 
       pub verdict-rest : (x : ℕ) → testCount P Q ≤ x → getD (verdictsAfter traceOnly P Q out) x 0 ≡ getD out x 0
       verdict-rest x l = rw given-verdicts (atFront-behind out (upTo (verdictNumber traceOnly P Q) (testCount P Q)) x 0 (omega (arith, length-upTo (verdictNumber traceOnly P Q) (testCount P Q))))
+
+  -- every call, refused or not, says its refusal
+  pub suited-refusal : suited (suiteOf P Q out) .refusal ≡ suiteFault P Q out
+  suited-refusal = go (dec (eqb (suiteFault P Q out) 0))
+    where
+      go : (eqb (suiteFault P Q out) 0 ≡ true) ⊎ (eqb (suiteFault P Q out) 0 ≡ false) → suited (suiteOf P Q out) .refusal ≡ suiteFault P Q out
+      go (inl t) = let z = eqb-true (suiteFault P Q out) 0 t in ap (λ (n : Suited). n .refusal) (given-suited z) ∙ sym z
+      go (inr t) = ap (λ (n : Suited). n .refusal) (denied-suited (eqb-false (suiteFault P Q out) 0 t))
 
   -- the list keeps its length in every call
   pub verdicts-length : (traceOnly : Bool) → length (verdictsAfter traceOnly P Q out) ≡ length out

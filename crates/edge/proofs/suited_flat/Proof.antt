@@ -1,5 +1,5 @@
 -- `suited_flat`: each case of the answer.
-use Rattle.verdicts_spec.specs.Numbers.{suited-judged, suited-denied}
+use Rattle.verdicts_spec.specs.Numbers.{suited}
 use Rattle.edge.specs.Flat.{suitedFlat}
 use native.Mathlib.Omega.{arith}
 use Rattle.edge.proofs.suited_flat.Statement.{statement}
@@ -12,12 +12,12 @@ enum-known-a-2 : tie.Need-enum-known-a-2
 enum-known-a-2 c = omega arith
 
 returns : tie.Need-returns
-unfolding suitedFlat
-returns c = rw (c .before .a .given .1, suited-judged)
+unfolding suitedFlat suited
+returns c = rw (c .before .a .given .1)
 
 returns-2 : tie.Need-returns-2
-unfolding suitedFlat
-returns-2 c = rw (c .before .a2 .given .1, suited-denied)
+unfolding suitedFlat suited
+returns-2 c = rw (c .before .a2 .given .1)
 
 pub suited-flat-spec : {M : Type 1} → statement M
 suited-flat-spec = tie.close (tie.spec enum-known-a enum-known-a-2 returns returns-2)

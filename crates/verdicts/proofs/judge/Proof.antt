@@ -1,5 +1,5 @@
 -- The tests are those of the definition, in its order.
-use Rattle.verdicts.proofs.Verdicts.{numbered, by-reference, by-device, by-events, by-number, by-failing, by-passing}
+use Rattle.verdicts.proofs.Verdicts.{told, by-reference, by-device, by-events, by-number, by-failing, by-passing}
 use Rattle.verdicts.proofs.Judging.{sizes}
 use Rattle.verdicts.proofs.judge.Statement.{statement}
 use Rattle.verdicts.proofs.judge.Tie as tie
@@ -8,13 +8,13 @@ check-requires : tie.Need-check-requires
 check-requires c κs = tt
 
 returns : tie.Need-returns
-returns c = numbered (by-reference _ _ _ _ (c .before .check .ensures) (c .if1 .taken))
+returns c = told _ _ _ _ (by-reference _ _ _ _ (c .before .check .ensures) (c .if1 .taken))
 
 check-requires-2 : tie.Need-check-requires-2
 check-requires-2 c κs = tt
 
 returns-2 : tie.Need-returns-2
-returns-2 c = numbered (by-device _ _ _ _ (c .before .before .before .check .ensures) (c .before .before .if1 .left) (c .before .check2 .ensures) (c .if2 .taken))
+returns-2 c = told _ _ _ _ (by-device _ _ _ _ (c .before .before .before .check .ensures) (c .before .before .if1 .left) (c .before .check2 .ensures) (c .if2 .taken))
 
 wide-requires : tie.Need-wide-requires
 wide-requires c κs = tt
@@ -23,10 +23,10 @@ wide-requires-2 : tie.Need-wide-requires-2
 wide-requires-2 c κs = tt
 
 returns-3 : tie.Need-returns-3
-returns-3 c = numbered (by-events _ _ _ _ (c .before .before .before .before .before .before .check .ensures) (c .before .before .before .before .before .if1 .left) (c .before .before .before .before .check2 .ensures) (c .before .before .before .if2 .left) (c .before .before .wide .ensures) (c .before .wide2 .ensures) (c .if3 .taken))
+returns-3 c = told _ _ _ _ (by-events _ _ _ _ (c .before .before .before .before .before .before .check .ensures) (c .before .before .before .before .before .if1 .left) (c .before .before .before .before .check2 .ensures) (c .before .before .before .if2 .left) (c .before .before .wide .ensures) (c .before .wide2 .ensures) (c .if3 .taken))
 
 returns-4 : tie.Need-returns-4
-returns-4 c = numbered (by-number _ _ _ _ (c .before .before .before .before .before .before .before .check .ensures) (c .before .before .before .before .before .before .if1 .left) (c .before .before .before .before .before .check2 .ensures) (c .before .before .before .before .if2 .left) (c .before .before .before .wide .ensures) (c .before .before .wide2 .ensures) (c .before .if3 .left) (c .if4 .taken))
+returns-4 c = told _ _ _ _ (by-number _ _ _ _ (c .before .before .before .before .before .before .before .check .ensures) (c .before .before .before .before .before .before .if1 .left) (c .before .before .before .before .before .check2 .ensures) (c .before .before .before .before .if2 .left) (c .before .before .before .wide .ensures) (c .before .before .wide2 .ensures) (c .before .if3 .left) (c .if4 .taken))
 
 wide-requires-3 : tie.Need-wide-requires-3
 wide-requires-3 c κs = tt
@@ -38,10 +38,10 @@ is-failing-requires : tie.Need-is-failing-requires
 is-failing-requires c κs = sizes _ _ (c .before .before .before .before .before .before .before .before .before .before .before .check .ensures) (c .before .before .before .before .before .before .before .before .before .before .if1 .left) (c .before .before .before .before .before .before .before .before .before .check2 .ensures) (c .before .before .before .before .before .before .before .before .if2 .left) (c .before .before .before .before .before .before .before .wide .ensures) (c .before .before .before .wide3 .ensures) (c .before .before .wide4 .ensures)
 
 returns-5 : tie.Need-returns-5
-returns-5 c = numbered (by-failing _ _ _ _ (c .before .before .before .before .before .before .before .before .before .before .before .before .before .check .ensures) (c .before .before .before .before .before .before .before .before .before .before .before .before .if1 .left) (c .before .before .before .before .before .before .before .before .before .before .before .check2 .ensures) (c .before .before .before .before .before .before .before .before .before .before .if2 .left) (c .before .before .before .before .before .before .before .before .before .wide .ensures) (c .before .before .before .before .before .before .before .before .wide2 .ensures) (c .before .before .before .before .before .before .before .if3 .left) (c .before .before .before .before .before .before .if4 .left) (c .before .before .before .before .before .wide3 .ensures) (c .before .before .before .before .wide4 .ensures) (c .before .is-failing .ensures) (c .if5 .taken))
+returns-5 c = told _ _ _ _ (by-failing _ _ _ _ (c .before .before .before .before .before .before .before .before .before .before .before .before .before .check .ensures) (c .before .before .before .before .before .before .before .before .before .before .before .before .if1 .left) (c .before .before .before .before .before .before .before .before .before .before .before .check2 .ensures) (c .before .before .before .before .before .before .before .before .before .before .if2 .left) (c .before .before .before .before .before .before .before .before .before .wide .ensures) (c .before .before .before .before .before .before .before .before .wide2 .ensures) (c .before .before .before .before .before .before .before .if3 .left) (c .before .before .before .before .before .before .if4 .left) (c .before .before .before .before .before .wide3 .ensures) (c .before .before .before .before .wide4 .ensures) (c .before .is-failing .ensures) (c .if5 .taken))
 
 returns-6 : tie.Need-returns-6
-returns-6 c = numbered (by-passing _ _ _ _ (c .before .before .before .before .before .before .before .before .before .before .before .before .before .check .ensures) (c .before .before .before .before .before .before .before .before .before .before .before .before .if1 .left) (c .before .before .before .before .before .before .before .before .before .before .before .check2 .ensures) (c .before .before .before .before .before .before .before .before .before .before .if2 .left) (c .before .before .before .before .before .before .before .before .before .wide .ensures) (c .before .before .before .before .before .before .before .before .wide2 .ensures) (c .before .before .before .before .before .before .before .if3 .left) (c .before .before .before .before .before .before .if4 .left) (c .before .before .before .before .before .wide3 .ensures) (c .before .before .before .before .wide4 .ensures) (c .before .is-failing .ensures) (c .if5 .left))
+returns-6 c = told _ _ _ _ (by-passing _ _ _ _ (c .before .before .before .before .before .before .before .before .before .before .before .before .before .check .ensures) (c .before .before .before .before .before .before .before .before .before .before .before .before .if1 .left) (c .before .before .before .before .before .before .before .before .before .before .before .check2 .ensures) (c .before .before .before .before .before .before .before .before .before .before .if2 .left) (c .before .before .before .before .before .before .before .before .before .wide .ensures) (c .before .before .before .before .before .before .before .before .wide2 .ensures) (c .before .before .before .before .before .before .before .if3 .left) (c .before .before .before .before .before .before .if4 .left) (c .before .before .before .before .before .wide3 .ensures) (c .before .before .before .before .wide4 .ensures) (c .before .is-failing .ensures) (c .if5 .left))
 
 pub judge-spec : {M : Type 1} → statement M
 judge-spec = tie.close (tie.spec check-requires returns check-requires-2 returns-2 wide-requires wide-requires-2 returns-3 returns-4 wide-requires-3 wide-requires-4 is-failing-requires returns-5 returns-6)
