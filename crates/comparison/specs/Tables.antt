@@ -27,6 +27,7 @@ use Rattle.comparison_spec.specs.declared.Outcome.{Outcome}
 use Rattle.comparison_spec.specs.declared.Outcome.the-variants.{Denied}
 use Rattle.comparison_spec.specs.Comparison.{pairCount, nearest, nearestTrace, clearedOf, lastRow, comparisonOf, compareFault, traceAfter}
 use Rattle.comparison_spec.specs.Numbers.{compared}
+use Rattle.comparison_spec.specs.NumberLaws.{compared-refusal}
 use Rattle.comparison_spec.specs.CallLaws.{compare-0, denied-outcome, denied-trace, denied-work, given-outcome, given-trace, given-no-trace, given-work}
 use Rattle.search_theory.specs.declared.Found.{Found}
 use Rattle.search_theory.specs.Tables.{tableNext, tableGraph, badIn}
@@ -120,7 +121,7 @@ module _ (P Q : Sheet) (work trace : List ℕ) where
       let f = e ∙ fault-is P Q work trace in
       let m : compareFault P Q work trace ≢ 0 = λ z. n (f ∙ z) in
       let a = ap Denied f ∙ sym (denied-outcome P Q work trace traceOnly m) in
-      record { answer = a; numbers = ap compared a; traced = sym (denied-trace P Q work trace traceOnly m); zeroed = sym (denied-work P Q work trace traceOnly m) }
+      record { answer = a; numbers = ap (λ (o : Outcome). compared o .refusal) a ∙ compared-refusal traceOnly P Q work trace; traced = sym (denied-trace P Q work trace traceOnly m); zeroed = sym (denied-work P Q work trace traceOnly m) }
 
   -- a call that the code does not refuse is not refused
   pub passed : (k : ℕ) → k ≡ faultOn P Q (length work) (length trace) → k ≡ 0 → compareFault P Q work trace ≡ 0
@@ -183,7 +184,7 @@ module _ (P Q : Sheet) (work trace : List ℕ) where
             let x = er ∙ ap (told P Q) found-is ∙ found-told traceOnly P Q sound-P sound-Q ∙ sym (given-outcome P Q work trace traceOnly z) in
             record {
               answer = x;
-              numbers = ap compared x;
+              numbers = ap (λ (o : Outcome). compared o .refusal) x ∙ compared-refusal traceOnly P Q work trace;
               traced = (rw (graph-P, graph-Q) at (searched .traced)) ∙ after-trace traceOnly P Q sound-P sound-Q work trace z;
               zeroed = (unfold workFound pairCount in (searched .zeroed ∙ sym (given-work P Q work trace traceOnly z)));
             }

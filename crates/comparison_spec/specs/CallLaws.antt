@@ -16,7 +16,6 @@ use Rattle.sheet_spec.specs.Refusals.{sheetFault, BothAccepted, Own, NotOwn}
 use Rattle.sheet_spec.specs.Chains.{further, finally}
 use Rattle.sheet_spec.specs.PairFaults.{pair-reference, pair-device, pair-sheet, pair-11, pair-rest}
 use Rattle.comparison_spec.specs.declared.Outcome.the-variants.{Denied}
-use Rattle.comparison_spec.specs.Numbers.{compared}
 use Rattle.comparison_spec.specs.Comparison.{pairCount, workWords, nearest, nearestTrace, comparisonOf, compareFault, outcomeOf, traceAfter, workAfter}
 
 module _ (P Q : Sheet) (work trace : List ℕ) where
@@ -121,11 +120,6 @@ module _ (P Q : Sheet) (work trace : List ℕ) where
     pub given-work : compareFault P Q work trace ≡ 0 → workAfter P Q work trace ≡ atFront work (replicate (2 * pairCount P Q) 0)
     unfolding workAfter
     given-work z = rw (eq-eqb (compareFault P Q work trace) 0 z)
-
-    -- a refused call has no other part: its numbers are the refusal's and 0
-    pub compared-denied : (m : ℕ) → compared (Denied m) ≡ record { refusal = m; kind = 0; d = 0; cleared = 0; event = 0; probe = 0; acceptance = 0 }
-    unfolding compared
-    compared-denied m = refl
 
     -- without a refusal 2 p q words of the work list are 0, place by place, and later words are left
     pub work-zero : compareFault P Q work trace ≡ 0 → (x : ℕ) → x < 2 * pairCount P Q → getD (workAfter P Q work trace) x 1 ≡ 0

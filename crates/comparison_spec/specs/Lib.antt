@@ -7,3 +7,4 @@ pub mod ComparisonLaws
 pub mod OutcomeLaws
 pub mod CallLaws
 pub mod AnswerLaws
+pub mod NumberLaws

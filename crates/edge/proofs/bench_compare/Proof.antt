@@ -2,6 +2,8 @@
 use mathlib.Core.Path.{ap, _∙_}
 use native.Mathlib.Omega.{arith}
 use Rattle.tests_spec.specs.Flags.{flag}
+use Rattle.comparison_spec.specs.declared.Outcome.{Outcome}
+use Rattle.comparison_spec.specs.Numbers.{compared}
 use Rattle.edge.specs.Flat.{comparedFlat}
 use Rattle.edge.proofs.bench_compare.Statement.{statement}
 use Rattle.edge.proofs.bench_compare.Tie as tie
@@ -22,7 +24,7 @@ returns : tie.Need-returns
 unfolding flag
 returns c =
     let k = c .before .before .before .before .before .compare .ensures in
-    (c .compared-flat .ensures ∙ ap comparedFlat (k .numbers), k .traced, k .zeroed)
+    (c .compared-flat .ensures ∙ ap (λ (o : Outcome). comparedFlat (compared o)) (k .answer), k .traced, k .zeroed)
 
 pub bench-compare-spec : {M : Type 1} → statement M
 bench-compare-spec = tie.close (tie.spec compare-requires compared-flat-requires same-length same-length-2 returns)

@@ -39,7 +39,7 @@ use Rattle.tests_spec.specs.declared.Run.{Run}
 use Rattle.tests_spec.specs.declared.Report.{Report}
 use Rattle.tests_spec.specs.declared.Answer.{Answer}
 use Rattle.tests_spec.specs.declared.Stepped.{Stepped}
-use Rattle.tests_spec.specs.Runs.{stepOf}
+use Rattle.tests_spec.specs.Runs.{reportFault, stepOf}
 use Rattle.tests_spec.specs.Numbers.{said}
 use Rattle.edge.specs.declared.BenchSaid.{BenchSaid}
 use Rattle.edge.specs.Flat.{reportFlat, saidFlat}
@@ -137,7 +137,7 @@ module _ {M : Type 1} (𝓤 : URA M) (H : Heap 𝓤) (A : Atoms 𝓤) (W : Given
 
   -- what `take_report` tells of its answer and of the last value
   abbrev Took : Report → Answer → Run → Type 0
-  Took m a w = (a ≡ stepOf p h m .answer) × (said a ≡ said (stepOf p h m .answer)) × (w ≡ stepOf p h m .run)
+  Took m a w = (a ≡ stepOf p h m .answer) × (said a .refusal ≡ reportFault p h m) × (w ≡ stepOf p h m .run)
 
   take-tells : (m : Report) (a : Answer)
       → ent 𝓤 (ensured 𝓤 H A take.ended (take.clauses 𝓤 H A at-mem run) (κ, tt) (ref, (p, (m, tt))) tt a) (mean 𝓤 H A (some (λ (w : Run). ‵ (fres γ (R.the-row .coded .code w)) ⊛ raw (fact 𝓤 (Took m a w)))))
@@ -190,7 +190,7 @@ module _ {M : Type 1} (𝓤 : URA M) (H : Heap 𝓤) (A : Atoms 𝓤) (W : Given
         -- [the token; true; the last value; _6; …; _5; …; _4; …; _3; …; _2; …; _1; …; _0; …]
         returns ! (look ! 15 refl) $ forget ! 3 refl $ forget ! 5 refl $ forget ! 7 refl $ forget ! 9 refl $ forget ! 11 refl $ forget ! 13 refl $ forget ! 15 refl $
         move ! (15 ∷ 16 ∷ []) $ free1 ! $ move ! (13 ∷ 14 ∷ []) $ free1 ! $ move ! (11 ∷ 12 ∷ []) $ free1 ! $ move ! (9 ∷ 10 ∷ []) $ free1 ! $ move ! (7 ∷ 8 ∷ []) $ free1 ! $ move ! (5 ∷ 6 ∷ []) $ free1 ! $ move ! (3 ∷ 4 ∷ []) $ free1 ! $ free0 ! $
-        keep ! (2 ∷ 0 ∷ []) $ by ! (exits r z w (g ∙ ap saidFlat (f .1) ∙ ap (λ (k : Report). saidFlat (said (stepOf p h k .answer))) e) (f .2 ∙ ap (λ (k : Report). stepOf p h k .run) e) is)))))))))))))))))))))
+        keep ! (2 ∷ 0 ∷ []) $ by ! (exits r z w (g ∙ ap (λ (y : Answer). saidFlat (said y)) (f .0) ∙ ap (λ (k : Report). saidFlat (said (stepOf p h k .answer))) e) (f .2 ∙ ap (λ (k : Report). stepOf p h k .run) e) is)))))))))))))))))))))
 
 module _ {M : Type 1} (𝓤 : URA M) (H : Heap 𝓤) (A : Atoms 𝓤) (W : Given 𝓤 H A) (at-mem : Memory → SProp 𝓤) (run : Routine → Fun 𝓤) where
   report-walks : (C : Calls 𝓤 H) (Λ : Loops 𝓤 H) → FmC 𝓤 H (W .laws) C → Triple 𝓤 (C #edge·report-flat) (Read 𝓤 H A at-mem run) → Triple 𝓤 (C #tests·take-report) (Take 𝓤 H A at-mem run) → Triple 𝓤 (C #edge·said-flat) (Tell 𝓤 H A at-mem run) → Walks 𝓤 H A report.ended stayed (WpFn 𝓤 H C Λ code.function) (report.clauses 𝓤 H A at-mem run)
