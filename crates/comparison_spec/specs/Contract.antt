@@ -1,4 +1,4 @@
--- The contract of a comparison: its answer, the number of its refusal, and the two lent lists at exit, each an equation.
+-- The contract of a comparison: its answer, the number of its refusal, and the two lent lists at exit, as equations.
 use mathlib.Core.Path.{_≡_}
 use mathlib.Core.Bool.{Bool}
 use mathlib.Core.List.{List}

@@ -13,6 +13,7 @@ use Rattle.sheet_spec.specs.declared.Sheet.{Sheet}
 use Rattle.sheet_spec.specs.Sound.{Sound, check-sound}
 use Rattle.refinement_spec.specs.Refinement.{Strays, ViolationIn, RefinesIn}
 use Rattle.comparison_spec.specs.declared.Outcome.{Outcome}
+use Rattle.comparison_spec.specs.declared.Outcome.the-variants.{Refines, Stray, Refusal}
 use Rattle.comparison_spec.specs.Comparison.{pairCount, nearest, nearestTrace, clearedOf, compareFault, outcomeOf}
 use Rattle.comparison_spec.specs.Numbers.{Compared, compared}
 use Rattle.comparison_spec.specs.Meaning.{SmallestStray, FirstRefused, Describes, refines, stray, refusal}
@@ -42,16 +43,17 @@ module _ (traceOnly : Bool) (P Q : Sheet) (work trace : List ℕ) where
         go (yes e) = e
         go (no n) = absurd (compare-0 P Q work trace .0 z .0 .0 .1 n)
 
-    -- the answer refines, or names a stray, or names a refusal; with its numbers
+    -- the answer of a call that is not refused: it refines, or names a stray, or names a refusal
     abbrev Reason : Type 0
     Reason =
-        (RefinesIn traceOnly P Q × (compared (outcomeOf traceOnly P Q work trace) ≡ record { refusal = 0; kind = 1; d = 0; cleared = clearedOf traceOnly P Q; event = 0; probe = 0; acceptance = 0 }))
+        (RefinesIn traceOnly P Q × (outcomeOf traceOnly P Q work trace ≡ Refines (clearedOf traceOnly P Q)))
         ⊎ ((¬ RefinesIn traceOnly P Q)
-        × (((i : ℕ) × SmallestStray P Q (nearestTrace traceOnly P Q) i × (compared (outcomeOf traceOnly P Q work trace) ≡ record { refusal = 0; kind = 2; d = nearest traceOnly P Q; cleared = clearedOf traceOnly P Q; event = i; probe = 0; acceptance = 0 }))
-        ⊎ ((¬ Strays P Q (nearestTrace traceOnly P Q)) × ((X : ℕ) × (A : ℕ) × FirstRefused P Q (nearestTrace traceOnly P Q) X A × (compared (outcomeOf traceOnly P Q work trace) ≡ record { refusal = 0; kind = 3; d = nearest traceOnly P Q; cleared = clearedOf traceOnly P Q; event = 0; probe = X; acceptance = A })))))
+        × (((i : ℕ) × SmallestStray P Q (nearestTrace traceOnly P Q) i × (outcomeOf traceOnly P Q work trace ≡ Stray (nearest traceOnly P Q) (clearedOf traceOnly P Q) i))
+        ⊎ ((¬ Strays P Q (nearestTrace traceOnly P Q))
+        × ((X : ℕ) × (A : ℕ) × FirstRefused P Q (nearestTrace traceOnly P Q) X A × (outcomeOf traceOnly P Q work trace ≡ Refusal (nearest traceOnly P Q) (clearedOf traceOnly P Q) X A)))))
 
     reason : Reason
-    unfolding compared clearedOf
+    unfolding clearedOf
     reason = go (outcomeOf traceOnly P Q work trace) (traceOf traceOnly P Q) (outcome-describes traceOnly P Q (compare-0 P Q work trace .0 z .0 .0 .0 .0) (compare-0 P Q work trace .0 z .0 .0 .0 .1) same work trace z) refl
       where
         violated : (u : List ℕ) → ViolationIn traceOnly P Q u → ¬ RefinesIn traceOnly P Q
@@ -73,10 +75,11 @@ module _ (traceOnly : Bool) (P Q : Sheet) (work trace : List ℕ) where
     -- without a refusal, a device that refines the reference is of kind 1, with the number of cleared pairs alone
     pub refining-compared : RefinesIn traceOnly P Q
         → compared (outcomeOf traceOnly P Q work trace) ≡ record { refusal = 0; kind = 1; d = 0; cleared = clearedOf traceOnly P Q; event = 0; probe = 0; acceptance = 0 }
+    unfolding compared
     refining-compared r = go reason
       where
         go : Reason → compared (outcomeOf traceOnly P Q work trace) ≡ record { refusal = 0; kind = 1; d = 0; cleared = clearedOf traceOnly P Q; event = 0; probe = 0; acceptance = 0 }
-        go (inl w) = w .1
+        go (inl w) = rw (w .1)
         go (inr w) = absurd (w .0 r)
 
     -- without a refusal, where the nearest violation ends with a stray, the kind is 2, with d, cleared and the smallest
@@ -84,11 +87,12 @@ module _ (traceOnly : Bool) (P Q : Sheet) (work trace : List ℕ) where
     pub stray-compared : (¬ RefinesIn traceOnly P Q) → Strays P Q (nearestTrace traceOnly P Q)
         → (i : ℕ) × SmallestStray P Q (nearestTrace traceOnly P Q) i
         × (compared (outcomeOf traceOnly P Q work trace) ≡ record { refusal = 0; kind = 2; d = nearest traceOnly P Q; cleared = clearedOf traceOnly P Q; event = i; probe = 0; acceptance = 0 })
+    unfolding compared
     stray-compared n s = go reason
       where
         go : Reason → (i : ℕ) × SmallestStray P Q (nearestTrace traceOnly P Q) i × (compared (outcomeOf traceOnly P Q work trace) ≡ record { refusal = 0; kind = 2; d = nearest traceOnly P Q; cleared = clearedOf traceOnly P Q; event = i; probe = 0; acceptance = 0 })
         go (inl w) = absurd (n (w .0))
-        go (inr (_, inl w)) = w
+        go (inr (_, inl (i, w, q))) = (i, w, rw q)
         go (inr (_, inr w)) = absurd (w .0 s)
 
     -- without a refusal, where the nearest violation ends without a stray, the kind is 3, with d, cleared, the first
@@ -96,12 +100,13 @@ module _ (traceOnly : Bool) (P Q : Sheet) (work trace : List ℕ) where
     pub refusal-compared : (¬ RefinesIn traceOnly P Q) → (¬ Strays P Q (nearestTrace traceOnly P Q))
         → (X : ℕ) × (A : ℕ) × FirstRefused P Q (nearestTrace traceOnly P Q) X A
         × (compared (outcomeOf traceOnly P Q work trace) ≡ record { refusal = 0; kind = 3; d = nearest traceOnly P Q; cleared = clearedOf traceOnly P Q; event = 0; probe = X; acceptance = A })
+    unfolding compared
     refusal-compared n s = go reason
       where
         go : Reason → (X : ℕ) × (A : ℕ) × FirstRefused P Q (nearestTrace traceOnly P Q) X A × (compared (outcomeOf traceOnly P Q work trace) ≡ record { refusal = 0; kind = 3; d = nearest traceOnly P Q; cleared = clearedOf traceOnly P Q; event = 0; probe = X; acceptance = A })
         go (inl w) = absurd (n (w .0))
         go (inr (_, inl (i, w, q))) = absurd (s (i, w .does, w .does-not))
-        go (inr (_, inr w)) = w .1
+        go (inr (_, inr (_, (X, A, f, q)))) = (X, A, f, rw q)
 
   -- the call is refused; or it refines, or names a stray, or names a refusal
   abbrev Cases : Type 0
@@ -128,9 +133,9 @@ module _ (traceOnly : Bool) (P Q : Sheet) (work trace : List ℕ) where
 
       go : Cases → A
       go (inl n) = f0 (is (denied-compared n)) n
-      go (inr (z, inl (r, q))) = f1 (is q) z r
-      go (inr (z, inr (n, inl (i, w, q)))) = f2 (is q) z n (i, w .does, w .does-not)
-      go (inr (z, inr (n, inr (s, (X, A, f, q))))) = f3 (is q) z n s
+      go (inr (z, inl (r, _))) = f1 (is (refining-compared z r)) z r
+      go (inr (z, inr (n, inl (i, w, _)))) = let s : Strays P Q (nearestTrace traceOnly P Q) = (i, w .does, w .does-not) in f2 (is (stray-compared z n s .2)) z n s
+      go (inr (z, inr (n, inr (s, _)))) = f3 (is (refusal-compared z n s .3)) z n s
 
   -- the kind is 0 exactly if the call is refused
   pub kind-0 : (compared (outcomeOf traceOnly P Q work trace) .kind ≡ 0) ↔ (compareFault P Q work trace ≢ 0)
@@ -171,6 +176,6 @@ module _ (traceOnly : Bool) (P Q : Sheet) (work trace : List ℕ) where
 
       go : Cases → compared (outcomeOf traceOnly P Q work trace) .refusal ≡ compareFault P Q work trace
       go (inl n) = is (denied-compared n)
-      go (inr (z, inl (r, q))) = is q ∙ sym z
-      go (inr (z, inr (n, inl (i, w, q)))) = is q ∙ sym z
-      go (inr (z, inr (n, inr (s, (X, A, f, q))))) = is q ∙ sym z
+      go (inr (z, inl (r, _))) = is (refining-compared z r) ∙ sym z
+      go (inr (z, inr (n, inl (i, w, _)))) = is (stray-compared z n (i, w .does, w .does-not) .2) ∙ sym z
+      go (inr (z, inr (n, inr (s, _)))) = is (refusal-compared z n s .3) ∙ sym z
