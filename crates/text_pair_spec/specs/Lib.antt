@@ -4,4 +4,6 @@ pub mod Opening
 pub mod SplitLaws
 pub mod ProgramLaws
 pub mod OpeningLaws
+pub mod BackToBack
+pub mod BackToBackLaws
 pub mod Cases
