@@ -101,10 +101,7 @@ module _ (P Q : Sheet) (hP : sheetFault P ≡ 0) (hQ : sheetFault Q ≡ 0) where
   -- both lists that the program lends are enough: 12 and 13 cannot occur
   pub lists-fit : P .e ≡ Q .e → compareFault P Q workList traceList ≡ 0
   unfolding workList traceList
-  lists-fit same =
-      let words = length-replicate {A = ℕ} 2048 0 in
-      let places = length-replicate {A = ℕ} 1023 0 in
-      compare-fits P Q (replicate 2048 0) (replicate 1023 0) hP hQ same (omega (arith, pairs-le, words)) (omega (arith, pairs-le, places))
+  lists-fit same = compare-fits P Q workList traceList hP hQ same (rw length-replicate (omega (arith, pairs-le))) (rw length-replicate (omega (arith, pairs-le)))
 
   nearest-le : nearest false P Q ≤ 1024
   unfolding nearest pairCount

@@ -1,0 +1,265 @@
+-- What `compare` prints, from bytes to bytes: every input gets the text that Says describes, and Says describes no
+-- other. Two accepted sheets with one E get `refines cleared` exactly if the device refines the reference, else the
+-- violation of demand 3; no input gets `comparison refused` with 12 or 13, as the lists are never too short.
+use mathlib.Core.Path.{_≡_, refl, sym, ap, _∙_}
+use mathlib.Core.Logic.{_⊎_, inl, inr, _≢_, _↔_}
+use mathlib.Core.Bool.{false}
+use mathlib.Core.List.{List, [], _++_}
+use Prim.Native.Nat.{ℕ, _≤_}
+use native.Mathlib.Omega.{arith}
+use native.Mathlib.Decide.{ℕ-discrete}
+use lib.ListN.{length, getD, take, drop, length-append, length-replicate}
+use lib.Seq.{take-at, drop-append-seam}
+use Rattle.sheet_spec.specs.declared.Sheet.{Sheet}
+use Rattle.sheet_spec.specs.declared.ReadSheet.{ReadSheet}
+use Rattle.sheet_spec.specs.Form.{Bytes}
+use Rattle.sheet_spec.specs.Rules.{sheetFault}
+use Rattle.sheet_spec.specs.Reading.{readSheet}
+use Rattle.sheet_spec.specs.Sound.{check-sound}
+use Rattle.refinement_spec.specs.Refinement.{ViolationIn, RefinesIn}
+use Rattle.refinement_spec.specs.RefinementLaws.{refines-means, refines-or-violation}
+use Rattle.comparison_spec.specs.declared.Outcome.{Outcome}
+use Rattle.comparison_spec.specs.declared.Outcome.the-variants.{Refines, Stray, Refusal}
+use Rattle.comparison_spec.specs.Comparison.{compareFault, outcomeOf, traceAfter}
+use Rattle.comparison_spec.specs.Numbers.{compared}
+use Rattle.comparison_spec.specs.Meaning as meaning
+use Rattle.comparison_spec.specs.Meaning.{ReachedEver, Number, Describes}
+use Rattle.comparison_spec.specs.OutcomeLaws.{describes-only}
+use Rattle.comparison_spec.specs.AnswerLaws.{outcome-only}
+use Rattle.comparison_spec.specs.CallLaws.{compare-11, denied-outcome}
+use Rattle.claim.specs.Claim.{LongEnough, Reports, stray-reports, refusal-reports, Violated, Claim}
+use Rattle.claim.specs.Theorem.{claim}
+use Rattle.text_spec.specs.Lines.{ascii, decimal, numberLine, sheetLine}
+use Rattle.text_spec.specs.DecimalLaws.{valueFrom, decimal-value}
+use Rattle.text_pair_spec.specs.ProgramLaws as text
+use Rattle.text_pair_spec.specs.ProgramLaws.{reference, device}
+use Rattle.text_pair_spec.specs.BackToBack.{Begins, BackToBack}
+use Rattle.text_pair_spec.specs.BackToBackLaws.{begins-read, reference-accepted, both-exactly, pair-text, begins-text}
+use Rattle.compare_lines_spec.specs.Lines.{violatesLine, traceLine, refusedProbeLine, outcomeLines}
+use Rattle.compare_lines_spec.specs.Program.{workList, traceList, comparedLines, compareText}
+use Rattle.compare_lines_spec.specs.Lengths.{lists-fit}
+use Rattle.compare_lines_spec.specs.Says.{afterSheets, LastLine, of-stray, of-refusal, Says, reference-refused, device-refused, unequal, refines, violates}
+
+-- the numbers that an answer reports
+reports-are : (o : Outcome) (d c : ℕ) → Reports o d c → (compared o .d ≡ d) × (compared o .cleared ≡ c)
+unfolding compared
+reports-are o d c (stray-reports d′ c′ i) = (refl, refl)
+reports-are o d c (refusal-reports d′ c′ X A) = (refl, refl)
+
+-- the lines of an answer that reports a violation
+lines-of : (o : Outcome) (d c : ℕ) → Reports o d c → (t : List ℕ) → (end : List ℕ) × LastLine o end × (outcomeLines o t ≡ violatesLine d c ++ (traceLine (take d t) ++ end))
+unfolding outcomeLines
+lines-of o d c (stray-reports d′ c′ i) t = (numberLine (ascii "stray ") i, of-stray d c i, refl)
+lines-of o d c (refusal-reports d′ c′ X A) t = (refusedProbeLine X A, of-refusal d c X A, refl)
+
+-- the lines of an answer whose last line is known
+lines-end : (o : Outcome) (end : List ℕ) → LastLine o end → (t : List ℕ) → outcomeLines o t ≡ violatesLine (compared o .d) (compared o .cleared) ++ (traceLine (take (compared o .d) t) ++ end)
+unfolding outcomeLines compared
+lines-end o end (of-stray d c i) t = refl
+lines-end o end (of-refusal d c X A) t = refl
+
+module _ (P Q : Sheet) (accP : sheetFault P ≡ 0) (accQ : sheetFault Q ≡ 0) where
+  -- where E differs, 11 is printed
+  pub unequal-lines : P .e ≢ Q .e → comparedLines P Q ≡ numberLine (ascii "comparison refused ") 11
+  unfolding comparedLines outcomeLines
+  unequal-lines n =
+      let z : compareFault P Q workList traceList ≡ 11 = compare-11 P Q workList traceList .1 ((accP, accQ), n) in
+      rw (denied-outcome P Q workList traceList false (λ e. omega (arith, z)), z)
+
+  module _ (same : P .e ≡ Q .e) where
+    told : Claim false P Q
+    told = claim false P Q (inl accP) (inl accQ) same
+
+    -- the lists that the program lends are long enough for every two accepted sheets with one E
+    pub no-short-list : LongEnough P Q workList traceList
+    unfolding workList traceList
+    no-short-list = (rw length-replicate (omega (arith, told .few)), rw length-replicate (omega (arith, told .few)))
+
+    -- the lines are those of the answer and of the trace list at exit
+    told-lines : comparedLines P Q ≡ outcomeLines (outcomeOf false P Q workList traceList) (traceAfter false P Q workList traceList)
+    unfolding comparedLines
+    told-lines = refl
+
+    -- whatever 01 describes of the two sheets is the answer
+    only-answer : (o : Outcome) (t : List ℕ) → Describes false P Q o t → o ≡ outcomeOf false P Q workList traceList
+    only-answer = outcome-only false P Q accP accQ same workList traceList (lists-fit P Q accP accQ same)
+
+    -- where the device refines the reference, the number of the pairs reached is printed
+    refines-lines : RefinesIn false P Q → (cleared : ℕ) × Number P Q (ReachedEver P Q) cleared × (comparedLines P Q ≡ numberLine (ascii "refines cleared ") cleared)
+    unfolding outcomeLines
+    refines-lines r =
+        let x = told .refined workList traceList no-short-list .1 r in
+        (x .0, told .counted workList traceList no-short-list (x .0) (x .1), told-lines ∙ rw (x .1))
+
+    -- where it does not, the lines of the violation are printed
+    violates-lines : ¬ RefinesIn false P Q → (o : Outcome) × (after : List ℕ) × (v : Violated false P Q o after) × (end : List ℕ) × LastLine o end
+        × (comparedLines P Q ≡ violatesLine (v .d) (v .cleared) ++ (traceLine (take (v .d) after) ++ end))
+    violates-lines n =
+        let v = told .violated workList traceList no-short-list n in
+        let x = lines-of (outcomeOf false P Q workList traceList) (v .d) (v .cleared) (v .reports) (traceAfter false P Q workList traceList) in
+        (outcomeOf false P Q workList traceList, traceAfter false P Q workList traceList, v, x .0, x .1, told-lines ∙ x .2)
+
+    -- the device refines the reference, or it does not
+    decided : RefinesIn false P Q ⊎ (¬ RefinesIn false P Q)
+    decided = go (refines-or-violation (check-sound P accP) (check-sound Q accQ) same false)
+      where
+        go : RefinesIn false P Q ⊎ ((t : List ℕ) × ViolationIn false P Q t) → RefinesIn false P Q ⊎ (¬ RefinesIn false P Q)
+        go (inl r) = inl r
+        go (inr (t, v)) = inr (λ r. refines-means (check-sound P accP) (check-sound Q accQ) same false .0 r t v)
+
+    -- a number of the pairs reached, where the device refines the reference, is the one printed
+    refines-once : RefinesIn false P Q → (cleared : ℕ) → Number P Q (ReachedEver P Q) cleared → comparedLines P Q ≡ numberLine (ascii "refines cleared ") cleared
+    unfolding outcomeLines
+    refines-once r c k = told-lines ∙ rw (← only-answer (Refines c) [] (meaning.refines c r k))
+
+    -- a violation of demand 3 is the one printed
+    violates-once : ¬ RefinesIn false P Q → (o : Outcome) (after : List ℕ) (v : Violated false P Q o after) (end : List ℕ) → LastLine o end
+        → comparedLines P Q ≡ violatesLine (v .d) (v .cleared) ++ (traceLine (take (v .d) after) ++ end)
+    violates-once n o after v end l =
+        let w = told .violated workList traceList no-short-list n in
+        let e = only-answer o (take (v .d) after) (v .describes) in
+        let a = reports-are o (v .d) (v .cleared) (v .reports) in
+        let b = reports-are (outcomeOf false P Q workList traceList) (w .d) (w .cleared) (w .reports) in
+        let k : w .d ≡ v .d = sym (b .0) ∙ ap (λ (x : Outcome). compared x .d) (sym e) ∙ a .0 in
+        let t : take (v .d) (traceAfter false P Q workList traceList) ≡ take (v .d) after =
+        ap (λ (x : ℕ). take x (traceAfter false P Q workList traceList)) (sym k)
+            ∙ describes-only (check-sound P accP) (check-sound Q accQ) same false (outcomeOf false P Q workList traceList) (take (w .d) (traceAfter false P Q workList traceList)) (w .describes) .1
+            ∙ sym (describes-only (check-sound P accP) (check-sound Q accQ) same false o (take (v .d) after) (v .describes) .1) in
+        told-lines ∙ rw (← e) (lines-end o end l (traceAfter false P Q workList traceList) ∙ rw (a .0, a .1, t))
+
+-- texts that begin alike go on alike
+same-rest : (x a b : List ℕ) → x ++ a ≡ x ++ b → a ≡ b
+same-rest x a b e = sym (drop-append-seam x a) ∙ ap (λ (l : List ℕ). drop (length x) l) e ∙ drop-append-seam x b
+
+-- the lines after those of the sheets are the same where the texts are
+same-found : (P Q : Sheet) (a b : List ℕ) → afterSheets P Q a ≡ afterSheets P Q b → a ≡ b
+same-found P Q a b e =
+    same-rest (sheetLine (ascii "device ") (Q .n) (Q .e)) a b
+    (same-rest (sheetLine (ascii "reference ") (P .n) (P .e)) (sheetLine (ascii "device ") (Q .n) (Q .e) ++ a) (sheetLine (ascii "device ") (Q .n) (Q .e) ++ b) e)
+
+-- a line of some words tells its number
+same-number : (words : List ℕ) (m n : ℕ) → numberLine words m ≡ numberLine words n → m ≡ n
+unfolding numberLine
+same-number words m n e = sym (decimal-value m) ∙ ap (valueFrom 0) digits ∙ decimal-value n
+  where
+    ends : decimal m ++ ascii "\n" ≡ decimal n ++ ascii "\n"
+    ends = same-rest words (decimal m ++ ascii "\n") (decimal n ++ ascii "\n") e
+
+    long : length (decimal n) ≡ length (decimal m)
+    long = omega (arith, ap length ends, length-append (decimal m) (ascii "\n"), length-append (decimal n) (ascii "\n"))
+
+    digits : decimal m ≡ decimal n
+    digits =
+        sym (take-at (decimal m) (ascii "\n") (length (decimal m)) refl)
+        ∙ ap (λ (l : List ℕ). take (length (decimal m)) l) ends
+        ∙ take-at (decimal n) (ascii "\n") (length (decimal m)) long
+
+-- the first letters of the lines of the three kinds of findings differ
+refines-refused : (c m : ℕ) → numberLine (ascii "refines cleared ") c ≢ numberLine (ascii "comparison refused ") m
+unfolding numberLine
+refines-refused c m e = let z = ap (λ (l : List ℕ). getD l 0 0) e in omega (arith, z)
+
+violates-refused : (d c m : ℕ) (l : List ℕ) → violatesLine d c ++ l ≢ numberLine (ascii "comparison refused ") m
+unfolding numberLine violatesLine
+violates-refused d c m l e = let z = ap (λ (l : List ℕ). getD l 0 0) e in omega (arith, z)
+
+violates-refines : (d c k : ℕ) (l : List ℕ) → violatesLine d c ++ l ≢ numberLine (ascii "refines cleared ") k
+unfolding numberLine violatesLine
+violates-refines d c k l e = let z = ap (λ (l : List ℕ). getD l 0 0) e in omega (arith, z)
+
+module _ (input : List ℕ) (P Q : Sheet) (b : BackToBack input P Q) where
+  accP : sheetFault P ≡ 0
+  accP = b .reference-accepted .1
+
+  accQ : sheetFault Q ≡ 0
+  accQ = b .device-accepted .1
+
+  -- two accepted sheets print their lines and those of their comparison
+  pair-says : compareText input ≡ afterSheets P Q (comparedLines P Q)
+  unfolding compareText
+  pair-says = pair-text input comparedLines P Q b
+
+  pair-found : (l : List ℕ) → compareText input ≡ afterSheets P Q l → comparedLines P Q ≡ l
+  pair-found l e = same-found P Q (comparedLines P Q) l (sym pair-says ∙ e)
+
+  -- two accepted sheets print 11 exactly if E differs
+  pub says-unequal : (compareText input ≡ afterSheets P Q (numberLine (ascii "comparison refused ") 11)) ↔ (P .e ≢ Q .e)
+  says-unequal = (to, λ n. pair-says ∙ rw (unequal-lines P Q accP accQ n))
+    where
+      to : compareText input ≡ afterSheets P Q (numberLine (ascii "comparison refused ") 11) → P .e ≢ Q .e
+      to t same = go (decided P Q accP accQ same)
+        where
+          go : RefinesIn false P Q ⊎ (¬ RefinesIn false P Q) → ⊥
+          go (inl r) = let x = refines-lines P Q accP accQ same r in refines-refused (x .0) 11 (sym (x .2) ∙ pair-found _ t)
+          go (inr n) = let x = violates-lines P Q accP accQ same n in violates-refused (x .2 .d) (x .2 .cleared) 11 _ (sym (x .5) ∙ pair-found _ t)
+
+  -- no other comparison refusal is printed, so neither 12 nor 13
+  pub says-only-11 : (m : ℕ) → compareText input ≡ afterSheets P Q (numberLine (ascii "comparison refused ") m) → m ≡ 11
+  says-only-11 m t = go (ℕ-discrete (P .e) (Q .e))
+    where
+      go : Dec (P .e ≡ Q .e) → m ≡ 11
+      go (yes same) = alike (decided P Q accP accQ same)
+        where
+          alike : RefinesIn false P Q ⊎ (¬ RefinesIn false P Q) → m ≡ 11
+          alike (inl r) = let x = refines-lines P Q accP accQ same r in absurd (refines-refused (x .0) m (sym (x .2) ∙ pair-found _ t))
+          alike (inr n) = let x = violates-lines P Q accP accQ same n in absurd (violates-refused (x .2 .d) (x .2 .cleared) m _ (sym (x .5) ∙ pair-found _ t))
+      go (no n) = same-number (ascii "comparison refused ") m 11 (sym (pair-found _ t) ∙ unequal-lines P Q accP accQ n)
+
+  module _ (same : P .e ≡ Q .e) where
+    -- where the device refines the reference, the number of all pairs reached by common traces is printed
+    pub says-cleared : RefinesIn false P Q → (cleared : ℕ) × Number P Q (ReachedEver P Q) cleared × (compareText input ≡ afterSheets P Q (numberLine (ascii "refines cleared ") cleared))
+    says-cleared r = let x = refines-lines P Q accP accQ same r in (x .0, x .1, pair-says ∙ rw (x .2))
+
+    -- `refines cleared` is printed exactly if the device refines the reference
+    pub says-refines : ((cleared : ℕ) × (compareText input ≡ afterSheets P Q (numberLine (ascii "refines cleared ") cleared))) ↔ RefinesIn false P Q
+    says-refines = (to, λ r. let x = says-cleared r in (x .0, x .2))
+      where
+        to : (cleared : ℕ) × (compareText input ≡ afterSheets P Q (numberLine (ascii "refines cleared ") cleared)) → RefinesIn false P Q
+        to (c, t) = go (decided P Q accP accQ same)
+          where
+            go : RefinesIn false P Q ⊎ (¬ RefinesIn false P Q) → RefinesIn false P Q
+            go (inl r) = r
+            go (inr n) = let x = violates-lines P Q accP accQ same n in absurd (violates-refines (x .2 .d) (x .2 .cleared) c _ (sym (x .5) ∙ pair-found _ t))
+
+    -- where it does not, the d, the count, the trace and the witness of demand 3 are printed
+    pub says-violates : ¬ RefinesIn false P Q → (o : Outcome) × (after : List ℕ) × (v : Violated false P Q o after) × (end : List ℕ) × LastLine o end
+        × (compareText input ≡ afterSheets P Q (violatesLine (v .d) (v .cleared) ++ (traceLine (take (v .d) after) ++ end)))
+    says-violates n = let x = violates-lines P Q accP accQ same n in (x .0, x .1, x .2, x .3, x .4, pair-says ∙ rw (x .5))
+
+  -- what is said of two accepted sheets
+  pair-described : Says input (compareText input)
+  pair-described = go (ℕ-discrete (P .e) (Q .e))
+    where
+      go : Dec (P .e ≡ Q .e) → Says input (compareText input)
+      go (yes same) = alike (decided P Q accP accQ same)
+        where
+          alike : RefinesIn false P Q ⊎ (¬ RefinesIn false P Q) → Says input (compareText input)
+          alike (inl r) = let x = says-cleared same r in rw (x .2) (refines P Q b same r (x .0) (x .1))
+          alike (inr n) = let x = says-violates same n in rw (x .5) (violates P Q b same n (x .0) (x .1) (x .2) (x .3) (x .4))
+      go (no n) = rw (says-unequal .1 n) (unequal P Q b n)
+
+-- every input gets a text that is so described
+pub compare-says : (input : List ℕ) → Bytes input → Says input (compareText input)
+unfolding compareText
+compare-says input y = go (ℕ-discrete (reference input .refusal) 0)
+  where
+    go : Dec (reference input .refusal ≡ 0) → Says input (compareText input)
+    go (no n) = rw (text.reference-refused input comparedLines n) (reference-refused (reference input .refusal) n refl)
+    go (yes h) = second (ℕ-discrete (device input .refusal) 0)
+      where
+        second : Dec (device input .refusal ≡ 0) → Says input (compareText input)
+        second (no n) =
+            let x = reference-accepted input y .0 h in
+            let r = begins-read input (x .0) (x .1) (x .2) .1 in
+            let m : readSheet (x .1) .refusal ≢ 0 = λ z. n (ap (λ (a : ReadSheet). a .refusal) r ∙ z) in
+            rw (begins-text input comparedLines (x .0) (x .1) (x .2) m) (device-refused (x .0) (x .1) (readSheet (x .1) .refusal) (x .2) m refl)
+        second (yes k) = let x = both-exactly input y .0 (h, k) in pair-described input (x .0) (x .1) (x .2)
+
+-- no input gets another text
+pub says-only : (input t : List ℕ) → Says input t → t ≡ compareText input
+unfolding compareText
+says-only input t (reference-refused m n e) = sym (text.reference-refused input comparedLines (λ z. n (sym e ∙ z)) ∙ rw e)
+says-only input t (device-refused P rest m b n e) = sym (begins-text input comparedLines P rest b (λ z. n (sym e ∙ z)) ∙ rw e)
+says-only input t (unequal P Q b n) = sym (says-unequal input P Q b .1 n)
+says-only input t (refines P Q b same r c k) = sym (pair-says input P Q b ∙ rw (refines-once P Q (b .reference-accepted .1) (b .device-accepted .1) same r c k))
+says-only input t (violates P Q b same n o after v end l) = sym (pair-says input P Q b ∙ rw (violates-once P Q (b .reference-accepted .1) (b .device-accepted .1) same n o after v end l))
