@@ -72,6 +72,6 @@ unfolding inputs texts onlyZero onlyOne mayLoop stopped compareText pairText cut
 texts-hold = refl
 
 -- the lines of an outcome that names a refused probe
-pub refusal-holds : outcomeLines (Refusal 5 5 2 1) (0 ∷ 1 ∷ 0 ∷ 11 ∷ 0 ∷ 7 ∷ []) ≡ ascii "violates after 5 cleared 5\ntrace 0 1 0 11 0\nrefused 2 by 1\n"
+pub refusal-holds : outcomeLines (Refusal 5 8 2 1) (0 ∷ 1 ∷ 0 ∷ 11 ∷ 0 ∷ 7 ∷ []) ≡ ascii "violates after 5 cleared 8\ntrace 0 1 0 11 0\nrefused 2 by 1\n"
 unfolding outcomeLines numberLine violatesLine eventList traceLine refusedProbeLine decimal decimalIn
 refusal-holds = refl

@@ -6,7 +6,7 @@ use Prim.Native.Nat.{ℕ, zero, suc, _+_, _-_, _*_, _^_, _≤_, _<_}
 use native.Mathlib.Nat.{le-trans}
 use native.Mathlib.Omega.{arith}
 use lib.Dec.{eqb, ltb, leb}
-use lib.ListN.{length, getD, take, replicate, length-append, length-replicate}
+use lib.ListN.{length, getD, take, length-append, length-replicate}
 use lib.Pow.{pow-mono}
 use borrow.Author.Tests.{ltb-true}
 use Rattle.base.specs.Refusal.{unless}
@@ -103,97 +103,104 @@ module _ (P Q : Sheet) (hP : sheetFault P ≡ 0) (hQ : sheetFault Q ≡ 0) where
   unfolding workList traceList
   lists-fit same = compare-fits P Q workList traceList hP hQ same (rw length-replicate (omega (arith, pairs-le))) (rw length-replicate (omega (arith, pairs-le)))
 
-  nearest-le : nearest false P Q ≤ 1024
-  unfolding nearest pairCount
-  nearest-le = le-trans (pairDistance-le (graph P) (graph Q) (violating false P Q)) pairs-le
+  module _ (traceOnly : Bool) where
+    nearest-le : nearest traceOnly P Q ≤ 1024
+    unfolding nearest pairCount
+    nearest-le = le-trans (pairDistance-le (graph P) (graph Q) (violating traceOnly P Q)) pairs-le
 
-  cleared-le : clearedOf false P Q ≤ 1024
-  unfolding clearedOf pairCleared cleared product pairCount
-  cleared-le = le-trans (count-le _ (P .n * Q .n)) pairs-le
+    cleared-le : clearedOf traceOnly P Q ≤ 1024
+    unfolding clearedOf pairCleared cleared product pairCount
+    cleared-le = le-trans (count-le _ (P .n * Q .n)) pairs-le
 
-  compare-le : (work trace : List ℕ) → compareFault P Q work trace ≤ 13
-  unfolding compareFault
-  compare-le work trace =
-      rw (hP, hQ)
-      (unless-le (eqb (P .e) (Q .e)) 11 _ 13 (omega arith)
-      (unless-le (leb (workWords P Q) (length work)) 12 _ 13 (omega arith) (unless-le (leb (pairCount P Q - 1) (length trace)) 13 0 13 (omega arith) (omega arith))))
+    compare-le : (work trace : List ℕ) → compareFault P Q work trace ≤ 13
+    unfolding compareFault
+    compare-le work trace =
+        rw (hP, hQ)
+        (unless-le (eqb (P .e) (Q .e)) 11 _ 13 (omega arith)
+        (unless-le (leb (workWords P Q) (length work)) 12 _ 13 (omega arith) (unless-le (leb (pairCount P Q - 1) (length trace)) 13 0 13 (omega arith) (omega arith))))
 
-  -- the length of the trace line, whatever stands behind the trace
-  events-length : length (eventList (nearestTrace false P Q)) ≤ 3 * nearest false P Q
-  unfolding nearest nearestTrace pairTrace pairDistance leastTrace product
-  events-length = least-length (product (graph P) (graph Q)) (onCodes (graph Q) (violating false P Q)) (check-sound P hP .ranges .e-high) _ 0
+    -- the length of the trace line, whatever stands behind the trace
+    events-length : length (eventList (nearestTrace traceOnly P Q)) ≤ 3 * nearest traceOnly P Q
+    unfolding nearest nearestTrace pairTrace pairDistance leastTrace product
+    events-length = least-length (product (graph P) (graph Q)) (onCodes (graph Q) (violating traceOnly P Q)) (check-sound P hP .ranges .e-high) _ 0
 
-  told-length : (list : List ℕ) → nearest false P Q < pairCount P Q → length (traceLine (take (nearest false P Q) (atFront list (nearestTrace false P Q)))) ≤ 3075
-  told-length list h =
-      rw (atFront-taken list (nearestTrace false P Q) nearest-length, trace-length (nearestTrace false P Q)) (omega (arith, h, pairs-le, events-length))
-    where
-      nearest-length : length (nearestTrace false P Q) ≡ nearest false P Q
-      nearest-length = unfold nearest in (unfold nearestTrace in (pairTrace-length (graph P) (graph Q) (violating false P Q)))
+    told-length : (list : List ℕ) → nearest traceOnly P Q < pairCount P Q → length (traceLine (take (nearest traceOnly P Q) (atFront list (nearestTrace traceOnly P Q)))) ≤ 3075
+    told-length list h =
+        rw (atFront-taken list (nearestTrace traceOnly P Q) nearest-length, trace-length (nearestTrace traceOnly P Q)) (omega (arith, h, pairs-le, events-length))
+      where
+        nearest-length : length (nearestTrace traceOnly P Q) ≡ nearest traceOnly P Q
+        nearest-length = unfold nearest in (unfold nearestTrace in (pairTrace-length (graph P) (graph Q) (violating traceOnly P Q)))
 
-  -- the smallest stray event has at most two digits
-  stray-small : (e : ℕ) (r q : Row) → firstStray e r q < 100
-  unfolding firstStray
-  stray-small e r q = omega (arith, first≤ (has (strays (initials e r) (initials e q))) 12)
+    -- the smallest stray event has at most two digits
+    stray-small : (e : ℕ) (r q : Row) → firstStray e r q < 100
+    unfolding firstStray
+    stray-small e r q = omega (arith, first≤ (has (strays (initials e r) (initials e q))) 12)
 
-  -- a set of at most 12 events has at most four digits
-  set-small : (e : ℕ) → e ≤ 12 → 2 ^ e < 10000
-  set-small e l = let m : 2 ^ e ≤ 2 ^ 12 = pow-mono l in omega arith
+    -- a set of at most 12 events has at most four digits
+    set-small : (e : ℕ) → e ≤ 12 → 2 ^ e < 10000
+    set-small e l = let m : 2 ^ e ≤ 2 ^ 12 = pow-mono l in omega arith
 
-  -- the device's acceptances at the end of the trace are sets of its events
-  narrow-last : nearest false P Q < pairCount P Q → (j : ℕ) → j < lastRow false P Q Q .c → acceptance (lastRow false P Q Q) j < 2 ^ Q .e
-  unfolding lastRow nearest nearestTrace pairCount
-  narrow-last h j l =
-      let w = pairTrace-leads (check-sound P hP .graphed) (check-sound Q hQ .graphed) (violating false P Q) h in
-      check-sound Q hQ .narrow (walk (graph Q) 0 (pairTrace (graph P) (graph Q) (violating false P Q))) j (w .in-d) l
+    -- the device's acceptances at the end of the trace are sets of its events
+    narrow-last : nearest traceOnly P Q < pairCount P Q → (j : ℕ) → j < lastRow traceOnly P Q Q .c → acceptance (lastRow traceOnly P Q Q) j < 2 ^ Q .e
+    unfolding lastRow nearest nearestTrace pairCount
+    narrow-last h j l =
+        let w = pairTrace-leads (check-sound P hP .graphed) (check-sound Q hQ .graphed) (violating traceOnly P Q) h in
+        check-sound Q hQ .narrow (walk (graph Q) 0 (pairTrace (graph P) (graph Q) (violating traceOnly P Q))) j (w .in-d) l
 
-  -- what a refusal names has at most four digits
-  found-small : (r q : Row) → ((j : ℕ) → j < q .c → acceptance q j < 2 ^ Q .e) → (p a : ℕ) → firstMissed (acceptances r) (P .e) (acceptances q) ≡ Found p a
-      → (p < 10000) × (a < 10000)
-  unfolding acceptances
-  found-small r q narrow p a e =
-      let w = missed-found (acceptances r) (P .e) (acceptances q) p a .0 e in
-      let i : w .spot < q .c = omega (arith, w .spot-in, length-upTo (acceptance q) (q .c)) in
-      let x : getD (probes (acceptances r) (P .e)) (w .place) 0 < 2 ^ P .e = probe-small (acceptances r) (P .e) (w .place) (w .place-in) in
-      let y : acceptance q (w .spot) ≡ a = sym (getD-upTo (acceptance q) (q .c) (w .spot) 0 i) ∙ w .acceptance in
-      (omega (arith, x, w .probe, set-small (P .e) (check-sound P hP .ranges .e-high)), omega (arith, y, narrow (w .spot) i, set-small (Q .e) (check-sound Q hQ .ranges .e-high)))
+    -- what a refusal names has at most four digits
+    found-small : (r q : Row) → ((j : ℕ) → j < q .c → acceptance q j < 2 ^ Q .e) → (p a : ℕ) → firstMissed (acceptances r) (P .e) (acceptances q) ≡ Found p a
+        → (p < 10000) × (a < 10000)
+    unfolding acceptances
+    found-small r q narrow p a e =
+        let w = missed-found (acceptances r) (P .e) (acceptances q) p a .0 e in
+        let i : w .spot < q .c = omega (arith, w .spot-in, length-upTo (acceptance q) (q .c)) in
+        let x : getD (probes (acceptances r) (P .e)) (w .place) 0 < 2 ^ P .e = probe-small (acceptances r) (P .e) (w .place) (w .place-in) in
+        let y : acceptance q (w .spot) ≡ a = sym (getD-upTo (acceptance q) (q .c) (w .spot) 0 i) ∙ w .acceptance in
+        (omega (arith, x, w .probe, set-small (P .e) (check-sound P hP .ranges .e-high)), omega (arith, y, narrow (w .spot) i, set-small (Q .e) (check-sound Q hQ .ranges .e-high)))
 
-  -- the length of the three lines of a violation
-  three-length : (d c : ℕ) (told end : List ℕ) → d ≤ 1024 → c ≤ 1024 → length told ≤ 3075 → length end ≤ 21 → length (violatesLine d c ++ (told ++ end)) ≤ 3129
-  three-length d c told end h k s l =
-      omega (arith, length-append (violatesLine d c) (told ++ end), length-append told end, violates-length d c (omega arith) (omega arith), s, l)
+    -- the length of the three lines of a violation
+    three-length : (d c : ℕ) (told end : List ℕ) → d ≤ 1024 → c ≤ 1024 → length told ≤ 3075 → length end ≤ 21 → length (violatesLine d c ++ (told ++ end)) ≤ 3129
+    three-length d c told end h k s l =
+        omega (arith, length-append (violatesLine d c) (told ++ end), length-append told end, violates-length d c (omega arith) (omega arith), s, l)
 
-  named-length : (d c : ℕ) (r q : Row) → d ≤ 1024 → c ≤ 1024 → ((j : ℕ) → j < q .c → acceptance q j < 2 ^ Q .e) → (t : List ℕ) → length (traceLine (take d t)) ≤ 3075
-      → length (outcomeLines (named d c (P .e) r q) t) ≤ 3129
-  unfolding named outcomeLines refusalNamed
-  named-length d c r q h k narrow t s = go (hasStray (P .e) r q) (firstMissed (acceptances r) (P .e) (acceptances q)) refl
-    where
-      go : (b : Bool) (m : Missed) → firstMissed (acceptances r) (P .e) (acceptances q) ≡ m
-          → length (outcomeLines (cond b (Stray d c (firstStray (P .e) r q)) (refusalNamed d c m)) t) ≤ 3129
-      go true m e =
-          three-length d c (traceLine (take d t)) (numberLine (ascii "stray ") (firstStray (P .e) r q)) h k s
-          (omega (arith, number-length (ascii "stray ") 1 (firstStray (P .e) r q) (stray-small (P .e) r q)))
-      go false Nothing e = three-length d c (traceLine (take d t)) (refusedProbeLine 0 0) h k s (refused-length 0 0 (omega arith) (omega arith))
-      go false (Found p a) e =
-          let w = found-small r q narrow p a e in
-          three-length d c (traceLine (take d t)) (refusedProbeLine p a) h k s (refused-length p a (w .0) (w .1))
+    named-length : (d c : ℕ) (r q : Row) → d ≤ 1024 → c ≤ 1024 → ((j : ℕ) → j < q .c → acceptance q j < 2 ^ Q .e) → (t : List ℕ) → length (traceLine (take d t)) ≤ 3075
+        → length (outcomeLines (named d c (P .e) r q) t) ≤ 3129
+    unfolding named outcomeLines refusalNamed
+    named-length d c r q h k narrow t s = go (hasStray (P .e) r q) (firstMissed (acceptances r) (P .e) (acceptances q)) refl
+      where
+        go : (b : Bool) (m : Missed) → firstMissed (acceptances r) (P .e) (acceptances q) ≡ m
+            → length (outcomeLines (cond b (Stray d c (firstStray (P .e) r q)) (refusalNamed d c m)) t) ≤ 3129
+        go true m e =
+            three-length d c (traceLine (take d t)) (numberLine (ascii "stray ") (firstStray (P .e) r q)) h k s
+            (omega (arith, number-length (ascii "stray ") 1 (firstStray (P .e) r q) (stray-small (P .e) r q)))
+        go false Nothing e = three-length d c (traceLine (take d t)) (refusedProbeLine 0 0) h k s (refused-length 0 0 (omega arith) (omega arith))
+        go false (Found p a) e =
+            let w = found-small r q narrow p a e in
+            three-length d c (traceLine (take d t)) (refusedProbeLine p a) h k s (refused-length p a (w .0) (w .1))
 
+    -- the length of the lines of an answer of the program
+    answer-length : length (outcomeLines (outcomeOf traceOnly P Q workList traceList) (traceAfter traceOnly P Q workList traceList)) ≤ 3129
+    unfolding outcomeOf traceAfter comparisonOf outcomeLines
+    answer-length = go (eqb k 0) (ltb (nearest traceOnly P Q) (pairCount P Q)) refl
+      where
+        k : ℕ
+        k = compareFault P Q workList traceList
+
+        go : (x y : Bool) → ltb (nearest traceOnly P Q) (pairCount P Q) ≡ y
+            → length (outcomeLines
+            (cond x (cond y (named (nearest traceOnly P Q) (clearedOf traceOnly P Q) (P .e) (lastRow traceOnly P Q P) (lastRow traceOnly P Q Q)) (Refines (clearedOf traceOnly P Q))) (Denied k))
+            (cond (x && y) (atFront traceList (nearestTrace traceOnly P Q)) traceList)) ≤ 3129
+        go true true e =
+            let h = ltb-true (nearest traceOnly P Q) (pairCount P Q) e in
+            named-length (nearest traceOnly P Q) (clearedOf traceOnly P Q) (lastRow traceOnly P Q P) (lastRow traceOnly P Q Q) nearest-le cleared-le (narrow-last h)
+            (atFront traceList (nearestTrace traceOnly P Q)) (told-length traceList h)
+        go true false e = omega (arith, number-length (ascii "refines cleared ") 3 (clearedOf traceOnly P Q) (omega (arith, cleared-le)))
+        go false y e = omega (arith, number-length (ascii "comparison refused ") 1 k (omega (arith, compare-le workList traceList)))
+
+  -- the length of the lines after two accepted sheets
   compared-length : length (comparedLines P Q) ≤ 3129
-  unfolding comparedLines outcomeOf traceAfter comparisonOf outcomeLines
-  compared-length = go (eqb k 0) (ltb (nearest false P Q) (pairCount P Q)) refl
-    where
-      k : ℕ
-      k = compareFault P Q workList traceList
-
-      go : (x y : Bool) → ltb (nearest false P Q) (pairCount P Q) ≡ y
-          → length (outcomeLines
-          (cond x (cond y (named (nearest false P Q) (clearedOf false P Q) (P .e) (lastRow false P Q P) (lastRow false P Q Q)) (Refines (clearedOf false P Q))) (Denied k))
-          (cond (x && y) (atFront traceList (nearestTrace false P Q)) traceList)) ≤ 3129
-      go true true e =
-          let h = ltb-true (nearest false P Q) (pairCount P Q) e in
-          named-length (nearest false P Q) (clearedOf false P Q) (lastRow false P Q P) (lastRow false P Q Q) nearest-le cleared-le (narrow-last h)
-          (atFront traceList (nearestTrace false P Q)) (told-length traceList h)
-      go true false e = omega (arith, number-length (ascii "refines cleared ") 3 (clearedOf false P Q) (omega (arith, cleared-le)))
-      go false y e = omega (arith, number-length (ascii "comparison refused ") 1 k (omega (arith, compare-le workList traceList)))
+  unfolding comparedLines
+  compared-length = answer-length _
 
 -- every text has at most 3,184 bytes
 pub text-length : (input : List ℕ) → length (compareText input) ≤ 3184

@@ -5,7 +5,7 @@ use mathlib.Core.Path.{_≡_, refl, sym, ap, _∙_}
 use mathlib.Core.Logic.{_⊎_, inl, inr, _≢_, _↔_}
 use mathlib.Core.Bool.{false}
 use mathlib.Core.List.{List, [], _++_}
-use Prim.Native.Nat.{ℕ, _≤_}
+use Prim.Native.Nat.{ℕ}
 use native.Mathlib.Omega.{arith}
 use native.Mathlib.Decide.{ℕ-discrete}
 use lib.ListN.{length, getD, take, drop, length-append, length-replicate}
@@ -19,7 +19,7 @@ use Rattle.sheet_spec.specs.Sound.{check-sound}
 use Rattle.refinement_spec.specs.Refinement.{ViolationIn, RefinesIn}
 use Rattle.refinement_spec.specs.RefinementLaws.{refines-means, refines-or-violation}
 use Rattle.comparison_spec.specs.declared.Outcome.{Outcome}
-use Rattle.comparison_spec.specs.declared.Outcome.the-variants.{Refines, Stray, Refusal}
+use Rattle.comparison_spec.specs.declared.Outcome.the-variants.{Refines}
 use Rattle.comparison_spec.specs.Comparison.{compareFault, outcomeOf, traceAfter}
 use Rattle.comparison_spec.specs.Numbers.{compared}
 use Rattle.comparison_spec.specs.Meaning as meaning
@@ -33,7 +33,7 @@ use Rattle.text_spec.specs.Lines.{ascii, decimal, numberLine, sheetLine}
 use Rattle.text_spec.specs.DecimalLaws.{valueFrom, decimal-value}
 use Rattle.text_pair_spec.specs.ProgramLaws as text
 use Rattle.text_pair_spec.specs.ProgramLaws.{reference, device}
-use Rattle.text_pair_spec.specs.BackToBack.{Begins, BackToBack}
+use Rattle.text_pair_spec.specs.BackToBack.{BackToBack}
 use Rattle.text_pair_spec.specs.BackToBackLaws.{begins-read, reference-accepted, both-exactly, pair-text, begins-text}
 use Rattle.compare_lines_spec.specs.Lines.{violatesLine, traceLine, refusedProbeLine, outcomeLines}
 use Rattle.compare_lines_spec.specs.Program.{workList, traceList, comparedLines, compareText}
@@ -59,12 +59,17 @@ lines-end o end (of-stray d c i) t = refl
 lines-end o end (of-refusal d c X A) t = refl
 
 module _ (P Q : Sheet) (accP : sheetFault P ≡ 0) (accQ : sheetFault Q ≡ 0) where
+  -- the lines are those of the comparison of the reference with the device, refusals included
+  told-lines : comparedLines P Q ≡ outcomeLines (outcomeOf false P Q workList traceList) (traceAfter false P Q workList traceList)
+  unfolding comparedLines
+  told-lines = refl
+
   -- where E differs, 11 is printed
-  pub unequal-lines : P .e ≢ Q .e → comparedLines P Q ≡ numberLine (ascii "comparison refused ") 11
-  unfolding comparedLines outcomeLines
+  unequal-lines : P .e ≢ Q .e → comparedLines P Q ≡ numberLine (ascii "comparison refused ") 11
+  unfolding outcomeLines
   unequal-lines n =
       let z : compareFault P Q workList traceList ≡ 11 = compare-11 P Q workList traceList .1 ((accP, accQ), n) in
-      rw (denied-outcome P Q workList traceList false (λ e. omega (arith, z)), z)
+      told-lines ∙ rw (denied-outcome P Q workList traceList false (λ e. omega (arith, z)), z)
 
   module _ (same : P .e ≡ Q .e) where
     told : Claim false P Q
@@ -74,11 +79,6 @@ module _ (P Q : Sheet) (accP : sheetFault P ≡ 0) (accQ : sheetFault Q ≡ 0) w
     pub no-short-list : LongEnough P Q workList traceList
     unfolding workList traceList
     no-short-list = (rw length-replicate (omega (arith, told .few)), rw length-replicate (omega (arith, told .few)))
-
-    -- the lines are those of the answer and of the trace list at exit
-    told-lines : comparedLines P Q ≡ outcomeLines (outcomeOf false P Q workList traceList) (traceAfter false P Q workList traceList)
-    unfolding comparedLines
-    told-lines = refl
 
     -- whatever 01 describes of the two sheets is the answer
     only-answer : (o : Outcome) (t : List ℕ) → Describes false P Q o t → o ≡ outcomeOf false P Q workList traceList
@@ -123,8 +123,8 @@ module _ (P Q : Sheet) (accP : sheetFault P ≡ 0) (accQ : sheetFault Q ≡ 0) w
         let k : w .d ≡ v .d = sym (b .0) ∙ ap (λ (x : Outcome). compared x .d) (sym e) ∙ a .0 in
         let t : take (v .d) (traceAfter false P Q workList traceList) ≡ take (v .d) after =
         ap (λ (x : ℕ). take x (traceAfter false P Q workList traceList)) (sym k)
-            ∙ describes-only (check-sound P accP) (check-sound Q accQ) same false (outcomeOf false P Q workList traceList) (take (w .d) (traceAfter false P Q workList traceList)) (w .describes) .1
-            ∙ sym (describes-only (check-sound P accP) (check-sound Q accQ) same false o (take (v .d) after) (v .describes) .1) in
+        ∙ describes-only (check-sound P accP) (check-sound Q accQ) same false (outcomeOf false P Q workList traceList) (take (w .d) (traceAfter false P Q workList traceList)) (w .describes) .1
+        ∙ sym (describes-only (check-sound P accP) (check-sound Q accQ) same false o (take (v .d) after) (v .describes) .1) in
         told-lines ∙ rw (← e) (lines-end o end l (traceAfter false P Q workList traceList) ∙ rw (a .0, a .1, t))
 
 -- texts that begin alike go on alike
