@@ -29,20 +29,21 @@ pub data LastLine : Outcome → List ℕ → Type 0 where
   of-stray : (d cleared i : ℕ) → LastLine (Stray d cleared i) (numberLine (ascii "stray ") i)
   of-refusal : (d cleared X A : ℕ) → LastLine (Refusal d cleared X A) (refusedProbeLine X A)
 
--- the input gets the text
+-- the text that an input gets: one constructor for each kind of text
 pub data Says (input : List ℕ) : List ℕ → Type 0 where
-  -- the first sheet is refused by m: this line alone
+  -- the first sheet is refused by m: the line of this refusal alone
   reference-refused : (m : ℕ) → m ≢ 0 → readSheet (firstSheet (cutInput input)) .refusal ≡ m → Says input (numberLine (ascii "reference refused ") m)
   -- an accepted sheet stands in front, and what follows it is refused by m: the line of the one, the refusal of the
   -- other
   device-refused : (P : Sheet) (rest : List ℕ) (m : ℕ) → Begins input P rest → m ≢ 0 → readSheet rest .refusal ≡ m
       → Says input (sheetLine (ascii "reference ") (P .n) (P .e) ++ numberLine (ascii "device refused ") m)
-  -- two accepted sheets with another E each: 11, and no other refusal
+  -- two accepted sheets whose E differ: 11, and no other refusal
   unequal : (P Q : Sheet) → BackToBack input P Q → P .e ≢ Q .e → Says input (afterSheets P Q (numberLine (ascii "comparison refused ") 11))
   -- two accepted sheets with one E, and the device refines the reference: the number of all pairs reached by common
   -- traces
   refines : (P Q : Sheet) → BackToBack input P Q → P .e ≡ Q .e → RefinesIn false P Q → (cleared : ℕ) → Number P Q (ReachedEver P Q) cleared
       → Says input (afterSheets P Q (numberLine (ascii "refines cleared ") cleared))
-  -- two accepted sheets with one E, and the device does not: the d, the count, the trace and the witness of demand 3
+  -- two accepted sheets with one E, and the device does not refine the reference: the d, the count, the trace and the
+  -- witness of demand 3
   violates : (P Q : Sheet) → BackToBack input P Q → P .e ≡ Q .e → ¬ RefinesIn false P Q → (o : Outcome) (after : List ℕ) (v : Violated false P Q o after) (end : List ℕ) → LastLine o end
       → Says input (afterSheets P Q (violatesLine (v .d) (v .cleared) ++ (traceLine (take (v .d) after) ++ end)))

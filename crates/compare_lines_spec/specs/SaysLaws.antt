@@ -8,8 +8,7 @@ use mathlib.Core.List.{List, [], _++_}
 use Prim.Native.Nat.{ℕ}
 use native.Mathlib.Omega.{arith}
 use native.Mathlib.Decide.{ℕ-discrete}
-use lib.ListN.{length, getD, take, drop, length-append, length-replicate}
-use lib.Seq.{take-at, drop-append-seam}
+use lib.ListN.{take, length-replicate}
 use Rattle.sheet_spec.specs.declared.Sheet.{Sheet}
 use Rattle.sheet_spec.specs.declared.ReadSheet.{ReadSheet}
 use Rattle.sheet_spec.specs.Form.{Bytes}
@@ -29,14 +28,14 @@ use Rattle.comparison_spec.specs.AnswerLaws.{outcome-only}
 use Rattle.comparison_spec.specs.CallLaws.{compare-11, denied-outcome}
 use Rattle.claim.specs.Claim.{LongEnough, Reports, stray-reports, refusal-reports, Violated, Claim}
 use Rattle.claim.specs.Theorem.{claim}
-use Rattle.text_spec.specs.Lines.{ascii, decimal, numberLine, sheetLine}
-use Rattle.text_spec.specs.DecimalLaws.{valueFrom, decimal-value}
+use Rattle.text_spec.specs.Lines.{ascii, numberLine, sheetLine}
 use Rattle.text_pair_spec.specs.ProgramLaws as text
 use Rattle.text_pair_spec.specs.ProgramLaws.{reference, device}
 use Rattle.text_pair_spec.specs.BackToBack.{BackToBack}
 use Rattle.text_pair_spec.specs.BackToBackLaws.{begins-read, reference-accepted, both-exactly, pair-text, begins-text}
 use Rattle.compare_lines_spec.specs.Lines.{violatesLine, traceLine, refusedProbeLine, outcomeLines}
 use Rattle.compare_lines_spec.specs.Program.{workList, traceList, comparedLines, compareText}
+use Rattle.compare_lines_spec.specs.LineLaws.{same-number, refines-refused, violates-refused, violates-refines, same-after, accepted-refused}
 use Rattle.compare_lines_spec.specs.Lengths.{lists-fit}
 use Rattle.compare_lines_spec.specs.Says.{afterSheets, LastLine, of-stray, of-refusal, Says, reference-refused, device-refused, unequal, refines, violates}
 
@@ -91,7 +90,7 @@ module _ (P Q : Sheet) (accP : sheetFault P ≡ 0) (accQ : sheetFault Q ≡ 0) w
         let x = told .refined workList traceList no-short-list .1 r in
         (x .0, told .counted workList traceList no-short-list (x .0) (x .1), told-lines ∙ rw (x .1))
 
-    -- where it does not, the lines of the violation are printed
+    -- where the device does not refine the reference, the lines of the violation are printed
     violates-lines : ¬ RefinesIn false P Q → (o : Outcome) × (after : List ℕ) × (v : Violated false P Q o after) × (end : List ℕ) × LastLine o end
         × (comparedLines P Q ≡ violatesLine (v .d) (v .cleared) ++ (traceLine (take (v .d) after) ++ end))
     violates-lines n =
@@ -127,45 +126,11 @@ module _ (P Q : Sheet) (accP : sheetFault P ≡ 0) (accQ : sheetFault Q ≡ 0) w
         ∙ sym (describes-only (check-sound P accP) (check-sound Q accQ) same false o (take (v .d) after) (v .describes) .1) in
         told-lines ∙ rw (← e) (lines-end o end l (traceAfter false P Q workList traceList) ∙ rw (a .0, a .1, t))
 
--- texts that begin alike go on alike
-same-rest : (x a b : List ℕ) → x ++ a ≡ x ++ b → a ≡ b
-same-rest x a b e = sym (drop-append-seam x a) ∙ ap (λ (l : List ℕ). drop (length x) l) e ∙ drop-append-seam x b
-
 -- the lines after those of the sheets are the same where the texts are
-same-found : (P Q : Sheet) (a b : List ℕ) → afterSheets P Q a ≡ afterSheets P Q b → a ≡ b
-same-found P Q a b e =
-    same-rest (sheetLine (ascii "device ") (Q .n) (Q .e)) a b
-    (same-rest (sheetLine (ascii "reference ") (P .n) (P .e)) (sheetLine (ascii "device ") (Q .n) (Q .e) ++ a) (sheetLine (ascii "device ") (Q .n) (Q .e) ++ b) e)
-
--- a line of some words tells its number
-same-number : (words : List ℕ) (m n : ℕ) → numberLine words m ≡ numberLine words n → m ≡ n
-unfolding numberLine
-same-number words m n e = sym (decimal-value m) ∙ ap (valueFrom 0) digits ∙ decimal-value n
-  where
-    ends : decimal m ++ ascii "\n" ≡ decimal n ++ ascii "\n"
-    ends = same-rest words (decimal m ++ ascii "\n") (decimal n ++ ascii "\n") e
-
-    long : length (decimal n) ≡ length (decimal m)
-    long = omega (arith, ap length ends, length-append (decimal m) (ascii "\n"), length-append (decimal n) (ascii "\n"))
-
-    digits : decimal m ≡ decimal n
-    digits =
-        sym (take-at (decimal m) (ascii "\n") (length (decimal m)) refl)
-        ∙ ap (λ (l : List ℕ). take (length (decimal m)) l) ends
-        ∙ take-at (decimal n) (ascii "\n") (length (decimal m)) long
-
--- the first letters of the lines of the three kinds of findings differ
-refines-refused : (c m : ℕ) → numberLine (ascii "refines cleared ") c ≢ numberLine (ascii "comparison refused ") m
-unfolding numberLine
-refines-refused c m e = let z = ap (λ (l : List ℕ). getD l 0 0) e in omega (arith, z)
-
-violates-refused : (d c m : ℕ) (l : List ℕ) → violatesLine d c ++ l ≢ numberLine (ascii "comparison refused ") m
-unfolding numberLine violatesLine
-violates-refused d c m l e = let z = ap (λ (l : List ℕ). getD l 0 0) e in omega (arith, z)
-
-violates-refines : (d c k : ℕ) (l : List ℕ) → violatesLine d c ++ l ≢ numberLine (ascii "refines cleared ") k
-unfolding numberLine violatesLine
-violates-refines d c k l e = let z = ap (λ (l : List ℕ). getD l 0 0) e in omega (arith, z)
+same-found : (P Q : Sheet) (n e n′ e′ : ℕ) (x y : List ℕ) → afterSheets P Q x ≡ sheetLine (ascii "reference ") n e ++ (sheetLine (ascii "device ") n′ e′ ++ y) → x ≡ y
+same-found P Q n e n′ e′ x y h =
+    same-after (ascii "device ") (Q .n) (Q .e) n′ e′ x y
+    (same-after (ascii "reference ") (P .n) (P .e) n e (sheetLine (ascii "device ") (Q .n) (Q .e) ++ x) (sheetLine (ascii "device ") n′ e′ ++ y) h)
 
 module _ (input : List ℕ) (P Q : Sheet) (b : BackToBack input P Q) where
   accP : sheetFault P ≡ 0
@@ -180,7 +145,7 @@ module _ (input : List ℕ) (P Q : Sheet) (b : BackToBack input P Q) where
   pair-says = pair-text input comparedLines P Q b
 
   pair-found : (l : List ℕ) → compareText input ≡ afterSheets P Q l → comparedLines P Q ≡ l
-  pair-found l e = same-found P Q (comparedLines P Q) l (sym pair-says ∙ e)
+  pair-found l e = same-found P Q (P .n) (P .e) (Q .n) (Q .e) (comparedLines P Q) l (sym pair-says ∙ e)
 
   -- two accepted sheets print 11 exactly if E differs
   pub says-unequal : (compareText input ≡ afterSheets P Q (numberLine (ascii "comparison refused ") 11)) ↔ (P .e ≢ Q .e)
@@ -193,9 +158,9 @@ module _ (input : List ℕ) (P Q : Sheet) (b : BackToBack input P Q) where
           go (inl r) = let x = refines-lines P Q accP accQ same r in refines-refused (x .0) 11 (sym (x .2) ∙ pair-found _ t)
           go (inr n) = let x = violates-lines P Q accP accQ same n in violates-refused (x .2 .d) (x .2 .cleared) 11 _ (sym (x .5) ∙ pair-found _ t)
 
-  -- no other comparison refusal is printed, so neither 12 nor 13
-  pub says-only-11 : (m : ℕ) → compareText input ≡ afterSheets P Q (numberLine (ascii "comparison refused ") m) → m ≡ 11
-  says-only-11 m t = go (ℕ-discrete (P .e) (Q .e))
+  -- two accepted sheets get no refusal of the comparison but 11
+  pair-only-11 : (m : ℕ) → compareText input ≡ afterSheets P Q (numberLine (ascii "comparison refused ") m) → m ≡ 11
+  pair-only-11 m t = go (ℕ-discrete (P .e) (Q .e))
     where
       go : Dec (P .e ≡ Q .e) → m ≡ 11
       go (yes same) = alike (decided P Q accP accQ same)
@@ -204,6 +169,14 @@ module _ (input : List ℕ) (P Q : Sheet) (b : BackToBack input P Q) where
           alike (inl r) = let x = refines-lines P Q accP accQ same r in absurd (refines-refused (x .0) m (sym (x .2) ∙ pair-found _ t))
           alike (inr n) = let x = violates-lines P Q accP accQ same n in absurd (violates-refused (x .2 .d) (x .2 .cleared) m _ (sym (x .5) ∙ pair-found _ t))
       go (no n) = same-number (ascii "comparison refused ") m 11 (sym (pair-found _ t) ∙ unequal-lines P Q accP accQ n)
+
+  -- two accepted sheets that get `refines cleared` have one E
+  pair-same : (c : ℕ) → compareText input ≡ afterSheets P Q (numberLine (ascii "refines cleared ") c) → P .e ≡ Q .e
+  pair-same c t = go (ℕ-discrete (P .e) (Q .e))
+    where
+      go : Dec (P .e ≡ Q .e) → P .e ≡ Q .e
+      go (yes same) = same
+      go (no n) = absurd (refines-refused c 11 (sym (pair-found _ t) ∙ unequal-lines P Q accP accQ n))
 
   module _ (same : P .e ≡ Q .e) where
     -- where the device refines the reference, the number of all pairs reached by common traces is printed
@@ -221,7 +194,8 @@ module _ (input : List ℕ) (P Q : Sheet) (b : BackToBack input P Q) where
             go (inl r) = r
             go (inr n) = let x = violates-lines P Q accP accQ same n in absurd (violates-refines (x .2 .d) (x .2 .cleared) c _ (sym (x .5) ∙ pair-found _ t))
 
-    -- where it does not, the d, the count, the trace and the witness of demand 3 are printed
+    -- where the device does not refine the reference, the d, the count, the trace and the witness of demand 3 are
+    -- printed
     pub says-violates : ¬ RefinesIn false P Q → (o : Outcome) × (after : List ℕ) × (v : Violated false P Q o after) × (end : List ℕ) × LastLine o end
         × (compareText input ≡ afterSheets P Q (violatesLine (v .d) (v .cleared) ++ (traceLine (take (v .d) after) ++ end)))
     says-violates n = let x = violates-lines P Q accP accQ same n in (x .0, x .1, x .2, x .3, x .4, pair-says ∙ rw (x .5))
@@ -238,7 +212,7 @@ module _ (input : List ℕ) (P Q : Sheet) (b : BackToBack input P Q) where
           alike (inr n) = let x = says-violates same n in rw (x .5) (violates P Q b same n (x .0) (x .1) (x .2) (x .3) (x .4))
       go (no n) = rw (says-unequal .1 n) (unequal P Q b n)
 
--- every input gets a text that is so described
+-- every input of bytes gets a text that Says describes
 pub compare-says : (input : List ℕ) → Bytes input → Says input (compareText input)
 unfolding compareText
 compare-says input y = go (ℕ-discrete (reference input .refusal) 0)
@@ -255,7 +229,7 @@ compare-says input y = go (ℕ-discrete (reference input .refusal) 0)
             rw (begins-text input comparedLines (x .0) (x .1) (x .2) m) (device-refused (x .0) (x .1) (readSheet (x .1) .refusal) (x .2) m refl)
         second (yes k) = let x = both-exactly input y .0 (h, k) in pair-described input (x .0) (x .1) (x .2)
 
--- no input gets another text
+-- a text that Says describes for an input is the one that the input gets
 pub says-only : (input t : List ℕ) → Says input t → t ≡ compareText input
 unfolding compareText
 says-only input t (reference-refused m n e) = sym (text.reference-refused input comparedLines (λ z. n (sym e ∙ z)) ∙ rw e)
@@ -263,3 +237,42 @@ says-only input t (device-refused P rest m b n e) = sym (begins-text input compa
 says-only input t (unequal P Q b n) = sym (says-unequal input P Q b .1 n)
 says-only input t (refines P Q b same r c k) = sym (pair-says input P Q b ∙ rw (refines-once P Q (b .reference-accepted .1) (b .device-accepted .1) same r c k))
 says-only input t (violates P Q b same n o after v end l) = sym (pair-says input P Q b ∙ rw (violates-once P Q (b .reference-accepted .1) (b .device-accepted .1) same n o after v end l))
+
+-- a text that has the line of a reference and that of a device, be their numbers what they may, is that of two accepted
+-- sheets back to back
+pub says-pair : (input : List ℕ) → Bytes input → (n e n′ e′ : ℕ) (findings : List ℕ)
+    → compareText input ≡ sheetLine (ascii "reference ") n e ++ (sheetLine (ascii "device ") n′ e′ ++ findings)
+    → (P : Sheet) × (Q : Sheet) × BackToBack input P Q × (compareText input ≡ afterSheets P Q findings)
+unfolding numberLine
+says-pair input y n e n′ e′ l h = go (compareText input) (compare-says input y) refl
+  where
+    Pair : Type 0
+    Pair = (P : Sheet) × (Q : Sheet) × BackToBack input P Q × (compareText input ≡ afterSheets P Q l)
+
+    pair : (P Q : Sheet) → BackToBack input P Q → (x : List ℕ) → afterSheets P Q x ≡ compareText input → Pair
+    pair P Q b x t = (P, Q, b, sym t ∙ ap (afterSheets P Q) (same-found P Q n e n′ e′ x l (t ∙ h)))
+
+    go : (t : List ℕ) → Says input t → t ≡ compareText input → Pair
+    go t (reference-refused m z r) q = absurd (accepted-refused (ascii "reference ") n e m (sheetLine (ascii "device ") n′ e′ ++ l) (sym (q ∙ h)))
+    go t (device-refused P rest m b z r) q =
+        absurd (accepted-refused (ascii "device ") n′ e′ m l
+        (sym (same-after (ascii "reference ") (P .n) (P .e) n e (numberLine (ascii "device refused ") m) (sheetLine (ascii "device ") n′ e′ ++ l) (q ∙ h))))
+    go t (unequal P Q b z) q = pair P Q b (numberLine (ascii "comparison refused ") 11) q
+    go t (refines P Q b same r c k) q = pair P Q b (numberLine (ascii "refines cleared ") c) q
+    go t (violates P Q b same z o after v end k) q = pair P Q b (violatesLine (v .d) (v .cleared) ++ (traceLine (take (v .d) after) ++ end)) q
+
+-- no input gets `comparison refused` with another number than 11, so neither 12 nor 13
+pub says-only-11 : (input : List ℕ) → Bytes input → (n e n′ e′ m : ℕ)
+    → compareText input ≡ sheetLine (ascii "reference ") n e ++ (sheetLine (ascii "device ") n′ e′ ++ numberLine (ascii "comparison refused ") m) → m ≡ 11
+says-only-11 input y n e n′ e′ m h =
+    let x = says-pair input y n e n′ e′ (numberLine (ascii "comparison refused ") m) h in
+    pair-only-11 input (x .0) (x .1) (x .2) m (x .3)
+
+-- an input that gets `refines cleared` is two accepted sheets with one E, and the device refines the reference
+pub says-cleared-only : (input : List ℕ) → Bytes input → (n e n′ e′ c : ℕ)
+    → compareText input ≡ sheetLine (ascii "reference ") n e ++ (sheetLine (ascii "device ") n′ e′ ++ numberLine (ascii "refines cleared ") c)
+    → (P : Sheet) × (Q : Sheet) × BackToBack input P Q × (P .e ≡ Q .e) × RefinesIn false P Q
+says-cleared-only input y n e n′ e′ c h =
+    let x = says-pair input y n e n′ e′ (numberLine (ascii "refines cleared ") c) h in
+    let same = pair-same input (x .0) (x .1) (x .2) c (x .3) in
+    (x .0, x .1, x .2, same, says-refines input (x .0) (x .1) (x .2) same .0 (c, x .3))

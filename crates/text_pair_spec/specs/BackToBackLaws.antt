@@ -68,6 +68,7 @@ spelled b y h =
 reads-as : (s : Sheet) → AcceptedSheet s → readSheet (encode s) ≡ accepted s
 reads-as s a = read-back s (a .0) (a .1)
 
+-- the parts of an answer that accepts
 refusal-of : {a : ReadSheet} {s : Sheet} → a ≡ accepted s → a .refusal ≡ 0
 refusal-of e = ap (λ (x : ReadSheet). x .refusal) e
 
