@@ -12,9 +12,9 @@ use lib.ListN.{take, length-replicate}
 use Rattle.sheet_spec.specs.declared.Sheet.{Sheet}
 use Rattle.sheet_spec.specs.declared.ReadSheet.{ReadSheet}
 use Rattle.sheet_spec.specs.Form.{Bytes}
-use Rattle.sheet_spec.specs.Rules.{sheetFault}
+use Rattle.sheet_spec.specs.Refusals.{sheetFault}
 use Rattle.sheet_spec.specs.Reading.{readSheet}
-use Rattle.sheet_spec.specs.Sound.{check-sound}
+use Rattle.sheet_spec.specs.SoundLaws.{check-sound}
 use Rattle.refinement_spec.specs.Refinement.{ViolationIn, RefinesIn}
 use Rattle.refinement_spec.specs.RefinementLaws.{refines-means, refines-or-violation}
 use Rattle.comparison_spec.specs.declared.Outcome.{Outcome}

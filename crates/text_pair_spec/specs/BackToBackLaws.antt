@@ -15,7 +15,8 @@ use Rattle.sheet_spec.specs.Form.{Bytes}
 use Rattle.sheet_spec.specs.Reading.{readSheet}
 use Rattle.sheet_spec.specs.Encoding.{encode}
 use Rattle.sheet_spec.specs.AnswerLaws.{read-refusal}
-use Rattle.sheet_spec.specs.EncodingLaws.{accepted, reads→, read-back, accepted-exactly, encode-length}
+use Rattle.sheet_spec.specs.EncodingLaws.{reads→, read-back, accepted-exactly, encode-length}
+use Rattle.sheet_spec.specs.Reading.{accepted}
 use Rattle.text_spec.specs.Lines.{ascii, numberLine, sheetLine}
 use Rattle.text_spec.specs.Input.{cutInput}
 use Rattle.text_spec.specs.InputLaws.{cut-short}
