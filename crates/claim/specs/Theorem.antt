@@ -1,4 +1,4 @@
--- The theorem: the claim holds of every two accepted sheets with equal event counts.
+-- Nothing to believe: laws. The theorem: the claim holds of every two accepted sheets with equal event counts.
 use mathlib.Core.Path.{_≡_, refl, sym, ap, _∙_}
 use mathlib.Core.Logic.{_⊎_, inl, inr, _≢_, _↔_}
 use mathlib.Core.Bool.{Bool, true, false, true≢false}

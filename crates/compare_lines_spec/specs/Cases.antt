@@ -1,5 +1,5 @@
--- Texts of inputs, one for each kind of line. (01's example, and every text that names a refused probe, compute through
--- the probe lists and stand in the crate `cases_worked`.)
+-- Nothing to believe: cases. Texts of inputs, one for each kind of line. (01's example, and every text that names a
+-- refused probe, compute through the probe lists and stand in the crate `cases_worked`.)
 use mathlib.Core.Path.{_≡_, refl}
 use mathlib.Core.List.{List, [], _∷_, _++_, map}
 use Prim.Native.Nat.{ℕ}

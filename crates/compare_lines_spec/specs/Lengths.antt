@@ -1,4 +1,4 @@
--- How long the text can be: at most 3,184 bytes, so that it always fits.
+-- Nothing to believe: laws. How long the text can be: at most 3,184 bytes, so that it always fits.
 use mathlib.Core.Path.{_≡_, refl, sym, _∙_}
 use mathlib.Core.Bool.{Bool, true, false, _&&_, cond}
 use mathlib.Core.List.{List, _++_}

@@ -1,5 +1,5 @@
--- What the lines of `compare` tell: a line tells its number, the line of a sheet where it ends, and the lines of
--- different answers differ. So a text can be read back.
+-- Nothing to believe: laws. What the lines of `compare` tell: a line tells its number, the line of a sheet where it
+-- ends, and the lines of different answers differ. So a text can be read back.
 use mathlib.Core.Path.{_≡_, refl, sym, ap, _∙_}
 use mathlib.Core.Logic.{_≢_}
 use mathlib.Core.List.{List, [], _∷_, _++_, append-assoc}

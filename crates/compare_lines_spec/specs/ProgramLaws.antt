@@ -1,4 +1,4 @@
--- How a text is kept.
+-- Nothing to believe: laws. How a text is kept.
 use mathlib.Core.Path.{_≡_}
 use mathlib.Core.List.{List}
 use Prim.Native.Nat.{ℕ, _-_, _≤_}

@@ -1,6 +1,7 @@
--- What `compare` prints, from bytes to bytes: every input gets the text that Says describes, and Says describes no
--- other. Two accepted sheets with one E get `refines cleared` exactly if the device refines the reference, else the
--- violation of demand 3; no input gets `comparison refused` with 12 or 13, as the lists are never too short.
+-- Nothing to believe: laws. What `compare` prints, from bytes to bytes: every input gets the text that Says describes,
+-- and Says describes no other. Two accepted sheets with one E get `refines cleared` exactly if the device refines the
+-- reference, else the violation of demand 3; no input gets `comparison refused` with 12 or 13, as the lists are never
+-- too short.
 use mathlib.Core.Path.{_≡_, refl, sym, ap, _∙_}
 use mathlib.Core.Logic.{_⊎_, inl, inr, _≢_, _↔_}
 use mathlib.Core.Bool.{false}

@@ -1,4 +1,4 @@
--- The answer and the trace list of a call that is not refused: exactly what 01 describes.
+-- Nothing to believe: laws. The answer and the trace list of a call that is not refused: exactly what 01 describes.
 use mathlib.Core.Path.{_≡_, refl, sym, _∙_}
 use mathlib.Core.Bool.{Bool}
 use mathlib.Core.List.{List}

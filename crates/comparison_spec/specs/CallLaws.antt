@@ -1,4 +1,4 @@
--- The call of a comparison: when each refusal is given, and what it then answers and leaves.
+-- Nothing to believe: laws. The call of a comparison: when each refusal is given, and what it then answers and leaves.
 use mathlib.Core.Path.{_≡_, refl, _∙_}
 use mathlib.Core.Logic.{_⊎_, inl, inr, _≢_, _↔_}
 use mathlib.Core.Bool.{Bool, true, false, _&&_, cond}

@@ -1,4 +1,5 @@
--- What the comparison's definitions mean, for two sheets that are not refused and have equal event counts.
+-- Nothing to believe: laws. What the comparison's definitions mean, for two sheets that are not refused and have equal
+-- event counts.
 use mathlib.Core.Path.{_≡_, sym, _∙_}
 use mathlib.Core.Logic.{_↔_}
 use mathlib.Core.Bool.{Bool}

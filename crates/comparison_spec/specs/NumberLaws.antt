@@ -1,4 +1,5 @@
--- The numbers of the answer that a comparison gives: in which case each kind is given, and with what parts.
+-- Nothing to believe: laws. The numbers of the answer that a comparison gives: in which case each kind is given, and
+-- with what parts.
 use mathlib.Core.Path.{_≡_, refl, sym, ap, _∙_}
 use mathlib.Core.Logic.{_⊎_, inl, inr, _≢_, _↔_}
 use mathlib.Core.Bool.{Bool, true, false}

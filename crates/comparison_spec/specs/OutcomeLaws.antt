@@ -1,4 +1,4 @@
--- The comparison's answer is what 01 describes, and nothing else is.
+-- Nothing to believe: laws. The comparison's answer is what 01 describes, and nothing else is.
 use mathlib.Core.Path.{_≡_, refl, sym, ap}
 use mathlib.Core.Logic.{_⊎_, inl, inr, _↔_}
 use mathlib.Core.Bool.{Bool, true, false, cond}

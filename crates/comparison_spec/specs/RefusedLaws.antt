@@ -1,6 +1,6 @@
--- What is named at a refusal: the first missed probe in the list, with the first acceptance that misses it, is the
--- first by place with the lowest acceptance; for nodes of sheets that are not refused, whose acceptances ascend. Of the
--- order of the list of probes nothing is used.
+-- Nothing to believe: laws. What is named at a refusal: the first missed probe in the list, with the first acceptance
+-- that misses it, is the first by place with the lowest acceptance; for nodes of sheets that are not refused, whose
+-- acceptances ascend. Of the order of the list of probes nothing is used.
 use mathlib.Core.Path.{_≡_, refl, sym, _∙_}
 use mathlib.Core.Logic.{_⊎_, inl, inr}
 use Prim.Native.Nat.{ℕ, _≤_, _<_}

@@ -1,5 +1,5 @@
--- What the comparison's definition names, in plain words and both directions; and that it names something exactly if
--- some device acceptance includes no reference acceptance.
+-- Nothing to believe: laws. What the comparison's definition names, in plain words and both directions; and that it
+-- names something exactly if some device acceptance includes no reference acceptance.
 use mathlib.Core.Path.{_≡_, refl, sym, ap, _∙_, subst}
 use mathlib.Core.Logic.{_⊎_, inl, inr, _↔_}
 use mathlib.Core.Bool.{Bool, true, false, cond}

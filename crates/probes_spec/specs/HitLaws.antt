@@ -1,5 +1,5 @@
--- The tests of Probes say what the plain words say; a hitting set is minimal exactly if each of its events is alone in
--- the meeting with some acceptance; every hitting set has a probe inside it.
+-- Nothing to believe: laws. The tests of Probes say what the plain words say; a hitting set is minimal exactly if each
+-- of its events is alone in the meeting with some acceptance; every hitting set has a probe inside it.
 use mathlib.Core.Path.{_≡_, ap, _∙_}
 use mathlib.Core.Logic.{_⊎_, inl, inr}
 use mathlib.Core.Bool.{Bool, true, false, not, _&&_}

@@ -1,5 +1,5 @@
--- The probe call: when each refusal is given, what is answered, and what stands in the list; and the probes of a
--- sheet's node.
+-- Nothing to believe: laws. The probe call: when each refusal is given, what is answered, and what stands in the list;
+-- and the probes of a sheet's node.
 use mathlib.Core.Path.{_≡_, refl, sym, _∙_}
 use mathlib.Core.Logic.{_⊎_, inl, inr, _↔_, _≢_}
 use mathlib.Core.Bool.{Bool, true, false, cond}

@@ -1,5 +1,5 @@
--- What upper crates may rely on: the promise of the probe lists. Only the last law speaks of their order; a request
--- that changes the order changes that law and no other.
+-- Nothing to believe: laws. What upper crates may rely on: the promise of the probe lists. Only the last law speaks of
+-- their order; a request that changes the order changes that law and no other.
 use mathlib.Core.Path.{_≡_, sym, ap, _∙_}
 use mathlib.Core.Logic.{_⊎_, inl, inr, _↔_, _≢_}
 use mathlib.Core.Bool.{Bool, true, false, not, cond}

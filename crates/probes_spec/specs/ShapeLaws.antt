@@ -1,4 +1,5 @@
--- The single pass over the acceptances is the literal test, and the candidates that are listed are the probes.
+-- Nothing to believe: laws. The single pass over the acceptances is the literal test, and the candidates that are
+-- listed are the probes.
 use mathlib.Core.Path.{_≡_, refl, sym, ap, _∙_}
 use mathlib.Core.Logic.{_⊎_, inl, inr, _≢_}
 use mathlib.Core.Bool.{Bool, true, false, cond, false≢true}

@@ -1,4 +1,4 @@
--- The shapes of loops; nothing to believe. The code's test of one set in a single pass, and the candidates that its
+-- Nothing to believe: the shapes of loops. The code's test of one set in a single pass, and the candidates that its
 -- loops look at, which are all sets; laws join them to Probes.
 use mathlib.Core.Bool.{Bool, false, cond}
 use mathlib.Core.List.{List, [], _∷_}

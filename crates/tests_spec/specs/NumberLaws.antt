@@ -1,4 +1,5 @@
--- The numbers of the answers that an opening and a report get: in which case each kind is given, and with what value.
+-- Nothing to believe: laws. The numbers of the answers that an opening and a report get: in which case each kind is
+-- given, and with what value.
 use mathlib.Core.Path.{_≡_, sym, ap, _∙_}
 use mathlib.Core.Logic.{_⊎_, inl, inr, _≢_, _↔_}
 use mathlib.Core.Bool.{Bool, true, false}

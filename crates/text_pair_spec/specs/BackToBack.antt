@@ -1,5 +1,5 @@
--- What an input is, in words of bytes and sheets: accepted sheets, one after another. It knows nothing of the split nor
--- of reading; the laws say what these inputs give. No contract uses it.
+-- Nothing to believe: words for laws alone. What an input is, in words of bytes and sheets: accepted sheets, one after
+-- another. It knows nothing of the split nor of reading; the laws say what these inputs give. No contract uses it.
 use mathlib.Core.Path.{_≡_}
 use mathlib.Core.List.{List, _++_}
 use Prim.Native.Nat.{ℕ}

@@ -1,6 +1,6 @@
--- An input is two accepted sheets back to back exactly if both of its parts are read without refusal, and its text is
--- then their two lines and the findings. The cut at 4,096 bytes plays no part there: two accepted sheets have at most
--- 2,894.
+-- Nothing to believe: laws. An input is two accepted sheets back to back exactly if both of its parts are read without
+-- refusal, and its text is then their two lines and the findings. The cut at 4,096 bytes plays no part there: two
+-- accepted sheets have at most 2,894.
 use mathlib.Core.Path.{_≡_, sym, ap, _∙_}
 use mathlib.Core.Logic.{_⊎_, inl, inr, _≢_, _↔_}
 use mathlib.Core.List.{List, _++_}

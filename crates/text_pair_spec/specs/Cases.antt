@@ -1,4 +1,4 @@
--- Texts of inputs with findings that tell the two sheets apart.
+-- Nothing to believe: cases. Texts of inputs with findings that tell the two sheets apart.
 use mathlib.Core.Path.{_≡_, refl}
 use mathlib.Core.List.{List, [], _∷_, _++_, map}
 use Prim.Native.Nat.{ℕ}

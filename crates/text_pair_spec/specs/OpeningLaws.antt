@@ -1,5 +1,5 @@
--- The findings after the lines of the sheets make the text; where a sheet is refused, the lines of the sheets are the
--- text.
+-- Nothing to believe: laws. The findings after the lines of the sheets make the text; where a sheet is refused, the
+-- lines of the sheets are the text.
 use mathlib.Core.Path.{_≡_, sym}
 use mathlib.Core.Bool.{Bool, true, false, _&&_, cond}
 use mathlib.Core.List.{List, [], _++_, append-assoc, append-nil}

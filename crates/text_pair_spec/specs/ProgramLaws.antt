@@ -1,5 +1,6 @@
--- What the text says, whatever the findings: bytes behind 4,096 play no part; a refused sheet's line is the last; after
--- two accepted sheets come the findings, and the text is longer than these by at most 55 bytes.
+-- Nothing to believe: laws. What the text says, whatever the findings: bytes behind 4,096 play no part; a refused
+-- sheet's line is the last; after two accepted sheets come the findings, and the text is longer than these by at most
+-- 55 bytes.
 use mathlib.Core.Path.{_≡_, refl, ap}
 use mathlib.Core.Logic.{_≢_}
 use mathlib.Core.Bool.{Bool, true, false, cond}

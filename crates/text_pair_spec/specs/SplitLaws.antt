@@ -1,5 +1,6 @@
--- How the input is split: all of it is the first sheet, or the first sheet has as many bytes as its length field and 4,
--- and the rest is the second; so an accepted sheet at the front is the first sheet, whatever follows it.
+-- Nothing to believe: laws. How the input is split: all of it is the first sheet, or the first sheet has as many bytes
+-- as its length field and 4, and the rest is the second; so an accepted sheet at the front is the first sheet, whatever
+-- follows it.
 use mathlib.Core.Path.{_≡_, refl, ap, _∙_}
 use mathlib.Core.Logic.{_⊎_, inl, inr}
 use mathlib.Core.Bool.{true}
