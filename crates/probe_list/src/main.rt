@@ -2,6 +2,7 @@
 // output.
 ghost use mathlib.Core.Path.{_≡_};
 ghost use lib.ListN.{length};
+use libc::STDERR_FILENO;
 use libc::STDIN_FILENO;
 use libc::STDOUT_FILENO;
 use sheet_spec::ReadSheet;
@@ -15,30 +16,46 @@ fn line_space() -> [u8; 262144]
     [0; 262144]
 }
 
-// Writes the first line of a sheet as it was read.
-fn say_head(a: ReadSheet) {
+// Writes the first line of a sheet as it was read, and answers whether it could.
+fn say_head(a: ReadSheet) -> bool {
     let mut out = io::buffer();
     let len = text_sheet::put_head(&mut out, 0, a);
-    io::write_all(STDOUT_FILENO, &out[..len]);
+    io::write_all(STDOUT_FILENO, &out[..len])
 }
 
-// Writes the line of each node.
-fn say_nodes(s: Sheet) {
+// Writes the lines of each node, and answers whether it could.
+fn say_nodes(s: Sheet) -> bool {
     let n = s.n;
     let mut out = line_space();
     for v in 0..n {
         let len = probe_list_lines::put_node(s, v, &mut out);
-        io::write_all(STDOUT_FILENO, &out[..len]);
+        if !io::write_all(STDOUT_FILENO, &out[..len]) {
+            return false;
+        }
     }
+    true
 }
 
-// Reads the sheet and writes its lines; a refused sheet has the first line alone.
+// Writes the lines of a sheet as it was read, and answers whether it could; a refused sheet has the first line alone.
+fn say_sheet(a: ReadSheet) -> bool {
+    if !say_head(a) {
+        return false;
+    }
+    if a.refusal != 0 {
+        return true;
+    }
+    say_nodes(a.sheet)
+}
+
+// Reads the sheet and writes its lines, or says on standard error that they could not be written.
 fn main() {
     let mut space = io::buffer();
     let n = io::read_full(STDIN_FILENO, &mut space);
     let a = sheet::read(&space[..n]);
-    say_head(a);
-    if a.refusal == 0 {
-        say_nodes(a.sheet);
+    if !say_sheet(a) {
+        io::write_all(
+            STDERR_FILENO,
+            b"probe_list: the output could not be written\n",
+        );
     }
 }

@@ -34,6 +34,9 @@ slice-aggregate-write-all c = holds-front _ _ (c .before .before .put-node .ensu
 write-all-requires : tie.Need-write-all-requires Inv-loop μ-loop
 write-all-requires c κs = tt
 
+returns : tie.Need-returns Inv-loop μ-loop
+returns c = tt
+
 add-v : tie.Need-add-v Inv-loop μ-loop
 add-v c = omega arith
 
@@ -41,10 +44,10 @@ loop-less : tie.Need-loop-less Inv-loop μ-loop
 loop-less c = omega arith
 
 loop-again : tie.Need-loop-again Inv-loop μ-loop
-loop-again c = (omega arith, omega (arith, c .before .before .before .put-node .kept .1 .1 .0, c .before .before .before .before .before .before .loop .inv .1))
+loop-again c = (omega arith, omega (arith, c .before .before .before .before .put-node .kept .1 .1 .0, c .before .before .before .before .before .before .before .loop .inv .1))
 
-returns : tie.Need-returns Inv-loop μ-loop
-returns c = tt
+returns-2 : tie.Need-returns-2 Inv-loop μ-loop
+returns-2 c = tt
 
 pub say-nodes-spec : {M : Type 1} → statement M
 say-nodes-spec =
@@ -59,7 +62,8 @@ say-nodes-spec =
     array-share-prefix-out
     slice-aggregate-write-all
     write-all-requires
+    returns
     add-v
     loop-less
     loop-again
-    returns)
+    returns-2)
