@@ -4,7 +4,7 @@
 -- too short.
 use mathlib.Core.Path.{_≡_, refl, sym, ap, _∙_}
 use mathlib.Core.Logic.{_⊎_, inl, inr, _≢_, _↔_}
-use mathlib.Core.Bool.{false}
+use mathlib.Core.Bool.{Bool, false}
 use mathlib.Core.List.{List, [], _++_}
 use Prim.Native.Nat.{ℕ}
 use native.Mathlib.Omega.{arith}
@@ -59,17 +59,17 @@ lines-end o end (of-stray d c i) t = refl
 lines-end o end (of-refusal d c X A) t = refl
 
 module _ (P Q : Sheet) (accP : sheetFault P ≡ 0) (accQ : sheetFault Q ≡ 0) where
-  -- the lines are those of the comparison of the reference with the device, refusals included
-  told-lines : comparedLines P Q ≡ outcomeLines (outcomeOf false P Q workList traceList) (traceAfter false P Q workList traceList)
-  unfolding comparedLines
-  told-lines = refl
+  -- the lines of an answer of the program where E differs: 11, with refusals or with traces alone
+  denied-lines : (traceOnly : Bool) (t : List ℕ) → P .e ≢ Q .e → outcomeLines (outcomeOf traceOnly P Q workList traceList) t ≡ numberLine (ascii "comparison refused ") 11
+  unfolding outcomeLines
+  denied-lines traceOnly t n =
+      let z : compareFault P Q workList traceList ≡ 11 = compare-11 P Q workList traceList .1 ((accP, accQ), n) in
+      rw (denied-outcome P Q workList traceList traceOnly (λ e. omega (arith, z)), z)
 
   -- where E differs, 11 is printed
   unequal-lines : P .e ≢ Q .e → comparedLines P Q ≡ numberLine (ascii "comparison refused ") 11
-  unfolding outcomeLines
-  unequal-lines n =
-      let z : compareFault P Q workList traceList ≡ 11 = compare-11 P Q workList traceList .1 ((accP, accQ), n) in
-      told-lines ∙ rw (denied-outcome P Q workList traceList false (λ e. omega (arith, z)), z)
+  unfolding comparedLines
+  unequal-lines n = denied-lines _ _ n
 
   module _ (same : P .e ≡ Q .e) where
     told : Claim false P Q
@@ -86,18 +86,19 @@ module _ (P Q : Sheet) (accP : sheetFault P ≡ 0) (accQ : sheetFault Q ≡ 0) w
 
     -- where the device refines the reference, the number of the pairs reached is printed
     refines-lines : RefinesIn false P Q → (cleared : ℕ) × Number P Q (ReachedEver P Q) cleared × (comparedLines P Q ≡ numberLine (ascii "refines cleared ") cleared)
-    unfolding outcomeLines
+    unfolding comparedLines outcomeLines
     refines-lines r =
         let x = told .refined workList traceList no-short-list .1 r in
-        (x .0, told .counted workList traceList no-short-list (x .0) (x .1), told-lines ∙ rw (x .1))
+        (x .0, told .counted workList traceList no-short-list (x .0) (x .1), ap (λ (o : Outcome). outcomeLines o (traceAfter false P Q workList traceList)) (x .1))
 
     -- where the device does not refine the reference, the lines of the violation are printed
     violates-lines : ¬ RefinesIn false P Q → (o : Outcome) × (after : List ℕ) × (v : Violated false P Q o after) × (end : List ℕ) × LastLine o end
         × (comparedLines P Q ≡ violatesLine (v .d) (v .cleared) ++ (traceLine (take (v .d) after) ++ end))
+    unfolding comparedLines
     violates-lines n =
         let v = told .violated workList traceList no-short-list n in
         let x = lines-of (outcomeOf false P Q workList traceList) (v .d) (v .cleared) (v .reports) (traceAfter false P Q workList traceList) in
-        (outcomeOf false P Q workList traceList, traceAfter false P Q workList traceList, v, x .0, x .1, told-lines ∙ x .2)
+        (outcomeOf false P Q workList traceList, traceAfter false P Q workList traceList, v, x .0, x .1, x .2)
 
     -- the device refines the reference, or it does not
     decided : RefinesIn false P Q ⊎ (¬ RefinesIn false P Q)
@@ -109,12 +110,13 @@ module _ (P Q : Sheet) (accP : sheetFault P ≡ 0) (accQ : sheetFault Q ≡ 0) w
 
     -- a number of the pairs reached, where the device refines the reference, is the one printed
     refines-once : RefinesIn false P Q → (cleared : ℕ) → Number P Q (ReachedEver P Q) cleared → comparedLines P Q ≡ numberLine (ascii "refines cleared ") cleared
-    unfolding outcomeLines
-    refines-once r c k = told-lines ∙ rw (← only-answer (Refines c) [] (meaning.refines c r k))
+    unfolding comparedLines outcomeLines
+    refines-once r c k = ap (λ (o : Outcome). outcomeLines o (traceAfter false P Q workList traceList)) (sym (only-answer (Refines c) [] (meaning.refines c r k)))
 
     -- a violation of demand 3 is the one printed
     violates-once : ¬ RefinesIn false P Q → (o : Outcome) (after : List ℕ) (v : Violated false P Q o after) (end : List ℕ) → LastLine o end
         → comparedLines P Q ≡ violatesLine (v .d) (v .cleared) ++ (traceLine (take (v .d) after) ++ end)
+    unfolding comparedLines
     violates-once n o after v end l =
         let w = told .violated workList traceList no-short-list n in
         let e = only-answer o (take (v .d) after) (v .describes) in
@@ -125,7 +127,7 @@ module _ (P Q : Sheet) (accP : sheetFault P ≡ 0) (accQ : sheetFault Q ≡ 0) w
         ap (λ (x : ℕ). take x (traceAfter false P Q workList traceList)) (sym k)
         ∙ describes-only (check-sound P accP) (check-sound Q accQ) same false (outcomeOf false P Q workList traceList) (take (w .d) (traceAfter false P Q workList traceList)) (w .describes) .1
         ∙ sym (describes-only (check-sound P accP) (check-sound Q accQ) same false o (take (v .d) after) (v .describes) .1) in
-        told-lines ∙ rw (← e) (lines-end o end l (traceAfter false P Q workList traceList) ∙ rw (a .0, a .1, t))
+        ap (λ (x : Outcome). outcomeLines x (traceAfter false P Q workList traceList)) (sym e) ∙ lines-end o end l (traceAfter false P Q workList traceList) ∙ rw (a .0, a .1, t)
 
 -- the lines after those of the sheets are the same where the texts are
 same-found : (P Q : Sheet) (n e n′ e′ : ℕ) (x y : List ℕ) → afterSheets P Q x ≡ sheetLine (ascii "reference ") n e ++ (sheetLine (ascii "device ") n′ e′ ++ y) → x ≡ y
