@@ -134,11 +134,11 @@ told 'a reader that went away' 'the output could not be written'
 ends_with 2 'help to a full device' sh -c './bench help > /dev/full'
 # the programs themselves tell it too; their own status is always 0
 cat $example/reference.sheet $example/device.sheet > "$scratch/pair"
-for name in compare suite show probe_list; do
+for program in compare suite show probe_list; do
     input=$scratch/pair
-    case $name in show | probe_list) input=$example/reference.sheet ;; esac
-    ends_with 0 "$name to a full device" sh -c "target/bin/$name < '$input' > /dev/full"
-    told "$name to a full device" "$name: the output could not be written"
+    case $program in show | probe_list) input=$example/reference.sheet ;; esac
+    ends_with 0 "$program itself" sh -c "target/bin/$program < '$input' > /dev/full"
+    told "$program itself" "$program: the output could not be written"
 done
 
 # a program that is cut off before its last line, or that ends badly, is never status 0
