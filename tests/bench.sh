@@ -85,6 +85,8 @@ ends_with 2 'no such program' ./bench judge
 ends_with 2 'no such file' ./bench show "$scratch/nowhere"
 ends_with 2 'too few files' ./bench compare $example/reference.sheet
 ends_with 2 'too many words' ./bench build now
+ends_with 0 'build, where all is built' ./bench build
+held 'build, where all is built' "built $(pwd -P)/target/bin"
 
 # live goes on line by line: each answer is there before the next report is typed
 mkfifo "$scratch/typed"
