@@ -86,6 +86,20 @@ fn with_count(s: Sheet, v: usize, x: u8) -> Sheet {
     t
 }
 
+// The sheet with another E.
+fn with_e(s: Sheet, x: u8) -> Sheet {
+    let mut t = s;
+    t.e = x;
+    t
+}
+
+// The sheet with another N.
+fn with_n(s: Sheet, x: u8) -> Sheet {
+    let mut t = s;
+    t.n = x;
+    t
+}
+
 // ---- sheets of many nodes
 
 // A description of a sheet in which every node has the same C, event 0 leads from each node to the next, and every
@@ -321,31 +335,20 @@ fn plan_of(line: Line) -> Plan {
 
 // The sheet with the change that stands from number i on.
 fn with(s: Sheet, line: Line, i: usize) -> Sheet {
-    let mut t = s;
-    if i < 60 {
-        let v = place(line, i + 1);
-        let at = place(line, i + 2);
-        let x = cases_lines::small(line, i + 3);
-        match cases_lines::number(line, i) {
-            1 => {
-                t = with_succ(s, v, at, x);
-            }
-            2 => {
-                t = with_set(s, v, at, cases_lines::number(line, i + 3));
-            }
-            3 => {
-                t = with_count(s, v, x);
-            }
-            4 => {
-                t.e = x;
-            }
-            5 => {
-                t.n = x;
-            }
-            _ => {}
-        }
+    if i >= 60 {
+        return s;
     }
-    t
+    let v = place(line, i + 1);
+    let at = place(line, i + 2);
+    let x = cases_lines::small(line, i + 3);
+    match cases_lines::number(line, i) {
+        1 => with_succ(s, v, at, x),
+        2 => with_set(s, v, at, cases_lines::number(line, i + 3)),
+        3 => with_count(s, v, x),
+        4 => with_e(s, x),
+        5 => with_n(s, x),
+        _ => s,
+    }
 }
 
 // ---- answers
