@@ -39,7 +39,7 @@ use Rattle.tests_spec.specs.Flags.{flag, flagOf}
 use Rattle.tests_spec.specs.Runs.{allEvents, outside, probesAt, chosen, offerOf, newRun, openFault, openOf, recordOk, eventFault, reportFault, movedBy, endedRun, answerOf, stepOf}
 use Rattle.verdicts_spec.specs.Verdicts.{failsFrom, verdictFault, verdictOf}
 use Rattle.tests_spec.specs.Numbers.{Said, said}
-use Rattle.verdicts_spec.specs.Numbers.{judged}
+use Rattle.verdicts_spec.specs.Numbers.{Judgement, judged}
 use Rattle.comparison_spec.specs.Comparison.{pairCount, nearest, nearestTrace, clearedOf, lastRow, refusalNamed, named, comparisonOf, compareFault, outcomeOf, traceAfter, workAfter}
 use Rattle.comparison_spec.specs.Numbers.{Compared, compared}
 use Rattle.sheet_spec.specs.Examples.{exampleReference, exampleDevice, onlyZero, onlyOne, mayLoop, mustLoop, stopped, sheet}
@@ -89,6 +89,10 @@ listNumbers s v out = listedNumbers (listedOf s v out) .0 ∷ listedNumbers (lis
 unfoldable pub numbers : Said → List ℕ
 numbers a = a .refusal ∷ a .kind ∷ a .value ∷ []
 
+-- the numbers of a verdict: the refusal and the kind
+unfoldable pub judgedNumbers : Judgement → List ℕ
+judgedNumbers a = a .refusal ∷ a .kind ∷ []
+
 -- the numbers of a record: k, h, the flag of trace-only, the flag of ended, node and depth
 unfoldable pub recordNumbers : Run → List ℕ
 recordNumbers r = r .k ∷ r .h ∷ r .«trace_only» ∷ r .ended ∷ r .node ∷ r .depth ∷ []
@@ -115,7 +119,7 @@ unfoldable pub numbersOf : Case → List ℕ
 numbersOf (reading b) = readNumbers (readSheet b)
 numbersOf (listing b v places) = listNumbers (sheet b) v (replicate places 9)
 numbersOf (adding x) = upTo (insert x) 12
-numbersOf (verdict P Q k traceOnly) = numbers (judged (verdictOf traceOnly (sheet P) (sheet Q) k))
+numbersOf (verdict P Q k traceOnly) = judgedNumbers (judged (verdictOf traceOnly (sheet P) (sheet Q) k))
 numbersOf (running P k h traceOnly reports) = answersOf (sheet P) (openOf traceOnly (sheet P) k h) reports
 numbersOf (comparing P Q traceOnly) = comparedNumbers (compared (outcomeOf traceOnly (sheet P) (sheet Q) work trace)) ++ (traceAfter traceOnly (sheet P) (sheet Q) work trace ++ workAfter (sheet P) (sheet Q) work trace)
 numbersOf (lending P Q words places) =
@@ -203,59 +207,59 @@ table =
     -- node 1 of 01's reference has acceptances 3 of two events: probes 1, 2
     ∷ (listing exampleReference 1 5, 0 ∷ 2 ∷ 1 ∷ 2 ∷ 9 ∷ 9 ∷ 9 ∷ [])
     -- 01: the pair above (01's example) passes tests 0 to 4
-    ∷ (verdict exampleReference exampleDevice 0 false, 0 ∷ 1 ∷ 0 ∷ [])
-    ∷ (verdict exampleReference exampleDevice 1 false, 0 ∷ 1 ∷ 0 ∷ [])
-    ∷ (verdict exampleReference exampleDevice 2 false, 0 ∷ 1 ∷ 0 ∷ [])
-    ∷ (verdict exampleReference exampleDevice 3 false, 0 ∷ 1 ∷ 0 ∷ [])
-    ∷ (verdict exampleReference exampleDevice 4 false, 0 ∷ 1 ∷ 0 ∷ [])
+    ∷ (verdict exampleReference exampleDevice 0 false, 0 ∷ 11 ∷ [])
+    ∷ (verdict exampleReference exampleDevice 1 false, 0 ∷ 11 ∷ [])
+    ∷ (verdict exampleReference exampleDevice 2 false, 0 ∷ 11 ∷ [])
+    ∷ (verdict exampleReference exampleDevice 3 false, 0 ∷ 11 ∷ [])
+    ∷ (verdict exampleReference exampleDevice 4 false, 0 ∷ 11 ∷ [])
     -- 01: the pair above (01's example) fails 5
-    ∷ (verdict exampleReference exampleDevice 5 false, 0 ∷ 2 ∷ 0 ∷ [])
+    ∷ (verdict exampleReference exampleDevice 5 false, 0 ∷ 12 ∷ [])
     -- 01: the pair above (01's example) passes 6
-    ∷ (verdict exampleReference exampleDevice 6 false, 0 ∷ 1 ∷ 0 ∷ [])
+    ∷ (verdict exampleReference exampleDevice 6 false, 0 ∷ 11 ∷ [])
     -- the pair of 01's example passes the trace-only test 5: its refusal is no stray
-    ∷ (verdict exampleReference exampleDevice 5 true, 0 ∷ 1 ∷ 0 ∷ [])
+    ∷ (verdict exampleReference exampleDevice 5 true, 0 ∷ 11 ∷ [])
     -- a verdict for k above 1,023 is refused with 14
-    ∷ (verdict exampleReference exampleDevice 1024 false, 14 ∷ 0 ∷ 0 ∷ [])
+    ∷ (verdict exampleReference exampleDevice 1024 false, 14 ∷ 0 ∷ [])
     -- 01, the output for its example: violates after 5, cleared 5, trace 0 0 0 0 0, refused 2 by 1
     ∷ (
       comparing exampleReference exampleDevice false,
-      lists (0 ∷ 3 ∷ 5 ∷ 5 ∷ 0 ∷ 2 ∷ 1 ∷ []) (0 ∷ 0 ∷ 0 ∷ 0 ∷ 0 ∷ []) 12,
+      lists (0 ∷ 23 ∷ 5 ∷ 5 ∷ 0 ∷ 2 ∷ 1 ∷ []) (0 ∷ 0 ∷ 0 ∷ 0 ∷ 0 ∷ []) 12,
     )
     -- by traces alone the device of 01's example refines the reference, cleared 6
-    ∷ (comparing exampleReference exampleDevice true, lists (0 ∷ 1 ∷ 0 ∷ 6 ∷ 0 ∷ 0 ∷ 0 ∷ []) [] 12)
+    ∷ (comparing exampleReference exampleDevice true, lists (0 ∷ 21 ∷ 0 ∷ 6 ∷ 0 ∷ 0 ∷ 0 ∷ []) [] 12)
     -- 01: one-node sheets, reference only event 0, device only event 1 of two, each looping: d = 0, stray 1
-    ∷ (comparing onlyZero onlyOne false, lists (0 ∷ 2 ∷ 0 ∷ 0 ∷ 1 ∷ 0 ∷ 0 ∷ []) [] 2)
+    ∷ (comparing onlyZero onlyOne false, lists (0 ∷ 22 ∷ 0 ∷ 0 ∷ 1 ∷ 0 ∷ 0 ∷ []) [] 2)
     -- one-node sheets, reference only event 0, device only event 1, by traces alone: d = 0, stray 1
-    ∷ (comparing onlyZero onlyOne true, lists (0 ∷ 2 ∷ 0 ∷ 0 ∷ 1 ∷ 0 ∷ 0 ∷ []) [] 2)
+    ∷ (comparing onlyZero onlyOne true, lists (0 ∷ 22 ∷ 0 ∷ 0 ∷ 1 ∷ 0 ∷ 0 ∷ []) [] 2)
     -- the device that does only event 1 fails test 0 of the reference that does only event 0
-    ∷ (verdict onlyZero onlyOne 0 false, 0 ∷ 2 ∷ 0 ∷ [])
+    ∷ (verdict onlyZero onlyOne 0 false, 0 ∷ 12 ∷ [])
     -- the device that does only event 1 fails the trace-only test 3 of the reference that does only event 0
-    ∷ (verdict onlyZero onlyOne 3 true, 0 ∷ 2 ∷ 0 ∷ [])
+    ∷ (verdict onlyZero onlyOne 3 true, 0 ∷ 12 ∷ [])
     -- 01: a reference of one node looping on 0 with acceptance 0, against a device of one node without successors,
     -- acceptance 0, E 1 in both: refines, cleared 1
-    ∷ (comparing mayLoop stopped false, lists (0 ∷ 1 ∷ 0 ∷ 1 ∷ 0 ∷ 0 ∷ 0 ∷ []) [] 2)
+    ∷ (comparing mayLoop stopped false, lists (0 ∷ 21 ∷ 0 ∷ 1 ∷ 0 ∷ 0 ∷ 0 ∷ []) [] 2)
     -- the stopped node passes tests 0 and 1 of the looping reference with acceptance 0, which may stop
-    ∷ (verdict mayLoop stopped 0 false, 0 ∷ 1 ∷ 0 ∷ [])
-    ∷ (verdict mayLoop stopped 1 false, 0 ∷ 1 ∷ 0 ∷ [])
+    ∷ (verdict mayLoop stopped 0 false, 0 ∷ 11 ∷ [])
+    ∷ (verdict mayLoop stopped 1 false, 0 ∷ 11 ∷ [])
     -- 01: reference looping on 0 with acceptance 1 against that stopped node: d = 0, refused 1 by 0
-    ∷ (comparing mustLoop stopped false, lists (0 ∷ 3 ∷ 0 ∷ 0 ∷ 0 ∷ 1 ∷ 0 ∷ []) [] 2)
+    ∷ (comparing mustLoop stopped false, lists (0 ∷ 23 ∷ 0 ∷ 0 ∷ 0 ∷ 1 ∷ 0 ∷ []) [] 2)
     -- by traces alone the stopped node refines the looping reference with acceptance 1, cleared 1
-    ∷ (comparing mustLoop stopped true, lists (0 ∷ 1 ∷ 0 ∷ 1 ∷ 0 ∷ 0 ∷ 0 ∷ []) [] 2)
+    ∷ (comparing mustLoop stopped true, lists (0 ∷ 21 ∷ 0 ∷ 1 ∷ 0 ∷ 0 ∷ 0 ∷ []) [] 2)
     -- the stopped node fails tests 0 and 1 of the looping reference with acceptance 1
-    ∷ (verdict mustLoop stopped 0 false, 0 ∷ 2 ∷ 0 ∷ [])
-    ∷ (verdict mustLoop stopped 1 false, 0 ∷ 2 ∷ 0 ∷ [])
+    ∷ (verdict mustLoop stopped 0 false, 0 ∷ 12 ∷ [])
+    ∷ (verdict mustLoop stopped 1 false, 0 ∷ 12 ∷ [])
     -- the stopped node passes the trace-only test 0 of the looping reference with acceptance 1
-    ∷ (verdict mustLoop stopped 0 true, 0 ∷ 1 ∷ 0 ∷ [])
+    ∷ (verdict mustLoop stopped 0 true, 0 ∷ 11 ∷ [])
     -- 01: any case sheet against itself refines (`outcome-self` says so of every accepted sheet)
-    ∷ (comparing exampleReference exampleReference false, lists (0 ∷ 1 ∷ 0 ∷ 2 ∷ 0 ∷ 0 ∷ 0 ∷ []) [] 8)
-    ∷ (comparing exampleDevice exampleDevice false, lists (0 ∷ 1 ∷ 0 ∷ 3 ∷ 0 ∷ 0 ∷ 0 ∷ []) [] 18)
-    ∷ (comparing onlyZero onlyZero false, lists (0 ∷ 1 ∷ 0 ∷ 1 ∷ 0 ∷ 0 ∷ 0 ∷ []) [] 2)
-    ∷ (comparing onlyOne onlyOne false, lists (0 ∷ 1 ∷ 0 ∷ 1 ∷ 0 ∷ 0 ∷ 0 ∷ []) [] 2)
-    ∷ (comparing mayLoop mayLoop false, lists (0 ∷ 1 ∷ 0 ∷ 1 ∷ 0 ∷ 0 ∷ 0 ∷ []) [] 2)
-    ∷ (comparing mustLoop mustLoop false, lists (0 ∷ 1 ∷ 0 ∷ 1 ∷ 0 ∷ 0 ∷ 0 ∷ []) [] 2)
-    ∷ (comparing stopped stopped false, lists (0 ∷ 1 ∷ 0 ∷ 1 ∷ 0 ∷ 0 ∷ 0 ∷ []) [] 2)
+    ∷ (comparing exampleReference exampleReference false, lists (0 ∷ 21 ∷ 0 ∷ 2 ∷ 0 ∷ 0 ∷ 0 ∷ []) [] 8)
+    ∷ (comparing exampleDevice exampleDevice false, lists (0 ∷ 21 ∷ 0 ∷ 3 ∷ 0 ∷ 0 ∷ 0 ∷ []) [] 18)
+    ∷ (comparing onlyZero onlyZero false, lists (0 ∷ 21 ∷ 0 ∷ 1 ∷ 0 ∷ 0 ∷ 0 ∷ []) [] 2)
+    ∷ (comparing onlyOne onlyOne false, lists (0 ∷ 21 ∷ 0 ∷ 1 ∷ 0 ∷ 0 ∷ 0 ∷ []) [] 2)
+    ∷ (comparing mayLoop mayLoop false, lists (0 ∷ 21 ∷ 0 ∷ 1 ∷ 0 ∷ 0 ∷ 0 ∷ []) [] 2)
+    ∷ (comparing mustLoop mustLoop false, lists (0 ∷ 21 ∷ 0 ∷ 1 ∷ 0 ∷ 0 ∷ 0 ∷ []) [] 2)
+    ∷ (comparing stopped stopped false, lists (0 ∷ 21 ∷ 0 ∷ 1 ∷ 0 ∷ 0 ∷ 0 ∷ []) [] 2)
     -- a verdict on sheets whose E differs is refused with 11
-    ∷ (verdict exampleReference stopped 0 false, 11 ∷ 0 ∷ 0 ∷ [])
+    ∷ (verdict exampleReference stopped 0 false, 11 ∷ 0 ∷ [])
     -- a comparison of sheets whose E differs is refused with 11, and both lists are untouched
     ∷ (comparing exampleReference stopped false, lists (11 ∷ 0 ∷ 0 ∷ 0 ∷ 0 ∷ 0 ∷ 0 ∷ []) [] 0)
     -- at depth 5 the run offers probe 2 alone; blocked there it has failed as refused; a later report is refused with
@@ -329,5 +333,5 @@ table =
 
 -- every row answers what 01 and 02 say
 pub cases-hold : map (λ (c : Case × List ℕ). numbersOf (c .0)) table ≡ map (λ (c : Case × List ℕ). c .1) table
-unfolding setBytes accepting rowNumbers listNumbers filled keptNode joined kept unread nodeProbes listFault listedNumbers listedOf listAfter numbersOf table lists lent workAfter readNumbers numbers recordNumbers answersOf comparedNumbers work trace sheet exampleReference exampleDevice onlyZero onlyOne mayLoop mustLoop stopped readSheet answer bytesFault headFault lengthField layoutFault nextAt startOf succOf setsOf rowAt rowOf sheetOf graphFault rangesOk countOk countsOk successorsOk rowSuccessorsOk successorOk setsOk rowSetsOk setOk ascends noneInside blank unusedOk blanksOk reachedOk sheetFault successor acceptance acceptances initials mayStop step bit has inside meets insert setOf walk nearer leads meetsIn distance later choice leastFrom leastTrace cleared code pairNext product onCodes pairDistance pairTrace pairCleared all any first count upTo hits isProbe gather select probes missing orNext firstMissing firstMissed strays hasStray firstStray covers hasRefusal violates violating allEvents outside probesAt chosen flag flagOf offerOf newRun recordOk openFault openOf endedRun eventFault reportFault movedBy answerOf stepOf failsFrom verdictFault verdictOf nearest said judged pairCount nearestTrace clearedOf lastRow refusalNamed named comparisonOf compareFault outcomeOf traceAfter compared
+unfolding setBytes accepting rowNumbers listNumbers filled keptNode joined kept unread nodeProbes listFault listedNumbers listedOf listAfter numbersOf table lists lent workAfter readNumbers numbers judgedNumbers recordNumbers answersOf comparedNumbers work trace sheet exampleReference exampleDevice onlyZero onlyOne mayLoop mustLoop stopped readSheet answer bytesFault headFault lengthField layoutFault nextAt startOf succOf setsOf rowAt rowOf sheetOf graphFault rangesOk countOk countsOk successorsOk rowSuccessorsOk successorOk setsOk rowSetsOk setOk ascends noneInside blank unusedOk blanksOk reachedOk sheetFault successor acceptance acceptances initials mayStop step bit has inside meets insert setOf walk nearer leads meetsIn distance later choice leastFrom leastTrace cleared code pairNext product onCodes pairDistance pairTrace pairCleared all any first count upTo hits isProbe gather select probes missing orNext firstMissing firstMissed strays hasStray firstStray covers hasRefusal violates violating allEvents outside probesAt chosen flag flagOf offerOf newRun recordOk openFault openOf endedRun eventFault reportFault movedBy answerOf stepOf failsFrom verdictFault verdictOf nearest said judged pairCount nearestTrace clearedOf lastRow refusalNamed named comparisonOf compareFault outcomeOf traceAfter compared
 cases-hold = refl

@@ -20,6 +20,7 @@ use Rattle.refinement_spec.specs.Refinement.{After, Does, Refuses, ViolationIn,
 use Rattle.verdicts_spec.specs.declared.Verdict.the-variants.{Passes, Fails}
 use Rattle.verdicts_spec.specs.declared.Suite.the-variants.{Judged}
 use Rattle.verdicts_spec.specs.Verdicts.{FailsTest, verdictOf}
+use Rattle.verdicts_spec.specs.Numbers.{passesNumber, failsNumber}
 use Rattle.verdicts_spec.specs.Suites.{suiteOf, verdictsAfter}
 use Rattle.comparison_spec.specs.declared.Outcome.{Outcome}
 use Rattle.comparison_spec.specs.declared.Outcome.the-variants.{Refines, Stray, Refusal, Denied}
@@ -71,13 +72,13 @@ pub record Violated (traceOnly : Bool) (P Q : Sheet) (o : Outcome) (after : List
   -- demand 2: the whole answer, with what is named, is the one that 01 describes
   pub describes : Describes traceOnly P Q o (take d after)
 
--- demand 3: what holds of the list of verdicts, `after` at exit, of all tests at once: it has p q verdicts, place k is 1
--- exactly if test k is "passes" and 2 exactly if some run of it can end failed, and all are 1 exactly if the device
--- refines the reference
+-- demand 3: what holds of the list of verdicts, `after` at exit, of all tests at once: it has p q verdicts, place k is
+-- 11 exactly if test k is "passes" and 12 exactly if some run of it can end failed, and all are 11 exactly if the
+-- device refines the reference
 pub record AllJudged (traceOnly : Bool) (P Q : Sheet) (after : List ℕ) : Type 0 where
-  pub passed : (k : ℕ) → k < P .n * Q .n → (getD after k 0 ≡ 1) ↔ (verdictOf traceOnly P Q k ≡ Passes)
-  pub failed : (k : ℕ) → k < P .n * Q .n → (getD after k 0 ≡ 2) ↔ FailsTest traceOnly P Q k
-  pub complete : ((k : ℕ) → k < P .n * Q .n → getD after k 0 ≡ 1) ↔ RefinesIn traceOnly P Q
+  pub passed : (k : ℕ) → k < P .n * Q .n → (getD after k 0 ≡ passesNumber) ↔ (verdictOf traceOnly P Q k ≡ Passes)
+  pub failed : (k : ℕ) → k < P .n * Q .n → (getD after k 0 ≡ failsNumber) ↔ FailsTest traceOnly P Q k
+  pub complete : ((k : ℕ) → k < P .n * Q .n → getD after k 0 ≡ passesNumber) ↔ RefinesIn traceOnly P Q
 
 -- all that is claimed of two sheets; `Demand3` claims it of every two that are accepted
 pub record Claim (traceOnly : Bool) (P Q : Sheet) : Type 0 where

@@ -74,38 +74,38 @@ module _ (traceOnly : Bool) (P Q : Sheet) (work trace : List ℕ) where
             let q = cleared-before op oq same d c .1 n in
             inr (violated u (w .violates), inr (rw (y .1) at s, (X, A, rw (y .1) at f, rw (e, ← y .0, q))))
 
-    -- without a refusal, a device that refines the reference is of kind 1, with the number of cleared pairs alone
+    -- without a refusal, a device that refines the reference is of kind 21, with the number of cleared pairs alone
     pub refining-compared : RefinesIn traceOnly P Q
-        → compared (outcomeOf traceOnly P Q work trace) ≡ record { refusal = 0; kind = 1; d = 0; cleared = clearedOf traceOnly P Q; event = 0; probe = 0; acceptance = 0 }
+        → compared (outcomeOf traceOnly P Q work trace) ≡ record { refusal = 0; kind = 21; d = 0; cleared = clearedOf traceOnly P Q; event = 0; probe = 0; acceptance = 0 }
     unfolding compared
     refining-compared r = go reason
       where
-        go : Reason → compared (outcomeOf traceOnly P Q work trace) ≡ record { refusal = 0; kind = 1; d = 0; cleared = clearedOf traceOnly P Q; event = 0; probe = 0; acceptance = 0 }
+        go : Reason → compared (outcomeOf traceOnly P Q work trace) ≡ record { refusal = 0; kind = 21; d = 0; cleared = clearedOf traceOnly P Q; event = 0; probe = 0; acceptance = 0 }
         go (inl w) = rw (w .1)
         go (inr w) = absurd (w .0 r)
 
-    -- without a refusal, where the nearest violation ends with a stray, the kind is 2, with d, cleared and the smallest
+    -- without a refusal, where the nearest violation ends with a stray, the kind is 22, with d, cleared and the smallest
     -- stray
     pub stray-compared : (¬ RefinesIn traceOnly P Q) → Strays P Q (nearestTrace traceOnly P Q)
         → (i : ℕ) × SmallestStray P Q (nearestTrace traceOnly P Q) i
-        × (compared (outcomeOf traceOnly P Q work trace) ≡ record { refusal = 0; kind = 2; d = nearest traceOnly P Q; cleared = clearedOf traceOnly P Q; event = i; probe = 0; acceptance = 0 })
+        × (compared (outcomeOf traceOnly P Q work trace) ≡ record { refusal = 0; kind = 22; d = nearest traceOnly P Q; cleared = clearedOf traceOnly P Q; event = i; probe = 0; acceptance = 0 })
     unfolding compared
     stray-compared n s = go reason
       where
-        go : Reason → (i : ℕ) × SmallestStray P Q (nearestTrace traceOnly P Q) i × (compared (outcomeOf traceOnly P Q work trace) ≡ record { refusal = 0; kind = 2; d = nearest traceOnly P Q; cleared = clearedOf traceOnly P Q; event = i; probe = 0; acceptance = 0 })
+        go : Reason → (i : ℕ) × SmallestStray P Q (nearestTrace traceOnly P Q) i × (compared (outcomeOf traceOnly P Q work trace) ≡ record { refusal = 0; kind = 22; d = nearest traceOnly P Q; cleared = clearedOf traceOnly P Q; event = i; probe = 0; acceptance = 0 })
         go (inl w) = absurd (n (w .0))
         go (inr (_, inl (i, w, q))) = (i, w, rw q)
         go (inr (_, inr w)) = absurd (w .0 s)
 
-    -- without a refusal, where the nearest violation ends without a stray, the kind is 3, with d, cleared, the first
+    -- without a refusal, where the nearest violation ends without a stray, the kind is 23, with d, cleared, the first
     -- probe that the device misses and the lowest acceptance that misses it
     pub refusal-compared : (¬ RefinesIn traceOnly P Q) → (¬ Strays P Q (nearestTrace traceOnly P Q))
         → (X : ℕ) × (A : ℕ) × FirstRefused P Q (nearestTrace traceOnly P Q) X A
-        × (compared (outcomeOf traceOnly P Q work trace) ≡ record { refusal = 0; kind = 3; d = nearest traceOnly P Q; cleared = clearedOf traceOnly P Q; event = 0; probe = X; acceptance = A })
+        × (compared (outcomeOf traceOnly P Q work trace) ≡ record { refusal = 0; kind = 23; d = nearest traceOnly P Q; cleared = clearedOf traceOnly P Q; event = 0; probe = X; acceptance = A })
     unfolding compared
     refusal-compared n s = go reason
       where
-        go : Reason → (X : ℕ) × (A : ℕ) × FirstRefused P Q (nearestTrace traceOnly P Q) X A × (compared (outcomeOf traceOnly P Q work trace) ≡ record { refusal = 0; kind = 3; d = nearest traceOnly P Q; cleared = clearedOf traceOnly P Q; event = 0; probe = X; acceptance = A })
+        go : Reason → (X : ℕ) × (A : ℕ) × FirstRefused P Q (nearestTrace traceOnly P Q) X A × (compared (outcomeOf traceOnly P Q work trace) ≡ record { refusal = 0; kind = 23; d = nearest traceOnly P Q; cleared = clearedOf traceOnly P Q; event = 0; probe = X; acceptance = A })
         go (inl w) = absurd (n (w .0))
         go (inr (_, inl (i, w, q))) = absurd (s (i, w .does, w .does-not))
         go (inr (_, inr (_, (X, A, f, q)))) = (X, A, f, rw q)
@@ -124,20 +124,20 @@ module _ (traceOnly : Bool) (P Q : Sheet) (work trace : List ℕ) where
   -- from the kind of the answer to the reason for it: the reasons of the three other kinds do not hold
   by-kind : {A : Type 0} (m : ℕ) → compared (outcomeOf traceOnly P Q work trace) .kind ≡ m
       → (m ≡ 0 → compareFault P Q work trace ≢ 0 → A)
-      → (m ≡ 1 → compareFault P Q work trace ≡ 0 → RefinesIn traceOnly P Q → A)
-      → (m ≡ 2 → compareFault P Q work trace ≡ 0 → (¬ RefinesIn traceOnly P Q) → Strays P Q (nearestTrace traceOnly P Q) → A)
-      → (m ≡ 3 → compareFault P Q work trace ≡ 0 → (¬ RefinesIn traceOnly P Q) → (¬ Strays P Q (nearestTrace traceOnly P Q)) → A)
+      → (m ≡ 21 → compareFault P Q work trace ≡ 0 → RefinesIn traceOnly P Q → A)
+      → (m ≡ 22 → compareFault P Q work trace ≡ 0 → (¬ RefinesIn traceOnly P Q) → Strays P Q (nearestTrace traceOnly P Q) → A)
+      → (m ≡ 23 → compareFault P Q work trace ≡ 0 → (¬ RefinesIn traceOnly P Q) → (¬ Strays P Q (nearestTrace traceOnly P Q)) → A)
       → A
-  by-kind {A} m e f0 f1 f2 f3 = go cases
+  by-kind {A} m e f0 f21 f22 f23 = go cases
     where
       is : {n : Compared} → compared (outcomeOf traceOnly P Q work trace) ≡ n → m ≡ n .kind
       is q = sym e ∙ ap (λ (n : Compared). n .kind) q
 
       go : Cases → A
       go (inl n) = f0 (is (denied-compared n)) n
-      go (inr (z, inl (r, _))) = f1 (is (refining-compared z r)) z r
-      go (inr (z, inr (n, inl (i, w, _)))) = let s : Strays P Q (nearestTrace traceOnly P Q) = (i, w .does, w .does-not) in f2 (is (stray-compared z n s .2)) z n s
-      go (inr (z, inr (n, inr (s, _)))) = f3 (is (refusal-compared z n s .3)) z n s
+      go (inr (z, inl (r, _))) = f21 (is (refining-compared z r)) z r
+      go (inr (z, inr (n, inl (i, w, _)))) = let s : Strays P Q (nearestTrace traceOnly P Q) = (i, w .does, w .does-not) in f22 (is (stray-compared z n s .2)) z n s
+      go (inr (z, inr (n, inr (s, _)))) = f23 (is (refusal-compared z n s .3)) z n s
 
   -- the kind is 0 exactly if the call is refused
   pub kind-0 : (compared (outcomeOf traceOnly P Q work trace) .kind ≡ 0) ↔ (compareFault P Q work trace ≢ 0)
@@ -146,26 +146,26 @@ module _ (traceOnly : Bool) (P Q : Sheet) (work trace : List ℕ) where
     λ n. ap (λ (m : Compared). m .kind) (denied-compared n),
   )
 
-  -- the kind is 1 exactly if the call is not refused and the device refines the reference
-  pub kind-1 : (compared (outcomeOf traceOnly P Q work trace) .kind ≡ 1) ↔ ((compareFault P Q work trace ≡ 0) × RefinesIn traceOnly P Q)
-  kind-1 = (
-    λ e. by-kind 1 e (λ q. absurd (omega arith)) (λ q z r. (z, r)) (λ q. absurd (omega arith)) (λ q. absurd (omega arith)),
+  -- the kind is 21 exactly if the call is not refused and the device refines the reference
+  pub kind-21 : (compared (outcomeOf traceOnly P Q work trace) .kind ≡ 21) ↔ ((compareFault P Q work trace ≡ 0) × RefinesIn traceOnly P Q)
+  kind-21 = (
+    λ e. by-kind 21 e (λ q. absurd (omega arith)) (λ q z r. (z, r)) (λ q. absurd (omega arith)) (λ q. absurd (omega arith)),
     λ w. ap (λ (m : Compared). m .kind) (refining-compared (w .0) (w .1)),
   )
 
-  -- the kind is 2 exactly if the call is not refused, the device does not refine the reference, and the nearest
+  -- the kind is 22 exactly if the call is not refused, the device does not refine the reference, and the nearest
   -- violation ends with a stray
-  pub kind-2 : (compared (outcomeOf traceOnly P Q work trace) .kind ≡ 2) ↔ ((compareFault P Q work trace ≡ 0) × (¬ RefinesIn traceOnly P Q) × Strays P Q (nearestTrace traceOnly P Q))
-  kind-2 = (
-    λ e. by-kind 2 e (λ q. absurd (omega arith)) (λ q. absurd (omega arith)) (λ q z n s. (z, n, s)) (λ q. absurd (omega arith)),
+  pub kind-22 : (compared (outcomeOf traceOnly P Q work trace) .kind ≡ 22) ↔ ((compareFault P Q work trace ≡ 0) × (¬ RefinesIn traceOnly P Q) × Strays P Q (nearestTrace traceOnly P Q))
+  kind-22 = (
+    λ e. by-kind 22 e (λ q. absurd (omega arith)) (λ q. absurd (omega arith)) (λ q z n s. (z, n, s)) (λ q. absurd (omega arith)),
     λ (z, n, s). ap (λ (m : Compared). m .kind) (stray-compared z n s .2),
   )
 
-  -- the kind is 3 exactly if the call is not refused, the device does not refine the reference, and the nearest
+  -- the kind is 23 exactly if the call is not refused, the device does not refine the reference, and the nearest
   -- violation ends without a stray
-  pub kind-3 : (compared (outcomeOf traceOnly P Q work trace) .kind ≡ 3) ↔ ((compareFault P Q work trace ≡ 0) × (¬ RefinesIn traceOnly P Q) × (¬ Strays P Q (nearestTrace traceOnly P Q)))
-  kind-3 = (
-    λ e. by-kind 3 e (λ q. absurd (omega arith)) (λ q. absurd (omega arith)) (λ q. absurd (omega arith)) (λ q z n s. (z, n, s)),
+  pub kind-23 : (compared (outcomeOf traceOnly P Q work trace) .kind ≡ 23) ↔ ((compareFault P Q work trace ≡ 0) × (¬ RefinesIn traceOnly P Q) × (¬ Strays P Q (nearestTrace traceOnly P Q)))
+  kind-23 = (
+    λ e. by-kind 23 e (λ q. absurd (omega arith)) (λ q. absurd (omega arith)) (λ q. absurd (omega arith)) (λ q z n s. (z, n, s)),
     λ (z, n, s). ap (λ (m : Compared). m .kind) (refusal-compared z n s .3),
   )
 

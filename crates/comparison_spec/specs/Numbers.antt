@@ -6,8 +6,20 @@ use lib.Dec.{eqb}
 use Rattle.comparison_spec.specs.declared.Outcome.{Outcome}
 use Rattle.comparison_spec.specs.declared.Outcome.the-variants.{Refines, Stray, Refusal, Denied}
 
--- the numbers of an answer: the refusal's, 0 for none; which case it is (0 a refusal of the call, 1 refines, 2 a stray,
--- 3 a refusal); d; cleared; what is named
+-- the number of the answer "refines": the first of the ten that comparisons have
+abbrev pub refinesNumber : ℕ
+refinesNumber = 21
+
+-- the number of an answer that names a stray
+abbrev pub strayNumber : ℕ
+strayNumber = 22
+
+-- the number of an answer that names a refusal
+abbrev pub refusalNumber : ℕ
+refusalNumber = 23
+
+-- the numbers of an answer: the refusal's, 0 for none; which case it is (0 a refusal of the call, else the number of the
+-- case); d; cleared; what is named
 pub record Compared : Type 0 where
   pub refusal : ℕ
   pub kind : ℕ
@@ -19,15 +31,15 @@ pub record Compared : Type 0 where
 
 -- the numbers of a comparison's answer
 unfoldable pub compared : Outcome → Compared
-compared (Refines c) = record { refusal = 0; kind = 1; d = 0; cleared = c; event = 0; probe = 0; acceptance = 0 }
-compared (Stray d c i) = record { refusal = 0; kind = 2; d = d; cleared = c; event = i; probe = 0; acceptance = 0 }
-compared (Refusal d c X A) = record { refusal = 0; kind = 3; d = d; cleared = c; event = 0; probe = X; acceptance = A }
+compared (Refines c) = record { refusal = 0; kind = refinesNumber; d = 0; cleared = c; event = 0; probe = 0; acceptance = 0 }
+compared (Stray d c i) = record { refusal = 0; kind = strayNumber; d = d; cleared = c; event = i; probe = 0; acceptance = 0 }
+compared (Refusal d c X A) = record { refusal = 0; kind = refusalNumber; d = d; cleared = c; event = 0; probe = X; acceptance = A }
 compared (Denied k) = record { refusal = k; kind = 0; d = 0; cleared = 0; event = 0; probe = 0; acceptance = 0 }
 
 -- the answer that has the given numbers
 unfoldable pub comparedFrom : Compared → Outcome
-comparedFrom n = cond (eqb (n .kind) 0) (Denied (n .refusal)) (cond (eqb (n .kind) 1) (Refines (n .cleared))
-    (cond (eqb (n .kind) 2) (Stray (n .d) (n .cleared) (n .event)) (Refusal (n .d) (n .cleared) (n .probe) (n .acceptance))))
+comparedFrom n = cond (eqb (n .kind) 0) (Denied (n .refusal)) (cond (eqb (n .kind) refinesNumber) (Refines (n .cleared))
+    (cond (eqb (n .kind) strayNumber) (Stray (n .d) (n .cleared) (n .event)) (Refusal (n .d) (n .cleared) (n .probe) (n .acceptance))))
 
 pub compared-back : (o : Outcome) → comparedFrom (compared o) ≡ o
 unfolding comparedFrom compared

@@ -12,6 +12,7 @@ use Rattle.base.specs.Count.{count}
 use Rattle.sheet_spec.specs.declared.Sheet.{Sheet}
 use Rattle.verdicts_spec.specs.declared.Suite.{Suite}
 use Rattle.verdicts_spec.specs.declared.Suite.the-variants.{Judged, Denied}
+use Rattle.verdicts_spec.specs.Numbers.{passesNumber}
 use Rattle.verdicts_spec.specs.Suites.{testCount, suiteFault, suiteOf, verdictsAfter}
 use Rattle.verdicts_spec.specs.SuiteLaws.{given-room, verdicts-length}
 use Rattle.suite_lines_spec.specs.Lines.{passedOf, suiteLines}
@@ -19,7 +20,7 @@ use Rattle.suite_lines_spec.specs.Program.{verdictList, judgedLines}
 use Rattle.suite_lines.specs.Shapes.{Room}
 
 -- one test more is counted, if it passes
-pub passed-more : {f g v : ℕ} (vs : List ℕ) (k : ℕ) → v ≡ getD vs k 0 → f ≡ passedOf vs k → g ≡ f + cond (eqb v 1) 1 0 → g ≡ passedOf vs (k + 1)
+pub passed-more : {f g v : ℕ} (vs : List ℕ) (k : ℕ) → v ≡ getD vs k 0 → f ≡ passedOf vs k → g ≡ f + cond (eqb v passesNumber) 1 0 → g ≡ passedOf vs (k + 1)
 unfolding passedOf count
 passed-more vs k e p q = rw (add-one k, ← e, ← p) q
 

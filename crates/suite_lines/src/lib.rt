@@ -6,6 +6,7 @@ ghost use Prim.Native.Nat.{_+_, _*_, _≤_, _<_};
 ghost use lib.Dec.{eqb};
 ghost use lib.ListN.{length};
 ghost use Rattle.text_spec.specs.Adds.{Adds, Holds};
+ghost use Rattle.verdicts_spec.specs.Numbers.{passesNumber};
 ghost use Rattle.suite_lines_spec.specs.Lines.{testLine, testLines, passedOf, lastWords, lastLine, suiteLines};
 ghost use Rattle.suite_lines_spec.specs.Program.{judgedLines, suiteText};
 ghost use Rattle.suite_lines.specs.Shapes.{Room};
@@ -20,7 +21,7 @@ fn put_test_line(out: &mut [u8], at: usize, k: u16, verdict: u8) -> usize
 {
     let a = text::put(out, at, b"test ");
     let b = text::put_number(out, a, k);
-    if verdict == 1 {
+    if verdict == 11 {
         return text::put(out, b, b" passes\n");
     }
     text::put(out, b, b" fails\n")
@@ -41,9 +42,9 @@ fn put_test_lines(out: &mut [u8], at: usize, verdicts: &[u8], n: u16) -> usize
 // A count with one more test, if it passes.
 fn counted(passed: u16, verdict: u8) -> u16
     requires { ⌜ passed < 65535 ⌝ }
-    ensures { λ r. ⌜ r ≡ passed + cond (eqb verdict 1) 1 0 ⌝ }
+    ensures { λ r. ⌜ r ≡ passed + cond (eqb verdict passesNumber) 1 0 ⌝ }
 {
-    if verdict == 1 {
+    if verdict == 11 {
         return passed + 1;
     }
     passed

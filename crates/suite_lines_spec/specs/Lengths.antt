@@ -13,6 +13,7 @@ use Rattle.text_spec.specs.Lines.{ascii, decimal, numberLine}
 use Rattle.text_spec.specs.DecimalLaws.{decimal-few}
 use Rattle.text_spec.specs.LengthLaws.{number-length}
 use Rattle.text_spec.specs.JoinedLaws.{joined-length}
+use Rattle.verdicts_spec.specs.Numbers.{passesNumber}
 use Rattle.verdicts_spec.specs.Suites.{testCount, verdictsAfter}
 use Rattle.verdicts_spec.specs.Complete.{tests-few}
 use Rattle.text_pair_spec.specs.ProgramLaws.{pair-length}
@@ -23,7 +24,7 @@ use Rattle.suite_lines_spec.specs.ProgramLaws.{passed-few, unequal-lines
 -- the length of the line of a test
 test-length : (k v : ℕ) → k < 10000 → length (testLine k v) ≤ 17
 unfolding testLine
-test-length k v h = go (eqb v 1)
+test-length k v h = go (eqb v passesNumber)
   where
     end : (t : List ℕ) → length t ≤ 8 → length (ascii "test " ++ (decimal k ++ t)) ≤ 17
     end t l = omega (arith, length-append (ascii "test ") (decimal k ++ t), length-append (decimal k) t, decimal-few 3 k h)

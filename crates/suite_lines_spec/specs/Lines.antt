@@ -1,5 +1,5 @@
 -- The lines that `suite` prints after the two sheets, as the codes of their characters. A list of verdicts has at place
--- k the number of test k's: 1 for "passes", 2 for "fails".
+-- k the number of test k's: 11 for "passes", 12 for "fails".
 use mathlib.Core.Bool.{cond}
 use mathlib.Core.List.{List, _++_}
 use Prim.Native.Nat.{ℕ, _-_}
@@ -10,10 +10,11 @@ use Rattle.text_spec.specs.Lines.{ascii, decimal, numberLine}
 use Rattle.text_spec.specs.Joined.{joined}
 use Rattle.verdicts_spec.specs.declared.Suite.{Suite}
 use Rattle.verdicts_spec.specs.declared.Suite.the-variants.{Judged, Denied}
+use Rattle.verdicts_spec.specs.Numbers.{passesNumber}
 
--- the line of a test: `test k passes`, where the verdict is 1, or `test k fails`
+-- the line of a test: `test k passes`, where the verdict's number is that of "passes", or `test k fails`
 unfoldable pub testLine : ℕ → ℕ → List ℕ
-testLine k verdict = ascii "test " ++ (decimal k ++ cond (eqb verdict 1) (ascii " passes\n") (ascii " fails\n"))
+testLine k verdict = ascii "test " ++ (decimal k ++ cond (eqb verdict passesNumber) (ascii " passes\n") (ascii " fails\n"))
 
 -- the lines of the first n tests, in order
 unfoldable pub testLines : List ℕ → ℕ → List ℕ
@@ -21,7 +22,7 @@ testLines verdicts n = joined (λ k. testLine k (getD verdicts k 0)) n
 
 -- how many of the first n tests pass
 unfoldable pub passedOf : List ℕ → ℕ → ℕ
-passedOf verdicts n = count (λ k. eqb (getD verdicts k 0) 1) n
+passedOf verdicts n = count (λ k. eqb (getD verdicts k 0) passesNumber) n
 
 -- how the last line ends: ` all pass` only if as many passed as there are tests, else ` failed f`
 unfoldable pub lastWords : ℕ → ℕ → ℕ → List ℕ

@@ -15,6 +15,7 @@ use Rattle.sheet_spec.specs.declared.Sheet.{Sheet}
 use Rattle.sheet_spec.specs.Refusals.{sheetFault}
 use Rattle.refinement_spec.specs.Refinement.{RefinesIn}
 use Rattle.text_spec.specs.Lines.{ascii, numberLine}
+use Rattle.verdicts_spec.specs.Numbers.{passesNumber}
 use Rattle.verdicts_spec.specs.Suites.{testCount, suiteFault}
 use Rattle.verdicts_spec.specs.SuiteLaws.{suite-11, suite-fits, denied-suite, given-suite}
 use Rattle.verdicts_spec.specs.Complete.{tests-few, suite-complete}
@@ -24,7 +25,7 @@ use Rattle.suite_lines_spec.specs.Program.{verdictList, after, judgedLin
 -- no more tests pass than there are
 pub passed-few : (vs : List ℕ) (n : ℕ) → passedOf vs n ≤ n
 unfolding passedOf
-passed-few vs n = count-le (λ k. eqb (getD vs k 0) 1) n
+passed-few vs n = count-le (λ k. eqb (getD vs k 0) passesNumber) n
 
 -- the list of verdicts has 1,024 places, enough for every two sheets that are not refused
 list-length : length verdictList ≡ 1024
@@ -52,12 +53,12 @@ module _ (P Q : Sheet) (accP : sheetFault P ≡ 0) (accQ : sheetFault Q ≡ 0) w
     pub all-passed : (passedOf (after P Q) (testCount P Q) ≡ testCount P Q) ↔ RefinesIn false P Q
     unfolding passedOf
     all-passed =
-        (λ z. w .0 (λ k l. eqb-true (getD (after P Q) k 0) 1 (count-all→ f (testCount P Q) z k l)), λ r. count-all← f (testCount P Q) (λ k l. eq-eqb (getD (after P Q) k 0) 1 (w .1 r k l)))
+        (λ z. w .0 (λ k l. eqb-true (getD (after P Q) k 0) passesNumber (count-all→ f (testCount P Q) z k l)), λ r. count-all← f (testCount P Q) (λ k l. eq-eqb (getD (after P Q) k 0) passesNumber (w .1 r k l)))
       where
         f : ℕ → Bool
-        f k = eqb (getD (after P Q) k 0) 1
+        f k = eqb (getD (after P Q) k 0) passesNumber
 
-        w : ((k : ℕ) → k < testCount P Q → getD (after P Q) k 0 ≡ 1) ↔ RefinesIn false P Q
+        w : ((k : ℕ) → k < testCount P Q → getD (after P Q) k 0 ≡ passesNumber) ↔ RefinesIn false P Q
         w = suite-complete P Q accP accQ same verdictList room false
 
     -- the last line says "all pass" exactly if the device refines the reference, else how many tests failed

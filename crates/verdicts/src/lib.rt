@@ -39,7 +39,7 @@ pub fn judge(reference: Sheet, device: Sheet, k: u16, trace_only: bool) -> Verdi
     Verdict::Passes
 }
 
-// Judges tests 0 to p·q − 1: writes 1 for "passes" or 2 for "fails" for each from the front of the lent list, and
+// Judges tests 0 to p·q − 1: writes 11 for "passes" or 12 for "fails" for each from the front of the lent list, and
 // answers how many there are; or the number of the refusal, and the list is as it was: the reference's own, the
 // device's own; 11, E differs; 10, a list shorter than the tests.
 pub fn judge_all(reference: Sheet, device: Sheet, trace_only: bool, out: &mut [u8]) -> Suite

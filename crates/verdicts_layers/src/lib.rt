@@ -41,18 +41,18 @@ fn is_failing_on(
     images::is_hit(layer, late, p)
 }
 
-// The number of a verdict: 2, fails, after an early fault or at a late one in this layer; else 1, passes.
+// The number of a verdict: 12, fails, after an early fault or at a late one in this layer; else 11, passes.
 fn kind_at(faulty: bool, layer: [u32; 32], late: [u32; 32], p: usize) -> u8
     requires { ⌜ p ≤ 32 ⌝ }
     ensures { λ r. ⌜ r ≡ kindOf («faulty» || layerHits layer late p) ⌝ }
 {
     if faulty {
-        return 2;
+        return 12;
     }
     if images::is_hit(layer, late, p) {
-        return 2;
+        return 12;
     }
-    1
+    11
 }
 
 // Whether there was an early fault, or there is one in this layer.
@@ -116,7 +116,7 @@ pub fn is_failing(
     is_failing_on(&reference, &device, early, late, p, e, k)
 }
 
-// Writes 2 for each of the first `total` tests that the device fails and 1 for each that it passes; the rest of the
+// Writes 12 for each of the first `total` tests that the device fails and 11 for each that it passes; the rest of the
 // list stays.
 pub fn failing_all(
     mine: [Row; 32],

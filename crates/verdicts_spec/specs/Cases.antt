@@ -30,10 +30,10 @@ suiteNumbers traceOnly Q places =
     r .refusal ∷ r .count ∷ verdictsAfter traceOnly (sheet exampleReference) (sheet Q) (replicate places 9)
 
 pub example-suite :
-    (suiteNumbers false exampleDevice 8 ≡ 0 ∷ 6 ∷ 1 ∷ 1 ∷ 1 ∷ 1 ∷ 1 ∷ 2 ∷ 9 ∷ 9 ∷ [])
-    × (suiteNumbers false exampleDevice 6 ≡ 0 ∷ 6 ∷ 1 ∷ 1 ∷ 1 ∷ 1 ∷ 1 ∷ 2 ∷ [])
-    × (suiteNumbers true exampleDevice 6 ≡ 0 ∷ 6 ∷ 1 ∷ 1 ∷ 1 ∷ 1 ∷ 1 ∷ 1 ∷ [])
-    × (suiteNumbers false exampleReference 5 ≡ 0 ∷ 4 ∷ 1 ∷ 1 ∷ 1 ∷ 1 ∷ 9 ∷ [])
+    (suiteNumbers false exampleDevice 8 ≡ 0 ∷ 6 ∷ 11 ∷ 11 ∷ 11 ∷ 11 ∷ 11 ∷ 12 ∷ 9 ∷ 9 ∷ [])
+    × (suiteNumbers false exampleDevice 6 ≡ 0 ∷ 6 ∷ 11 ∷ 11 ∷ 11 ∷ 11 ∷ 11 ∷ 12 ∷ [])
+    × (suiteNumbers true exampleDevice 6 ≡ 0 ∷ 6 ∷ 11 ∷ 11 ∷ 11 ∷ 11 ∷ 11 ∷ 11 ∷ [])
+    × (suiteNumbers false exampleReference 5 ≡ 0 ∷ 4 ∷ 11 ∷ 11 ∷ 11 ∷ 11 ∷ 9 ∷ [])
     × (suiteNumbers false exampleDevice 5 ≡ 10 ∷ 0 ∷ 9 ∷ 9 ∷ 9 ∷ 9 ∷ 9 ∷ [])
     × (suiteNumbers false stopped 1 ≡ 11 ∷ 0 ∷ 9 ∷ [])
 unfolding suiteNumbers testCount verdictNumber suiteFault suiteOf verdictsAfter suited sheet exampleReference exampleDevice stopped readSheet answer bytesFault headFault lengthField layoutFault nextAt startOf succOf setsOf rowAt rowOf sheetOf graphFault rangesOk countOk countsOk successorsOk rowSuccessorsOk successorOk setsOk rowSetsOk setOk ascends noneInside blank unusedOk blanksOk reachedOk sheetFault successor acceptance acceptances initials mayStop step bit has inside meets setOf nearer leads all any upTo strays hasStray covers hasRefusal violates violating failsFrom verdictFault verdictOf judged

@@ -1,5 +1,5 @@
 -- Nothing to believe: laws. What the list of verdicts means: each place is the verdict of its test, never a refusal,
--- and all places hold 1 exactly if the device refines the reference (the mission's demand 3).
+-- and all places hold 11 exactly if the device refines the reference (the mission's demand 3).
 use mathlib.Core.Path.{_≡_, refl, sym, ap, _∙_}
 use mathlib.Core.Logic.{_⊎_, inl, inr, _≢_, _↔_}
 use mathlib.Core.Bool.{Bool}
@@ -14,27 +14,27 @@ use Rattle.refinement_spec.specs.Refinement.{RefinesIn}
 use Rattle.verdicts_spec.specs.declared.Verdict.{Verdict}
 use Rattle.verdicts_spec.specs.declared.Verdict.the-variants.{Passes, Fails, Denied as NoVerdict}
 use Rattle.verdicts_spec.specs.Verdicts.{FailsTest, verdictFault, verdictOf}
-use Rattle.verdicts_spec.specs.Numbers.{judged}
+use Rattle.verdicts_spec.specs.Numbers.{passesNumber, failsNumber, judged}
 use Rattle.verdicts_spec.specs.VerdictLaws.{verdict-0, verdict-means, verdict-undenied}
 use Rattle.verdicts_spec.specs.TestLaws.{verdicts-complete}
 use Rattle.verdicts_spec.specs.Suites.{testCount, verdictNumber, verdictsAfter}
 use Rattle.verdicts_spec.specs.SuiteLaws.{suite-fits, verdict-place}
 
--- a verdict's number is 1 exactly if it is "passes", and 2 exactly if it is "fails"
-one-passes : (v : Verdict) → (judged v .kind ≡ 1) ↔ (v ≡ Passes)
+-- a verdict's number is 11 exactly if it is "passes", and 12 exactly if it is "fails"
+number-passes : (v : Verdict) → (judged v .kind ≡ passesNumber) ↔ (v ≡ Passes)
 unfolding judged
-one-passes v = (forth v, λ e. ap (λ (w : Verdict). judged w .kind) e)
+number-passes v = (forth v, λ e. ap (λ (w : Verdict). judged w .kind) e)
   where
-    forth : (v : Verdict) → judged v .kind ≡ 1 → v ≡ Passes
+    forth : (v : Verdict) → judged v .kind ≡ passesNumber → v ≡ Passes
     forth Passes e = refl
     forth Fails e = absurd (omega arith)
     forth (NoVerdict m) e = absurd (omega arith)
 
-two-fails : (v : Verdict) → (judged v .kind ≡ 2) ↔ (v ≡ Fails)
+number-fails : (v : Verdict) → (judged v .kind ≡ failsNumber) ↔ (v ≡ Fails)
 unfolding judged
-two-fails v = (forth v, λ e. ap (λ (w : Verdict). judged w .kind) e)
+number-fails v = (forth v, λ e. ap (λ (w : Verdict). judged w .kind) e)
   where
-    forth : (v : Verdict) → judged v .kind ≡ 2 → v ≡ Fails
+    forth : (v : Verdict) → judged v .kind ≡ failsNumber → v ≡ Fails
     forth Passes e = absurd (omega arith)
     forth Fails e = refl
     forth (NoVerdict m) e = absurd (omega arith)
@@ -57,32 +57,32 @@ module _ (P Q : Sheet) (accP : sheetFault P ≡ 0) (accQ : sheetFault Q ≡ 0) (
     unfolding verdictNumber
     at = verdict-place P Q out (suite-fits P Q out accP accQ same room) traceOnly
 
-    -- place k holds 1 exactly if the verdict on test k is "passes", and 2 exactly if it is "fails"
-    pub place-passes : (k : ℕ) → k < testCount P Q → (getD (verdictsAfter traceOnly P Q out) k 0 ≡ 1) ↔ (verdictOf traceOnly P Q k ≡ Passes)
-    place-passes k l = let w = one-passes (verdictOf traceOnly P Q k) in (λ e. w .0 (sym (at k l) ∙ e), λ e. at k l ∙ w .1 e)
+    -- place k holds 11 exactly if the verdict on test k is "passes", and 12 exactly if it is "fails"
+    pub place-passes : (k : ℕ) → k < testCount P Q → (getD (verdictsAfter traceOnly P Q out) k 0 ≡ passesNumber) ↔ (verdictOf traceOnly P Q k ≡ Passes)
+    place-passes k l = let w = number-passes (verdictOf traceOnly P Q k) in (λ e. w .0 (sym (at k l) ∙ e), λ e. at k l ∙ w .1 e)
 
-    pub place-fails : (k : ℕ) → k < testCount P Q → (getD (verdictsAfter traceOnly P Q out) k 0 ≡ 2) ↔ (verdictOf traceOnly P Q k ≡ Fails)
-    place-fails k l = let w = two-fails (verdictOf traceOnly P Q k) in (λ e. w .0 (sym (at k l) ∙ e), λ e. at k l ∙ w .1 e)
+    pub place-fails : (k : ℕ) → k < testCount P Q → (getD (verdictsAfter traceOnly P Q out) k 0 ≡ failsNumber) ↔ (verdictOf traceOnly P Q k ≡ Fails)
+    place-fails k l = let w = number-fails (verdictOf traceOnly P Q k) in (λ e. w .0 (sym (at k l) ∙ e), λ e. at k l ∙ w .1 e)
 
-    -- place k holds 1 or 2, nothing else
-    pub place-either : (k : ℕ) → k < testCount P Q → (getD (verdictsAfter traceOnly P Q out) k 0 ≡ 1) ⊎ (getD (verdictsAfter traceOnly P Q out) k 0 ≡ 2)
+    -- place k holds 11 or 12, nothing else
+    pub place-either : (k : ℕ) → k < testCount P Q → (getD (verdictsAfter traceOnly P Q out) k 0 ≡ passesNumber) ⊎ (getD (verdictsAfter traceOnly P Q out) k 0 ≡ failsNumber)
     unfolding judged
     place-either k l = go (verdictOf traceOnly P Q k) refl
       where
-        go : (v : Verdict) → verdictOf traceOnly P Q k ≡ v → (getD (verdictsAfter traceOnly P Q out) k 0 ≡ 1) ⊎ (getD (verdictsAfter traceOnly P Q out) k 0 ≡ 2)
+        go : (v : Verdict) → verdictOf traceOnly P Q k ≡ v → (getD (verdictsAfter traceOnly P Q out) k 0 ≡ passesNumber) ⊎ (getD (verdictsAfter traceOnly P Q out) k 0 ≡ failsNumber)
         go Passes e = inl (place-passes k l .1 e)
         go Fails e = inr (place-fails k l .1 e)
         go (NoVerdict m) e = absurd (none-denied traceOnly k l m e)
 
-    -- place k holds 2 exactly if some run of test k against the device can end failed
-    pub place-means : (k : ℕ) → k < testCount P Q → (getD (verdictsAfter traceOnly P Q out) k 0 ≡ 2) ↔ FailsTest traceOnly P Q k
+    -- place k holds 12 exactly if some run of test k against the device can end failed
+    pub place-means : (k : ℕ) → k < testCount P Q → (getD (verdictsAfter traceOnly P Q out) k 0 ≡ failsNumber) ↔ FailsTest traceOnly P Q k
     place-means k l =
         let v = place-fails k l in
         let w = verdict-means P Q accP accQ same traceOnly k (omega (arith, tests-few)) in
         (λ e. w .0 (v .0 e), λ f. v .1 (w .1 f))
 
-    -- all places below p q hold 1 exactly if the device refines the reference
-    pub suite-complete : ((k : ℕ) → k < testCount P Q → getD (verdictsAfter traceOnly P Q out) k 0 ≡ 1) ↔ RefinesIn traceOnly P Q
+    -- all places below p q hold 11 exactly if the device refines the reference
+    pub suite-complete : ((k : ℕ) → k < testCount P Q → getD (verdictsAfter traceOnly P Q out) k 0 ≡ passesNumber) ↔ RefinesIn traceOnly P Q
     unfolding testCount
     suite-complete =
         let w = verdicts-complete P Q accP accQ same traceOnly in

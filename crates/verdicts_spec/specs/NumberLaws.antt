@@ -9,14 +9,13 @@ use lib.Dec.{eqb}
 use borrow.Author.Tests.{eqb-true, eqb-false}
 use Rattle.base.specs.Truth.{dec, clash}
 use Rattle.sheet_spec.specs.declared.Sheet.{Sheet}
-use Rattle.tests_spec.specs.Numbers.{Said}
 use Rattle.verdicts_spec.specs.Verdicts.{FailsTest, failsFrom, verdictFault, verdictOf}
-use Rattle.verdicts_spec.specs.Numbers.{judged}
+use Rattle.verdicts_spec.specs.Numbers.{Judgement, judged}
 use Rattle.verdicts_spec.specs.VerdictLaws.{verdict-0, verdict-denied, fails-means, verdict-means, verdict-passes}
 
 module _ (traceOnly : Bool) (P Q : Sheet) (k : ℕ) where
   -- a verdict that is refused has the number of its refusal, and 0 in every other part
-  pub denied-judged : verdictFault P Q k ≢ 0 → judged (verdictOf traceOnly P Q k) ≡ record { refusal = verdictFault P Q k; kind = 0; value = 0 }
+  pub denied-judged : verdictFault P Q k ≢ 0 → judged (verdictOf traceOnly P Q k) ≡ record { refusal = verdictFault P Q k; kind = 0 }
   unfolding judged
   denied-judged n = rw (verdict-denied P Q k traceOnly n)
 
@@ -31,13 +30,13 @@ module _ (traceOnly : Bool) (P Q : Sheet) (k : ℕ) where
     small : k ≤ 1023
     small = omega (arith, verdict-0 P Q k .0 z .1)
 
-    -- without a refusal the kind is 1 where no run of the test against the device can end failed
-    pub passing-judged : (¬ FailsTest traceOnly P Q k) → judged (verdictOf traceOnly P Q k) ≡ record { refusal = 0; kind = 1; value = 0 }
+    -- without a refusal the kind is 11 where no run of the test against the device can end failed
+    pub passing-judged : (¬ FailsTest traceOnly P Q k) → judged (verdictOf traceOnly P Q k) ≡ record { refusal = 0; kind = 11 }
     unfolding judged
     passing-judged n = let v = verdict-0 P Q k .0 z in rw (verdict-passes P Q (v .0 .0 .0) (v .0 .0 .1) same traceOnly k small .1 n)
 
-    -- without a refusal the kind is 2 where some run of the test against the device can end failed
-    pub failing-judged : FailsTest traceOnly P Q k → judged (verdictOf traceOnly P Q k) ≡ record { refusal = 0; kind = 2; value = 0 }
+    -- without a refusal the kind is 12 where some run of the test against the device can end failed
+    pub failing-judged : FailsTest traceOnly P Q k → judged (verdictOf traceOnly P Q k) ≡ record { refusal = 0; kind = 12 }
     unfolding judged
     failing-judged f = let v = verdict-0 P Q k .0 z in rw (verdict-means P Q (v .0 .0 .0) (v .0 .0 .1) same traceOnly k small .1 f)
 
@@ -64,58 +63,49 @@ module _ (traceOnly : Bool) (P Q : Sheet) (k : ℕ) where
   -- from the kind of a verdict to the reason for it: the reasons of the two other kinds do not hold
   by-kind : {A : Type 0} (m : ℕ) → judged (verdictOf traceOnly P Q k) .kind ≡ m
       → (m ≡ 0 → verdictFault P Q k ≢ 0 → A)
-      → (m ≡ 1 → verdictFault P Q k ≡ 0 → (¬ FailsTest traceOnly P Q k) → A)
-      → (m ≡ 2 → verdictFault P Q k ≡ 0 → FailsTest traceOnly P Q k → A)
+      → (m ≡ 11 → verdictFault P Q k ≡ 0 → (¬ FailsTest traceOnly P Q k) → A)
+      → (m ≡ 12 → verdictFault P Q k ≡ 0 → FailsTest traceOnly P Q k → A)
       → A
-  by-kind {A} m e f0 f1 f2 = go reason
+  by-kind {A} m e f0 f11 f12 = go reason
     where
-      is : {n : Said} → judged (verdictOf traceOnly P Q k) ≡ n → m ≡ n .kind
-      is q = sym e ∙ ap (λ (n : Said). n .kind) q
+      is : {n : Judgement} → judged (verdictOf traceOnly P Q k) ≡ n → m ≡ n .kind
+      is q = sym e ∙ ap (λ (n : Judgement). n .kind) q
 
       go : (verdictFault P Q k ≢ 0) ⊎ ((verdictFault P Q k ≡ 0) × (FailsTest traceOnly P Q k ⊎ (¬ FailsTest traceOnly P Q k))) → A
       go (inl n) = f0 (is (denied-judged n)) n
-      go (inr (z, inl f)) = f2 (is (failing-judged z f)) z f
-      go (inr (z, inr n)) = f1 (is (passing-judged z n)) z n
+      go (inr (z, inl f)) = f12 (is (failing-judged z f)) z f
+      go (inr (z, inr n)) = f11 (is (passing-judged z n)) z n
 
   -- the kind is 0 exactly if the verdict is refused
   pub kind-0 : (judged (verdictOf traceOnly P Q k) .kind ≡ 0) ↔ (verdictFault P Q k ≢ 0)
   kind-0 = (
     λ e. by-kind 0 e (λ q n. n) (λ q. absurd (omega arith)) (λ q. absurd (omega arith)),
-    λ n. ap (λ (m : Said). m .kind) (denied-judged n),
+    λ n. ap (λ (m : Judgement). m .kind) (denied-judged n),
   )
 
-  -- the kind is 1 exactly if the verdict is not refused and no run of the test against the device can end failed
-  pub kind-1 : (judged (verdictOf traceOnly P Q k) .kind ≡ 1) ↔ ((verdictFault P Q k ≡ 0) × (¬ FailsTest traceOnly P Q k))
-  kind-1 = (
-    λ e. by-kind 1 e (λ q. absurd (omega arith)) (λ q z n. (z, n)) (λ q. absurd (omega arith)),
-    λ w. ap (λ (m : Said). m .kind) (passing-judged (w .0) (w .1)),
+  -- the kind is 11 exactly if the verdict is not refused and no run of the test against the device can end failed
+  pub kind-11 : (judged (verdictOf traceOnly P Q k) .kind ≡ 11) ↔ ((verdictFault P Q k ≡ 0) × (¬ FailsTest traceOnly P Q k))
+  kind-11 = (
+    λ e. by-kind 11 e (λ q. absurd (omega arith)) (λ q z n. (z, n)) (λ q. absurd (omega arith)),
+    λ w. ap (λ (m : Judgement). m .kind) (passing-judged (w .0) (w .1)),
   )
 
-  -- the kind is 2 exactly if the verdict is not refused and some run of the test against the device can end failed
-  pub kind-2 : (judged (verdictOf traceOnly P Q k) .kind ≡ 2) ↔ ((verdictFault P Q k ≡ 0) × FailsTest traceOnly P Q k)
-  kind-2 = (
-    λ e. by-kind 2 e (λ q. absurd (omega arith)) (λ q. absurd (omega arith)) (λ q z f. (z, f)),
-    λ w. ap (λ (m : Said). m .kind) (failing-judged (w .0) (w .1)),
+  -- the kind is 12 exactly if the verdict is not refused and some run of the test against the device can end failed
+  pub kind-12 : (judged (verdictOf traceOnly P Q k) .kind ≡ 12) ↔ ((verdictFault P Q k ≡ 0) × FailsTest traceOnly P Q k)
+  kind-12 = (
+    λ e. by-kind 12 e (λ q. absurd (omega arith)) (λ q. absurd (omega arith)) (λ q z f. (z, f)),
+    λ w. ap (λ (m : Judgement). m .kind) (failing-judged (w .0) (w .1)),
   )
-
-  -- what two parts of every verdict are
-  parts : (judged (verdictOf traceOnly P Q k) .refusal ≡ verdictFault P Q k) × (judged (verdictOf traceOnly P Q k) .value ≡ 0)
-  parts = go reason
-    where
-      is : {n : Said} → judged (verdictOf traceOnly P Q k) ≡ n → n .refusal ≡ verdictFault P Q k → n .value ≡ 0
-          → (judged (verdictOf traceOnly P Q k) .refusal ≡ verdictFault P Q k) × (judged (verdictOf traceOnly P Q k) .value ≡ 0)
-      is q e v = (ap (λ (n : Said). n .refusal) q ∙ e, ap (λ (n : Said). n .value) q ∙ v)
-
-      go : (verdictFault P Q k ≢ 0) ⊎ ((verdictFault P Q k ≡ 0) × (FailsTest traceOnly P Q k ⊎ (¬ FailsTest traceOnly P Q k)))
-          → (judged (verdictOf traceOnly P Q k) .refusal ≡ verdictFault P Q k) × (judged (verdictOf traceOnly P Q k) .value ≡ 0)
-      go (inl n) = is (denied-judged n) refl refl
-      go (inr (z, inl f)) = is (failing-judged z f) (sym z) refl
-      go (inr (z, inr n)) = is (passing-judged z n) (sym z) refl
 
   -- every verdict, refused or not, says its refusal
   pub verdict-refusal : judged (verdictOf traceOnly P Q k) .refusal ≡ verdictFault P Q k
-  verdict-refusal = parts .0
+  verdict-refusal = go reason
+    where
+      is : {n : Judgement} → judged (verdictOf traceOnly P Q k) ≡ n → judged (verdictOf traceOnly P Q k) .refusal ≡ n .refusal
+      is q = ap (λ (n : Judgement). n .refusal) q
 
-  -- no verdict has a value
-  pub verdict-value : judged (verdictOf traceOnly P Q k) .value ≡ 0
-  verdict-value = parts .1
+      go : (verdictFault P Q k ≢ 0) ⊎ ((verdictFault P Q k ≡ 0) × (FailsTest traceOnly P Q k ⊎ (¬ FailsTest traceOnly P Q k)))
+          → judged (verdictOf traceOnly P Q k) .refusal ≡ verdictFault P Q k
+      go (inl n) = is (denied-judged n)
+      go (inr (z, inl f)) = is (failing-judged z f) ∙ sym z
+      go (inr (z, inr n)) = is (passing-judged z n) ∙ sym z

@@ -3,21 +3,35 @@ use mathlib.Core.Path.{_≡_, refl, sym, ap, _∙_}
 use mathlib.Core.Bool.{cond}
 use Prim.Native.Nat.{ℕ}
 use lib.Dec.{eqb}
-use Rattle.tests_spec.specs.Numbers.{Said}
 use Rattle.verdicts_spec.specs.declared.Verdict.{Verdict}
 use Rattle.verdicts_spec.specs.declared.Verdict.the-variants.{Passes, Fails, Denied as NoVerdict}
 use Rattle.verdicts_spec.specs.declared.Suite.{Suite}
 use Rattle.verdicts_spec.specs.declared.Suite.the-variants.{Judged, Denied}
 
--- the numbers of a verdict: passes is 1, fails is 2
-unfoldable pub judged : Verdict → Said
-judged (NoVerdict m) = record { refusal = m; kind = 0; value = 0 }
-judged Passes = record { refusal = 0; kind = 1; value = 0 }
-judged Fails = record { refusal = 0; kind = 2; value = 0 }
+-- the number of the verdict "passes": the first of the ten that verdicts have
+abbrev pub passesNumber : ℕ
+passesNumber = 11
+
+-- the number of the verdict "fails"
+abbrev pub failsNumber : ℕ
+failsNumber = 12
+
+-- what a verdict says in numbers
+pub record Judgement : Type 0 where
+  -- the number of the refusal, 0 for none
+  pub refusal : ℕ
+  -- 0 for a refusal, else the number of the verdict
+  pub kind : ℕ
+
+-- the numbers of a verdict: its own, or its refusal's
+unfoldable pub judged : Verdict → Judgement
+judged (NoVerdict m) = record { refusal = m; kind = 0 }
+judged Passes = record { refusal = 0; kind = passesNumber }
+judged Fails = record { refusal = 0; kind = failsNumber }
 
 -- the verdict that has the given numbers
-verdictFrom : Said → Verdict
-verdictFrom n = cond (eqb (n .kind) 0) (NoVerdict (n .refusal)) (cond (eqb (n .kind) 1) Passes Fails)
+verdictFrom : Judgement → Verdict
+verdictFrom n = cond (eqb (n .kind) 0) (NoVerdict (n .refusal)) (cond (eqb (n .kind) passesNumber) Passes Fails)
 
 verdict-back : (a : Verdict) → verdictFrom (judged a) ≡ a
 unfolding judged verdictFrom

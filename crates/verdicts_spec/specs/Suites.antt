@@ -20,7 +20,7 @@ use Rattle.verdicts_spec.specs.declared.Suite.the-variants.{Judged, Deni
 unfoldable pub testCount : Sheet → Sheet → ℕ
 testCount P Q = P .n * Q .n
 
--- the number of the verdict on test k: 1 for "passes", 2 for "fails"
+-- the number of the verdict on test k: 11 for "passes", 12 for "fails"
 unfoldable pub verdictNumber : Bool → Sheet → Sheet → ℕ → ℕ
 verdictNumber traceOnly P Q k = judged (verdictOf traceOnly P Q k) .kind
 

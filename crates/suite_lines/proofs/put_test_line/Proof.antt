@@ -26,7 +26,7 @@ same-length c = omega arith
 
 returns : tie.Need-returns
 unfolding testLine
-returns c = rw (eq-eqb _ 1 (c .before .before .before .before .before .if1 .taken)) (adds-then (c .before .before .before .before .before .before .before .before .before .before .before .before .put .ensures) (adds-then (c .before .before .before .before .before .before .before .before .put-number .ensures) (c .before .before .put2 .ensures)))
+returns c = rw (eq-eqb _ 11 (c .before .before .before .before .before .if1 .taken)) (adds-then (c .before .before .before .before .before .before .before .before .before .before .before .before .put .ensures) (adds-then (c .before .before .before .before .before .before .before .before .put-number .ensures) (c .before .before .put2 .ensures)))
 
 slice-aggregate-put-3 : tie.Need-slice-aggregate-put-3
 slice-aggregate-put-3 c = omega arith
@@ -39,7 +39,7 @@ same-length-2 c = omega arith
 
 returns-2 : tie.Need-returns-2
 unfolding testLine
-returns-2 c = rw (ne-eqb _ 1 (c .before .before .before .before .before .if1 .left)) (adds-then (c .before .before .before .before .before .before .before .before .before .before .before .before .put .ensures) (adds-then (c .before .before .before .before .before .before .before .before .put-number .ensures) (c .before .before .put3 .ensures)))
+returns-2 c = rw (ne-eqb _ 11 (c .before .before .before .before .before .if1 .left)) (adds-then (c .before .before .before .before .before .before .before .before .before .before .before .before .put .ensures) (adds-then (c .before .before .before .before .before .before .before .before .put-number .ensures) (c .before .before .put3 .ensures)))
 
 pub put-test-line-spec : {M : Type 1} → statement M
 put-test-line-spec =
