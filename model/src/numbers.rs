@@ -7,6 +7,17 @@ use crate::sheet::Sheet;
 use crate::tests::{open, step, Answer, Report, Run};
 use crate::verdict::{verdict, Verdict};
 
+/// The number of a verdict that passes.
+pub const PASSES: u8 = 11;
+/// The number of a verdict that fails.
+pub const FAILS: u8 = 12;
+/// The number of a comparison that refines.
+pub const REFINES: u8 = 21;
+/// The number of a comparison that names a stray.
+pub const STRAY: u8 = 22;
+/// The number of a comparison that names a refusal.
+pub const REFUSAL: u8 = 23;
+
 /// The answer of a probe list: the refusal, 0 for none, and how many probes there are.
 #[repr(C)]
 #[derive(Clone, Copy, PartialEq, Eq, Debug)]
@@ -23,14 +34,22 @@ pub struct Suited {
     pub count: u16,
 }
 
-/// An answer to an opening, a report or a verdict: the refusal, 0 for none; which case it
-/// is, 0 for a refusal; the event or the set of that case.
+/// An answer to an opening or a report: the refusal, 0 for none; which case it is, 0 for a
+/// refusal; the event or the set of that case.
 #[repr(C)]
 #[derive(Clone, Copy, PartialEq, Eq, Debug)]
 pub struct Said {
     pub refusal: u8,
     pub kind: u8,
     pub value: u16,
+}
+
+/// A verdict: the refusal, 0 for none; the number of the verdict, 0 for a refusal.
+#[repr(C)]
+#[derive(Clone, Copy, PartialEq, Eq, Debug)]
+pub struct Judged {
+    pub refusal: u8,
+    pub kind: u8,
 }
 
 /// A run's record. A flag is false as 0 and true as any other number.
@@ -149,17 +168,13 @@ pub fn listed(answer: Result<usize, u8>) -> Listed {
 }
 
 /// The numbers of a verdict.
-pub fn judged(answer: Result<Verdict, u8>) -> Said {
+pub fn judged(answer: Result<Verdict, u8>) -> Judged {
     let (refusal, kind) = match answer {
-        Ok(Verdict::Passes) => (0, 1),
-        Ok(Verdict::Fails) => (0, 2),
+        Ok(Verdict::Passes) => (0, PASSES),
+        Ok(Verdict::Fails) => (0, FAILS),
         Err(number) => (number, 0),
     };
-    Said {
-        refusal,
-        kind,
-        value: 0,
-    }
+    Judged { refusal, kind }
 }
 
 /// The numbers of a comparison's answer.
@@ -176,7 +191,7 @@ pub fn compared(answer: &Result<Outcome, u8>) -> Compared {
     match *answer {
         Err(refusal) => Compared { refusal, ..zero },
         Ok(Outcome::Refines { cleared }) => Compared {
-            kind: 1,
+            kind: REFINES,
             cleared,
             ..zero
         },
@@ -184,14 +199,14 @@ pub fn compared(answer: &Result<Outcome, u8>) -> Compared {
             d, cleared, named, ..
         }) => match named {
             Named::Stray(event) => Compared {
-                kind: 2,
+                kind: STRAY,
                 d,
                 cleared,
                 event,
                 ..zero
             },
             Named::Refused { probe, acceptance } => Compared {
-                kind: 3,
+                kind: REFUSAL,
                 d,
                 cleared,
                 probe,
@@ -218,7 +233,7 @@ pub fn step_numbers(sheet: &Sheet, record: &Record, code: u16) -> Stepped {
 }
 
 /// The verdict in numbers.
-pub fn judge_numbers(reference: &Sheet, device: &Sheet, k: u16, traces: u8) -> Said {
+pub fn judge_numbers(reference: &Sheet, device: &Sheet, k: u16, traces: u8) -> Judged {
     judged(verdict(reference, device, k, traces != 0))
 }
 

@@ -10,11 +10,12 @@ use Rattle.tests_spec.specs.declared.Report.{Report}
 use Rattle.tests_spec.specs.declared.Report.the-variants.{Event, Blocked}
 use Rattle.tests_spec.specs.declared.Stepped.{Stepped}
 use Rattle.tests_spec.specs.Numbers.{Said, said}
-use Rattle.verdicts_spec.specs.Numbers.{Suited}
+use Rattle.verdicts_spec.specs.Numbers.{Judgement, Suited}
 use Rattle.comparison_spec.specs.Numbers.{Compared}
 use Rattle.edge.specs.declared.BenchListed.{BenchListed}
 use Rattle.edge.specs.declared.BenchSaid.{BenchSaid}
 use Rattle.edge.specs.declared.BenchStepped.{BenchStepped}
+use Rattle.edge.specs.declared.BenchJudged.{BenchJudged}
 use Rattle.edge.specs.declared.BenchSuited.{BenchSuited}
 use Rattle.edge.specs.declared.BenchCompared.{BenchCompared}
 
@@ -22,7 +23,7 @@ use Rattle.edge.specs.declared.BenchCompared.{BenchCompared}
 unfoldable pub listedFlat : ℕ × ℕ → BenchListed
 listedFlat a = record { refusal = a .0; count = a .1 }
 
--- the numbers of an answer to an opening or a report, or of a verdict
+-- the numbers of an answer to an opening or a report
 unfoldable pub saidFlat : Said → BenchSaid
 saidFlat a = record { refusal = a .refusal; kind = a .kind; value = a .value }
 
@@ -33,6 +34,10 @@ reportFlat x = cond (ltb x 256) (Event x) Blocked
 -- an answer in numbers, and the record beside it
 abbrev pub steppedFlat : Stepped → BenchStepped
 steppedFlat z = record { answer = saidFlat (said (z .answer)); run = z .run }
+
+-- the numbers of a verdict
+unfoldable pub judgedFlat : Judgement → BenchJudged
+judgedFlat a = record { refusal = a .refusal; kind = a .kind }
 
 -- the numbers of the answer on all tests
 unfoldable pub suitedFlat : Suited → BenchSuited

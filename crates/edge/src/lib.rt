@@ -16,7 +16,7 @@ ghost use Rattle.verdicts_spec.specs.Numbers.{suited};
 ghost use Rattle.comparison_spec.specs.declared.Outcome.the-variants.{Denied};
 ghost use Rattle.comparison_spec.specs.Comparison.{outcomeOf, traceAfter, workAfter};
 ghost use Rattle.comparison_spec.specs.Numbers.{compared};
-ghost use Rattle.edge.specs.Flat.{reportFlat, listedFlat, saidFlat, steppedFlat, suitedFlat, comparedFlat};
+ghost use Rattle.edge.specs.Flat.{reportFlat, listedFlat, saidFlat, steppedFlat, judgedFlat, suitedFlat, comparedFlat};
 use comparison_spec::Outcome;
 use probes_spec::Listed;
 use sheet_spec::ReadSheet;
@@ -132,29 +132,6 @@ fn said_flat(a: Answer) -> BenchSaid
     }
 }
 
-// The numbers of a verdict.
-fn judged_flat(a: Verdict) -> BenchSaid
-    ensures { λ r. ⌜ r ≡ saidFlat (judged a) ⌝ }
-{
-    match a {
-        Verdict::Passes => BenchSaid {
-            refusal: 0,
-            kind: 1,
-            value: 0,
-        },
-        Verdict::Fails => BenchSaid {
-            refusal: 0,
-            kind: 2,
-            value: 0,
-        },
-        Verdict::Denied(m) => BenchSaid {
-            refusal: m,
-            kind: 0,
-            value: 0,
-        },
-    }
-}
-
 // The report that a number is: below 256 that event, else "blocked".
 fn report_flat(x: u16) -> Report
     ensures { λ r. ⌜ r ≡ reportFlat x ⌝ }
@@ -209,10 +186,44 @@ pub extern "C" fn bench_report(run: &mut Run, sheet: Sheet, report: u16) -> Benc
     said_flat(answer)
 }
 
+// ---- verdicts
+
+// A verdict in numbers: the refusal, 0 for none; the kind, 0 for a refusal, else the number of the verdict.
+#[repr(C)]
+pub struct BenchJudged {
+    pub refusal: u8,
+    pub kind: u8,
+}
+
+// The numbers of a verdict.
+fn judged_flat(a: Verdict) -> BenchJudged
+    ensures { λ r. ⌜ r ≡ judgedFlat (judged a) ⌝ }
+{
+    match a {
+        Verdict::Passes => BenchJudged {
+            refusal: 0,
+            kind: 11,
+        },
+        Verdict::Fails => BenchJudged {
+            refusal: 0,
+            kind: 12,
+        },
+        Verdict::Denied(m) => BenchJudged {
+            refusal: m,
+            kind: 0,
+        },
+    }
+}
+
 // The verdict on a device for test `k`, or the number of the refusal.
 #[no_mangle]
-pub extern "C" fn bench_judge(reference: Sheet, device: Sheet, k: u16, trace_only: u8) -> BenchSaid
-    ensures { λ r. ⌜ r ≡ saidFlat (judged (verdictOf (flag «trace_only») reference device k)) ⌝ }
+pub extern "C" fn bench_judge(
+    reference: Sheet,
+    device: Sheet,
+    k: u16,
+    trace_only: u8,
+) -> BenchJudged
+    ensures { λ r. ⌜ r ≡ judgedFlat (judged (verdictOf (flag «trace_only») reference device k)) ⌝ }
 {
     let verdict = verdicts::judge(reference, device, k, trace_only != 0);
     judged_flat(verdict)
@@ -241,8 +252,9 @@ fn suited_flat(a: Suite) -> BenchSuited
     }
 }
 
-// Judges tests 0 to p q - 1, trace-only if `trace_only` is not 0: writes 1 for "passes" or 2 for "fails" for each to
-// the front of the lent list and answers how many there are; or the number of the refusal, and the list is as it was.
+// Judges tests 0 to p q - 1, trace-only if `trace_only` is not 0: writes 11 for "passes" or 12 for "fails" for each
+// to the front of the lent list and answers how many there are; or the number of the refusal, and the list is as it
+// was.
 #[no_mangle]
 pub extern "C" fn bench_judge_all(
     reference: Sheet,
@@ -293,7 +305,7 @@ fn compared_flat(o: Outcome) -> BenchCompared
     match o {
         Outcome::Refines(c) => BenchCompared {
             refusal: 0,
-            kind: 1,
+            kind: 21,
             d: 0,
             cleared: c,
             event: 0,
@@ -302,7 +314,7 @@ fn compared_flat(o: Outcome) -> BenchCompared
         },
         Outcome::Stray(d, c, i) => BenchCompared {
             refusal: 0,
-            kind: 2,
+            kind: 22,
             d: d,
             cleared: c,
             event: i,
@@ -311,7 +323,7 @@ fn compared_flat(o: Outcome) -> BenchCompared
         },
         Outcome::Refusal(d, c, x, a) => BenchCompared {
             refusal: 0,
-            kind: 3,
+            kind: 23,
             d: d,
             cleared: c,
             event: 0,

@@ -3,7 +3,7 @@
 use std::mem::{offset_of, size_of};
 
 use model::faults::ReadAnswer;
-use model::numbers::{Compared, Listed, Record, Said, Stepped, Suited};
+use model::numbers::{Compared, Judged, Listed, Record, Said, Stepped, Suited};
 use model::sheet::{Row, Sheet};
 
 /// What reading answers, in the layout of C.
@@ -14,7 +14,7 @@ struct ReadSheet {
     sheet: Sheet,
 }
 
-// The places of each struct, as the C example states them.
+// The places of each struct, as the header states them.
 const _: () = assert!(size_of::<Row>() == 46);
 const _: () = assert!(offset_of!(Row, sets) == 12 && offset_of!(Row, c) == 44);
 const _: () = assert!(size_of::<Sheet>() == 1_474);
@@ -23,6 +23,7 @@ const _: () = assert!(size_of::<ReadSheet>() == 1_476);
 const _: () = assert!(offset_of!(ReadSheet, sheet) == 2);
 const _: () = assert!(size_of::<Listed>() == 4 && offset_of!(Listed, count) == 2);
 const _: () = assert!(size_of::<Suited>() == 4 && offset_of!(Suited, count) == 2);
+const _: () = assert!(size_of::<Judged>() == 2 && offset_of!(Judged, kind) == 1);
 const _: () = assert!(size_of::<Said>() == 4);
 const _: () = assert!(offset_of!(Said, kind) == 1 && offset_of!(Said, value) == 2);
 const _: () = assert!(size_of::<Record>() == 10);
@@ -41,7 +42,7 @@ extern "C" {
     fn bench_open(sheet: Sheet, k: u16, h: u16, traces: u8) -> Stepped;
     fn bench_step(sheet: Sheet, run: Record, report: u16) -> Stepped;
     fn bench_report(run: *mut Record, sheet: Sheet, report: u16) -> Said;
-    fn bench_judge(reference: Sheet, device: Sheet, k: u16, traces: u8) -> Said;
+    fn bench_judge(reference: Sheet, device: Sheet, k: u16, traces: u8) -> Judged;
     fn bench_judge_all(
         reference: Sheet,
         device: Sheet,
@@ -101,7 +102,7 @@ pub fn report(run: &mut Record, sheet: &Sheet, report: u16) -> Said {
 }
 
 /// The verdict on a device.
-pub fn judge(reference: &Sheet, device: &Sheet, k: u16, traces: u8) -> Said {
+pub fn judge(reference: &Sheet, device: &Sheet, k: u16, traces: u8) -> Judged {
     // Sound: everything is handed over by value.
     unsafe { bench_judge(*reference, *device, k, traces) }
 }

@@ -2,7 +2,7 @@
 
 use super::faults;
 use super::verdicts::{verdict_with, VerdictFault};
-use crate::numbers::{judged, Suited};
+use crate::numbers::{judged, Suited, FAILS, PASSES};
 use crate::sheet::{accept, Sheet};
 use crate::verdict::{admit_pair, verdicts, Verdict};
 
@@ -67,7 +67,7 @@ fn admit(fault: SuiteFault, reference: &Sheet, device: &Sheet, places: usize) ->
 fn written(fault: SuiteFault, verdict: Verdict) -> u8 {
     let kind = judged(Ok(verdict)).kind;
     if fault == SuiteFault::Exchanged {
-        3 - kind
+        PASSES + FAILS - kind
     } else {
         kind
     }
@@ -100,11 +100,11 @@ fn kinds(fault: SuiteFault, reference: &Sheet, device: &Sheet, trace_only: bool)
         _ => p * q,
     };
     for kind in kinds.iter_mut().skip(bound) {
-        *kind = 1;
+        *kind = PASSES;
     }
     if fault == SuiteFault::Nested {
-        let first = kinds.iter().position(|&kind| kind == 2).unwrap_or(p * q);
-        kinds[first..].fill(2);
+        let first = kinds.iter().position(|&kind| kind == FAILS).unwrap_or(p * q);
+        kinds[first..].fill(FAILS);
     }
     if fault == SuiteFault::OneShort {
         kinds.pop();

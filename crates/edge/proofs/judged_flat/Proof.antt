@@ -1,6 +1,6 @@
 use native.Mathlib.Omega.{arith}
 use Rattle.verdicts_spec.specs.Numbers.{judged}
-use Rattle.edge.specs.Flat.{saidFlat}
+use Rattle.edge.specs.Flat.{judgedFlat}
 use Rattle.edge.proofs.judged_flat.Statement.{statement}
 use Rattle.edge.proofs.judged_flat.Tie as tie
 
@@ -14,15 +14,15 @@ enum-known-a : tie.Need-enum-known-a
 enum-known-a c = omega arith
 
 returns : tie.Need-returns
-unfolding saidFlat judged
+unfolding judgedFlat judged
 returns c = rw (c .enum-told .given .1)
 
 returns-2 : tie.Need-returns-2
-unfolding saidFlat judged
+unfolding judgedFlat judged
 returns-2 c = rw (c .enum-told2 .given .1)
 
 returns-3 : tie.Need-returns-3
-unfolding saidFlat judged
+unfolding judgedFlat judged
 returns-3 c = rw (c .before .a .given .1)
 
 pub judged-flat-spec : {M : Type 1} → statement M

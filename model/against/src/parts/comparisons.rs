@@ -3,7 +3,7 @@
 //! sheets that are refused.
 
 use model::comparison::{MAX_WORDS, WORDS_A_PAIR};
-use model::numbers::{compare_numbers, compared, Compared};
+use model::numbers::{self, compare_numbers, compared, Compared};
 use model::planted::comparisons::{compare_with, CompareFault};
 use model::random::{deep_pair, length_around, pair, random_sheet, small_pair, work_length, Rng};
 use model::sheet::{check, Sheet};
@@ -193,10 +193,10 @@ fn count_lists(
 fn count(findings: &mut Findings, answer: &Compared, trace_only: bool) {
     findings.count(COMPARE, u64::from(answer.refusal));
     match (answer.kind, trace_only) {
-        (1, _) => findings.count(REFINES, u64::from(trace_only)),
-        (2, false) => findings.count(STRAYS, digits(answer.d)),
-        (2, true) => findings.count(TRACES, digits(answer.d)),
-        (3, _) => findings.count(REFUSALS, digits(answer.d)),
+        (numbers::REFINES, _) => findings.count(REFINES, u64::from(trace_only)),
+        (numbers::STRAY, false) => findings.count(STRAYS, digits(answer.d)),
+        (numbers::STRAY, true) => findings.count(TRACES, digits(answer.d)),
+        (numbers::REFUSAL, _) => findings.count(REFUSALS, digits(answer.d)),
         _ => {}
     }
 }

@@ -1,6 +1,7 @@
 //! All verdicts at once: every test of small and large pairs into lists of every length, and
 //! sheets that are refused.
 
+use model::numbers::{FAILS, PASSES};
 use model::planted::suites::{suite_with, SuiteFault};
 use model::random::{deep_pair, pair, random_sheet, small_pair, Rng};
 use model::sheet::Sheet;
@@ -107,9 +108,9 @@ fn judge(rng: &mut Rng, findings: &mut Findings, reference: &Sheet, device: &She
 
 /// No test fails, some fail, or some fail and a later one passes.
 fn failing(kinds: &[u8]) -> u64 {
-    match kinds.iter().position(|&kind| kind == 2) {
+    match kinds.iter().position(|&kind| kind == FAILS) {
         None => 0,
-        Some(first) if kinds[first..].contains(&1) => 2,
+        Some(first) if kinds[first..].contains(&PASSES) => 2,
         Some(_) => 1,
     }
 }

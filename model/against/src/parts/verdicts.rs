@@ -2,7 +2,7 @@
 //! and sheets and test numbers that are refused.
 
 use model::comparison::{compare, Outcome, MAX_WORDS};
-use model::numbers::{judge_numbers, judged};
+use model::numbers::{judge_numbers, judged, FAILS, PASSES};
 use model::planted::verdicts::{verdict_with, VerdictFault};
 use model::random::{deep_pair, pair, random_sheet, small_pair, Rng};
 use model::sheet::Sheet;
@@ -18,7 +18,7 @@ const JUDGE: &str = "judge, 0 judged or the refusal";
 const MINE: &str = "judge, the refusals of the reference";
 const THEIRS: &str = "judge, the refusals of the device";
 const BOTH: &str = "judge, both sheets refused with different numbers";
-const VERDICT: &str = "judged, 1 passes, 2 fails, 3 and 4 the same of trace-only tests";
+const VERDICT: &str = "judged, 11 passes, 12 fails, 13 and 14 the same of trace-only tests";
 const NUMBER: &str =
     "judged tests 0 (0), 1 to 9 (1), 10 to 99 (2), 100 to 999 (3), 1000 and more (4)";
 const SMALL: &str = "pairs whose tests below p q are all judged";
@@ -38,7 +38,7 @@ fn findings() -> Findings {
         (MINE, KEPT.to_vec()),
         (THEIRS, KEPT.to_vec()),
         (BOTH, vec![1]),
-        (VERDICT, vec![1, 2, 3, 4]),
+        (VERDICT, vec![11, 12, 13, 14]),
         (NUMBER, vec![0, 1, 2, 3, 4]),
         (SMALL, vec![1]),
         (LATER, vec![1]),
@@ -111,8 +111,8 @@ fn judge_all(
         findings.count(JUDGE, u64::from(model.refusal));
         findings.count(VERDICT, u64::from(model.kind) + 2 * u64::from(trace_only));
         findings.count(NUMBER, digits(k));
-        later |= failed && model.kind == 1;
-        failed |= model.kind == 2;
+        later |= failed && model.kind == PASSES;
+        failed |= model.kind == FAILS;
         catch(findings, VerdictFault::ALL, |fault| {
             judged(verdict_with(fault, reference, device, k, trace_only)) != ours
         });

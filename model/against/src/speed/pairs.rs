@@ -1,7 +1,7 @@
 //! Verdicts and comparisons over flat tables.
 
 use model::comparison::WORDS_A_PAIR;
-use model::numbers::{Compared, Said, Suited};
+use model::numbers::{Compared, Judged, Suited, PASSES, REFINES, REFUSAL, STRAY};
 use model::sheet::{MAX_EVENTS, MAX_NODES, NO_NODE};
 
 use super::runs::first_missed;
@@ -80,20 +80,16 @@ fn image(bits: &[u32; MAX_NODES], mut from: u32) -> u32 {
 }
 
 /// The verdict on a device.
-pub fn judge(reference: &Tables, device: &Tables, k: u16, traces: u8) -> Said {
+pub fn judge(reference: &Tables, device: &Tables, k: u16, traces: u8) -> Judged {
     let refusal = match pair_fault(reference, device) {
         0 if k > 1_023 => 14,
         number => number,
     };
     let kind = match refusal {
-        0 => 1 + u8::from(fails(reference, device, k, traces != 0)),
+        0 => PASSES + u8::from(fails(reference, device, k, traces != 0)),
         _ => 0,
     };
-    Said {
-        refusal,
-        kind,
-        value: 0,
-    }
+    Judged { refusal, kind }
 }
 
 /// The verdicts on all tests of a device, into a lent list.
@@ -111,7 +107,7 @@ pub fn judge_all(reference: &Tables, device: &Tables, traces: u8, out: &mut [u8]
     let mut layer = start();
     let mut failed = false;
     for place in &mut out[..tests] {
-        *place = 1 + u8::from(failed || hit(&layer, &late));
+        *place = PASSES + u8::from(failed || hit(&layer, &late));
         failed |= hit(&layer, &early);
         layer = next_layer(reference, &bits, &layer);
     }
@@ -248,7 +244,7 @@ pub fn compare(
         search.expand(reference, device, head);
         head += 1;
     }
-    answer(0, 1, 0, head)
+    answer(0, REFINES, 0, head)
 }
 
 /// The initials of every node.
@@ -268,14 +264,14 @@ fn named(search: &Search, place: usize, outside: u16, missed: impl Fn() -> (u16,
         let event = outside.trailing_zeros() as u8;
         return Compared {
             event,
-            ..answer(0, 2, d, cleared)
+            ..answer(0, STRAY, d, cleared)
         };
     }
     let (probe, acceptance) = missed();
     Compared {
         probe,
         acceptance,
-        ..answer(0, 3, d, cleared)
+        ..answer(0, REFUSAL, d, cleared)
     }
 }
 
