@@ -8,14 +8,6 @@
 
 #include "bench.h"
 
-/* The library and this program agree on the places of each struct. */
-_Static_assert(sizeof(struct bench_row) == 46, "12 bytes, 16 words, a byte, and one byte to the next word");
-_Static_assert(offsetof(struct bench_row, sets) == 12 && offsetof(struct bench_row, c) == 44, "a row");
-_Static_assert(sizeof(struct bench_sheet) == 1474, "32 rows and two bytes");
-_Static_assert(offsetof(struct bench_sheet, e) == 1472 && offsetof(struct bench_sheet, n) == 1473, "a sheet");
-_Static_assert(sizeof(struct bench_read_sheet) == 1476, "a byte, one byte to the next word, and a sheet");
-_Static_assert(offsetof(struct bench_read_sheet, sheet) == 2, "an answer");
-
 /* A reference of two nodes and two events. */
 static const uint8_t REFERENCE[19] = {
     0x00, 0x00, 0x00, 0x0F, 0x01, 0x02, 0x02, 0x01, 0x01, 0x02, 0x00, 0x01, 0x00, 0x02, 0x00, 0x00, 0x01, 0x00, 0x03,

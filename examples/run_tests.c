@@ -8,18 +8,6 @@
 
 #include "bench.h"
 
-/* The library and this program agree on the places of each struct. */
-_Static_assert(sizeof(struct bench_listed) == 4 && offsetof(struct bench_listed, count) == 2, "a probe list's answer");
-_Static_assert(sizeof(struct bench_said) == 4 && offsetof(struct bench_said, value) == 2, "an answer");
-_Static_assert(sizeof(struct bench_run) == 10 && offsetof(struct bench_run, traces) == 4, "a record");
-_Static_assert(offsetof(struct bench_run, ended) == 5 && offsetof(struct bench_run, node) == 6, "a record");
-_Static_assert(offsetof(struct bench_run, depth) == 8, "a record");
-_Static_assert(sizeof(struct bench_stepped) == 14 && offsetof(struct bench_stepped, run) == 4,
-               "an answer and its record");
-_Static_assert(sizeof(struct bench_compared) == 12 && offsetof(struct bench_compared, event) == 6,
-               "a comparison's answer");
-_Static_assert(offsetof(struct bench_compared, probe) == 8, "a comparison's answer");
-
 /* A reference of two nodes and a device of three, with two events. */
 static const uint8_t REFERENCE[19] = {
     0x00, 0x00, 0x00, 0x0F, 0x01, 0x02, 0x02, 0x01, 0x01, 0x02, 0x00, 0x01, 0x00, 0x02, 0x00, 0x00, 0x01, 0x00, 0x03,
@@ -90,15 +78,16 @@ static void run_test(uint16_t h) {
 static void print_verdicts(uint8_t traces) {
     printf(traces ? "trace-only verdicts:" : "verdicts:");
     for (uint16_t k = 0; k < 7; k++) {
-        struct bench_said said = bench_judge(reference, device, k, traces);
-        printf(" %d %s", k, said.kind == BENCH_PASSES ? "passes" : said.kind == BENCH_FAILS ? "fails" : "denied");
+        struct bench_judged judged = bench_judge(reference, device, k, traces);
+        printf(" %d %s", k,
+               judged.kind == BENCH_PASSES ? "passes" : judged.kind == BENCH_FAILS ? "fails" : "denied");
     }
     printf("\n");
 }
 
 /* All verdicts at once, into a list of so many places. */
 static void print_suite(uint8_t traces, size_t places) {
-    uint8_t list[8];
+    uint8_t list[BENCH_TESTS];
     memset(list, 7, sizeof list);
     struct bench_suited suited = bench_judge_all(reference, device, traces, list, places);
     printf("all verdicts with %zu places: refusal %d count %d, list", places, suited.refusal, suited.count);
@@ -111,8 +100,8 @@ static void print_suite(uint8_t traces, size_t places) {
 /* A comparison with lists of so many places. */
 static void print_comparison(const char *what, const struct bench_sheet *other, uint8_t traces, size_t words,
                              size_t places) {
-    uint16_t work[20];
-    uint8_t trace[8];
+    uint16_t work[BENCH_WORK_WORDS];
+    uint8_t trace[BENCH_TRACE_BYTES];
     memset(work, 7, sizeof work);
     memset(trace, 7, sizeof trace);
     struct bench_compared answer = bench_compare(reference, *other, traces, work, words, trace, places);
@@ -123,7 +112,7 @@ static void print_comparison(const char *what, const struct bench_sheet *other, 
         printf(" %d", trace[place]);
     }
     int zeros = 0;
-    while (zeros < 20 && work[zeros] == 0) {
+    while (zeros < BENCH_WORK_WORDS && work[zeros] == 0) {
         zeros++;
     }
     printf(", %d words of the work list are 0\n", zeros);

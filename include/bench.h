@@ -1,5 +1,6 @@
 /* The dialogue bench: sheets, probes, tests and comparisons. The functions are those of the proved library libedge.a,
- * which `rt staticlib edge` writes below target/staticlib; it needs nothing but the C library.
+ * which `rt staticlib edge` writes below target/staticlib. It is for Linux on x86-64 and needs nothing but the C
+ * library, of which it calls memcpy and memset alone: it takes no memory but the stack and what it is lent.
  *
  * An event is a number below E, a node a number below N. A set of events is a 16-bit number in which event i adds 2 to
  * the power i. Every content of what is lent or handed over is answered, so no call has a condition on it. A call keeps
@@ -9,6 +10,11 @@
  * is false, every other value is true. Each call checks the sheets that it is handed again, the reference first, and
  * answers their refusals, 3 or 5 to 8, before its own. A call that is refused alters nothing, and every other part of
  * its answer is 0; only bench_step gives the record back as it came.
+ *
+ * The stack that a call needs, measured on worst cases and rounded up, in bytes, with the copies of the sheets that are
+ * handed over: bench_check 7,000; bench_read 9,000; bench_open 12,000; bench_step and bench_report 14,000; bench_list
+ * 17,000; bench_judge, bench_judge_all and bench_compare 20,000. The compiled library has no recursion, so no call needs
+ * more for larger sheets or longer traces.
  */
 #ifndef BENCH_H
 #define BENCH_H
@@ -20,8 +26,24 @@
 extern "C" {
 #endif
 
+/* The version of this header and the library. It grows by one with each change of a number, of a struct, of a call's
+ * arguments or of what a call answers; a new call alone does not change it. Before it was counted verdicts and
+ * comparisons had other kinds. */
+#define BENCH_VERSION 1
+
 /* The most events, nodes and sets of a node, and a successor place that has no successor. */
 enum { BENCH_EVENTS = 12, BENCH_NODES = 32, BENCH_SETS = 16, BENCH_NONE = 255 };
+
+/* Sizes that suffice for any sheets: the bytes of a sheet, the probes of a node (the words of the list of bench_list),
+ * the words of the work list and the bytes of the trace list of bench_compare, and the tests of a pair (the bytes of
+ * the list of bench_judge_all). */
+enum {
+    BENCH_SHEET_BYTES = 1447,
+    BENCH_PROBES = 4096,
+    BENCH_WORK_WORDS = 2048,
+    BENCH_TRACE_BYTES = 1023,
+    BENCH_TESTS = 1024
+};
 
 /* The refusals of a sheet. The first that applies is given, in the order of the numbers, each looked for in the whole
  * sheet; only 4 and 5 are found together, by position, in one walk from the front. */
@@ -109,19 +131,22 @@ struct bench_run {
     uint16_t depth;
 };
 
-/* The kinds of an answer to an opening or a report. */
+/* The kind of an answer that is a refusal, whichever call gives it; `refusal` has the number. Every other kind
+ * belongs to one sort of call: 1 to 10 to runs, 11 to 20 to verdicts, 21 to 30 to comparisons. Later calls take the
+ * next tens. */
+enum { BENCH_DENIED = 0 };
+
+/* The kinds of an answer to an opening or a report. 5 is kept for a run that ends inconclusive; no call answers it
+ * yet. */
 enum {
-    BENCH_DENIED = 0,  /* refused; the refusal has the number */
     BENCH_GOING = 1,   /* the run goes on; the value is the set that is offered next */
     BENCH_STRAY = 2,   /* ended, failed as stray; the value is the event */
     BENCH_REFUSED = 3, /* ended, failed as refused; the value is the set that was offered */
     BENCH_PASSED = 4   /* ended, passed; the value is 0 */
 };
 
-/* The kinds of a verdict; a refused one is BENCH_DENIED. Its value is 0. */
-enum { BENCH_PASSES = 1, BENCH_FAILS = 2 };
-
-/* An answer: the refusal, 0 for none; the kind; the event or set that comes with it, 0 where there is none. */
+/* An answer to an opening or a report: the refusal, 0 for none; the kind; the event or set that comes with it, 0 where
+ * there is none. */
 struct bench_said {
     uint8_t refusal;
     uint8_t kind;
@@ -149,10 +174,21 @@ struct bench_stepped bench_step(struct bench_sheet sheet, struct bench_run run, 
  * it as it was. */
 struct bench_said bench_report(struct bench_run *run, struct bench_sheet sheet, uint16_t report);
 
+/* The kinds of a verdict, which are also what the list of bench_judge_all holds. */
+enum {
+    BENCH_PASSES = 11, /* no run of the test against the device can end failed */
+    BENCH_FAILS = 12   /* some run of the test against the device can end failed, for some h */
+};
+
+/* A verdict: the refusal, 0 for none; the kind. */
+struct bench_judged {
+    uint8_t refusal;
+    uint8_t kind;
+};
+
 /* The verdict on a device for test k, trace-only if the flag `traces` is set. Handed over: copies of both sheets.
- * Answered: BENCH_PASSES, or BENCH_FAILS if some run of the test against the device can end failed for some h; or the
- * refusal (the reference's; the device's; 11; 14). */
-struct bench_said bench_judge(struct bench_sheet reference, struct bench_sheet device, uint16_t k, uint8_t traces);
+ * Answered: BENCH_PASSES or BENCH_FAILS; or the refusal (the reference's; the device's; 11; 14). */
+struct bench_judged bench_judge(struct bench_sheet reference, struct bench_sheet device, uint16_t k, uint8_t traces);
 
 /* What the call on all tests answers: the refusal, 0 for none, and how many tests were judged, 0 if it is refused. */
 struct bench_suited {
@@ -169,10 +205,9 @@ struct bench_suited bench_judge_all(struct bench_sheet reference, struct bench_s
 
 /* The kinds of a comparison's answer. */
 enum {
-    BENCH_NOT_COMPARED = 0,     /* refused; `refusal` has the number */
-    BENCH_REFINES = 1,          /* the device refines the reference */
-    BENCH_VIOLATES_STRAY = 2,   /* after the trace the device does `event`, which the reference does not */
-    BENCH_VIOLATES_REFUSAL = 3  /* after the trace the device may refuse the whole of `probe`, which the reference may
+    BENCH_REFINES = 21,         /* the device refines the reference */
+    BENCH_VIOLATES_STRAY = 22,  /* after the trace the device does `event`, which the reference does not */
+    BENCH_VIOLATES_REFUSAL = 23 /* after the trace the device may refuse the whole of `probe`, which the reference may
                                    not: its `acceptance` has no event of it */
 };
 
@@ -191,13 +226,42 @@ struct bench_compared {
 
 /* Compares a device of q nodes with a reference of p, by traces alone if the flag `traces` is set. Handed over: copies
  * of both sheets. Lent: `words` words from `work` on, of which 2 p q are needed, and `places` bytes from `trace` on, of
- * which p q - 1 are needed; 2,048 words and 1,023 bytes are enough for any two sheets. Answered: whether the device
- * refines the reference, or the nearest violation; then 2 p q words of the work list are 0 and its later words as they
- * were, and the d events of the trace, the least of its length by event number, stand at the front of the trace list
- * and its rest is as it was. Or the refusal (the reference's; the device's; 11; 12; 13), and both lists are as they
- * were. */
+ * which p q - 1 are needed; BENCH_WORK_WORDS and BENCH_TRACE_BYTES are enough for any two sheets. Answered: whether the
+ * device refines the reference, or the nearest violation; then 2 p q words of the work list are 0 and its later words
+ * as they were, and the d events of the trace, the least of its length by event number, stand at the front of the trace
+ * list and its rest is as it was. Or the refusal (the reference's; the device's; 11; 12; 13), and both lists are as
+ * they were. */
 struct bench_compared bench_compare(struct bench_sheet reference, struct bench_sheet device, uint8_t traces, uint16_t *work,
                                     size_t words, uint8_t *trace, size_t places);
+
+/* The places of each struct, on which the library and its callers agree, held where the compiler can: from C11 and from
+ * C++11 on. */
+#if defined(__cplusplus) && __cplusplus >= 201103L
+#define BENCH_HOLDS(fact) static_assert(fact, #fact)
+#elif defined(__STDC_VERSION__) && __STDC_VERSION__ >= 201112L
+#define BENCH_HOLDS(fact) _Static_assert(fact, #fact)
+#endif
+#ifdef BENCH_HOLDS
+BENCH_HOLDS(sizeof(struct bench_row) == 46);
+BENCH_HOLDS(offsetof(struct bench_row, sets) == 12 && offsetof(struct bench_row, c) == 44);
+BENCH_HOLDS(sizeof(struct bench_sheet) == 1474);
+BENCH_HOLDS(offsetof(struct bench_sheet, e) == 1472 && offsetof(struct bench_sheet, n) == 1473);
+BENCH_HOLDS(sizeof(struct bench_read_sheet) == 1476 && offsetof(struct bench_read_sheet, sheet) == 2);
+BENCH_HOLDS(sizeof(struct bench_listed) == 4 && offsetof(struct bench_listed, count) == 2);
+BENCH_HOLDS(sizeof(struct bench_run) == 10 && offsetof(struct bench_run, h) == 2);
+BENCH_HOLDS(offsetof(struct bench_run, traces) == 4 && offsetof(struct bench_run, ended) == 5);
+BENCH_HOLDS(offsetof(struct bench_run, node) == 6 && offsetof(struct bench_run, depth) == 8);
+BENCH_HOLDS(sizeof(struct bench_said) == 4);
+BENCH_HOLDS(offsetof(struct bench_said, kind) == 1 && offsetof(struct bench_said, value) == 2);
+BENCH_HOLDS(sizeof(struct bench_stepped) == 14 && offsetof(struct bench_stepped, run) == 4);
+BENCH_HOLDS(sizeof(struct bench_judged) == 2 && offsetof(struct bench_judged, kind) == 1);
+BENCH_HOLDS(sizeof(struct bench_suited) == 4 && offsetof(struct bench_suited, count) == 2);
+BENCH_HOLDS(sizeof(struct bench_compared) == 12 && offsetof(struct bench_compared, kind) == 1);
+BENCH_HOLDS(offsetof(struct bench_compared, d) == 2 && offsetof(struct bench_compared, cleared) == 4);
+BENCH_HOLDS(offsetof(struct bench_compared, event) == 6 && offsetof(struct bench_compared, probe) == 8);
+BENCH_HOLDS(offsetof(struct bench_compared, acceptance) == 10);
+#undef BENCH_HOLDS
+#endif
 
 #ifdef __cplusplus
 }

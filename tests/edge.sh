@@ -1,11 +1,22 @@
 #!/bin/sh
-# The library for C: builds it, compiles the examples with every warning an error, runs them and compares what they
-# write, and holds the functions of the header against the library's.
+# The library for C: builds it, compiles the header alone, in C and C++, and the examples with every warning an error,
+# runs these and compares what they write, and holds the functions of the header against the library's.
 set -eu
 cd "$(dirname "$0")/.."
 
 sh tests/archive
 mkdir -p target/examples
+
+# The header has all that it needs, in C before and after its asserts of the layout; in C++ where gcc has it.
+echo "edge: include/bench.h"
+for standard in c99 c11; do
+    gcc -x c -std=$standard -Wall -Wextra -Werror -pedantic -fsyntax-only include/bench.h
+done
+if echo | gcc -x c++ -fsyntax-only - 2> /dev/null; then
+    for standard in c++98 c++11; do
+        gcc -x c++ -std=$standard -Wall -Wextra -Werror -fsyntax-only include/bench.h
+    done
+fi
 
 for source in examples/*.c; do
     name=$(basename "$source" .c)
