@@ -13,8 +13,8 @@
  *
  * The stack that a call needs, measured on worst cases and rounded up, in bytes, with the copies of the sheets that are
  * handed over: bench_check 7,000; bench_read 9,000; bench_open 12,000; bench_step and bench_report 14,000; bench_list
- * 17,000; bench_judge, bench_judge_all and bench_compare 20,000. The compiled library has no recursion, so no call needs
- * more for larger sheets or longer traces.
+ * 17,000; bench_judge, bench_judge_all and bench_compare 20,000. The compiled library has no recursion, so no call
+ * needs more for larger sheets or longer traces.
  */
 #ifndef BENCH_H
 #define BENCH_H
