@@ -103,7 +103,10 @@ fn kinds(fault: SuiteFault, reference: &Sheet, device: &Sheet, trace_only: bool)
         *kind = PASSES;
     }
     if fault == SuiteFault::Nested {
-        let first = kinds.iter().position(|&kind| kind == FAILS).unwrap_or(p * q);
+        let first = kinds
+            .iter()
+            .position(|&kind| kind == FAILS)
+            .unwrap_or(p * q);
         kinds[first..].fill(FAILS);
     }
     if fault == SuiteFault::OneShort {
