@@ -31,11 +31,10 @@ use Rattle.verdicts_spec.specs.VerdictLaws.{fails-means, verdict-means, verdict
 use Rattle.verdicts_spec.specs.TestLaws.{verdicts-complete, first-failing, single-test}
 use Rattle.comparison_spec.specs.declared.Outcome.{Outcome}
 use Rattle.comparison_spec.specs.declared.Outcome.the-variants.{Refines, Stray, Refusal, Denied}
-use Rattle.comparison_spec.specs.Comparison.{pairCount, nearest, nearestTrace, comparisonOf, compareFault, outcomeOf, traceAfter}
+use Rattle.comparison_spec.specs.Comparison.{pairCount, nearest, nearestTrace, comparisonOf, compareFault, outcomeOf, traceAfter, traceOf}
 use Rattle.comparison_spec.specs.Numbers.{compared}
 use Rattle.comparison_spec.specs.Meaning.{ReachedBefore, ReachedEver, Number, Nearest, FirstRefused, Describes, refines, stray, refusal}
 use Rattle.comparison_spec.specs.ComparisonLaws.{trace-length, nearest-below, nearest-only, refines-nearest}
-use Rattle.comparison_spec.specs.OutcomeLaws.{traceOf}
 use Rattle.comparison_spec.specs.AnswerLaws.{outcome-describes}
 use Rattle.comparison_spec.specs.CallLaws.{compare-0, compare-fits, given-outcome, given-trace}
 use Rattle.claim.specs.Claim.{Accepted, LongEnough, Witness, by-stray, by-refusal, Reports, stray-reports, refusal-reports, Violated, AllJudged, Demand3}

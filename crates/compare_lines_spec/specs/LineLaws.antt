@@ -7,9 +7,8 @@ use Prim.Native.Nat.{ℕ, suc, _≤_, _<_}
 use native.Mathlib.Omega.{arith}
 use lib.ListN.{length, getD, take, drop, length-append, List·getD-append}
 use lib.Seq.{take-at, drop-append-seam}
-use Rattle.text_spec.specs.Lines.{ascii, decimal, numberLine, sheetLine}
+use Rattle.text_spec.specs.Lines.{ascii, decimal, numberLine, sheetLine, valueFrom}
 use Rattle.text_spec.specs.DecimalLaws.{decimal-value, decimal-some, decimal-digits}
-use Rattle.text_spec.specs.Lines.{valueFrom}
 use Rattle.compare_lines_spec.specs.Lines.{violatesLine}
 
 -- texts that begin alike go on alike

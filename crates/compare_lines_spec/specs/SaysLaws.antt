@@ -31,7 +31,7 @@ use Rattle.claim.specs.Claim.{LongEnough, Reports, stray-reports, refusal-repor
 use Rattle.claim.specs.Theorem.{claim}
 use Rattle.text_spec.specs.Lines.{ascii, numberLine, sheetLine}
 use Rattle.text_pair_spec.specs.ProgramLaws as text
-use Rattle.text_pair_spec.specs.ProgramLaws.{reference, device}
+use Rattle.text_pair_spec.specs.Program.{reference, device}
 use Rattle.text_pair_spec.specs.BackToBack.{BackToBack}
 use Rattle.text_pair_spec.specs.BackToBackLaws.{begins-read, reference-accepted, both-exactly, pair-text, begins-text}
 use Rattle.compare_lines_spec.specs.Lines.{violatesLine, traceLine, refusedProbeLine, outcomeLines}

@@ -12,10 +12,10 @@ use Rattle.sheet_spec.specs.Sound.{Sound}
 use Rattle.sheet_spec.specs.SoundLaws.{check-sound}
 use Rattle.comparison_spec.specs.declared.Outcome.{Outcome}
 use Rattle.comparison_spec.specs.declared.Outcome.the-variants.{Refines}
-use Rattle.comparison_spec.specs.Comparison.{pairCount, nearest, nearestTrace, clearedOf, compareFault, outcomeOf, traceAfter}
+use Rattle.comparison_spec.specs.Comparison.{pairCount, nearest, nearestTrace, clearedOf, compareFault, outcomeOf, traceAfter, traceOf}
 use Rattle.comparison_spec.specs.Meaning.{Describes}
 use Rattle.comparison_spec.specs.ComparisonLaws.{trace-length}
-use Rattle.comparison_spec.specs.OutcomeLaws.{traceOf, comparison-describes, describes-only, comparison-self}
+use Rattle.comparison_spec.specs.OutcomeLaws.{comparison-describes, describes-only, comparison-self}
 use Rattle.comparison_spec.specs.CallLaws.{compare-fits, given-outcome, given-trace}
 
 -- a sheet that is not refused, compared with itself with lists that are long enough, refines

@@ -2,7 +2,7 @@
 -- device; `traceOnly` counts strays alone. What these definitions mean is said in Meaning; ComparisonLaws, OutcomeLaws
 -- and CallLaws tie the two.
 use mathlib.Core.Bool.{Bool, _&&_, cond}
-use mathlib.Core.List.{List}
+use mathlib.Core.List.{List, []}
 use Prim.Native.Nat.{ℕ, _-_, _*_}
 use lib.Dec.{eqb, ltb, leb}
 use lib.ListN.{length, replicate}
@@ -37,6 +37,10 @@ nearest traceOnly P Q = pairDistance (graph P) (graph Q) (violating traceOnly P 
 -- number, first difference deciding
 unfoldable pub nearestTrace : Bool → Sheet → Sheet → List ℕ
 nearestTrace traceOnly P Q = pairTrace (graph P) (graph Q) (violating traceOnly P Q)
+
+-- the trace beside the answer: the nearest violation's, or none
+unfoldable pub traceOf : Bool → Sheet → Sheet → List ℕ
+traceOf traceOnly P Q = cond (ltb (nearest traceOnly P Q) (pairCount P Q)) (nearestTrace traceOnly P Q) []
 
 -- "cleared", the product states nearer than d: the number of different pairs reached by common traces shorter than d;
 -- of all reached pairs if there is no violation

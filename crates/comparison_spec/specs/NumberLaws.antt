@@ -16,11 +16,10 @@ use Rattle.sheet_spec.specs.SoundLaws.{check-sound}
 use Rattle.refinement_spec.specs.Refinement.{Strays, ViolationIn, RefinesIn}
 use Rattle.comparison_spec.specs.declared.Outcome.{Outcome}
 use Rattle.comparison_spec.specs.declared.Outcome.the-variants.{Refines, Stray, Refusal}
-use Rattle.comparison_spec.specs.Comparison.{pairCount, nearest, nearestTrace, clearedOf, compareFault, outcomeOf}
+use Rattle.comparison_spec.specs.Comparison.{pairCount, nearest, nearestTrace, clearedOf, compareFault, outcomeOf, traceOf}
 use Rattle.comparison_spec.specs.Numbers.{Compared, compared}
 use Rattle.comparison_spec.specs.Meaning.{SmallestStray, FirstRefused, Describes, refines, stray, refusal}
 use Rattle.comparison_spec.specs.ComparisonLaws.{cleared-before, cleared-ever, nearest-below, nearest-only, refines-nearest}
-use Rattle.comparison_spec.specs.OutcomeLaws.{traceOf}
 use Rattle.comparison_spec.specs.CallLaws.{compare-0, denied-outcome}
 use Rattle.comparison_spec.specs.AnswerLaws.{outcome-describes}
 

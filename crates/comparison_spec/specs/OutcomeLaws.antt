@@ -26,14 +26,10 @@ use Rattle.refinement_spec.specs.PairLaws.{stray-means, firstStray-means, first
 use Rattle.refinement_spec.specs.RefinementLaws.{after-walk, after-unique, strays-at, violation-means, refines-self}
 use Rattle.comparison_spec.specs.declared.Outcome.{Outcome}
 use Rattle.comparison_spec.specs.declared.Outcome.the-variants.{Refines, Stray, Refusal}
-use Rattle.comparison_spec.specs.Comparison.{pairCount, nearest, nearestTrace, clearedOf, lastRow, refusalNamed, named, comparisonOf}
+use Rattle.comparison_spec.specs.Comparison.{pairCount, nearest, nearestTrace, traceOf, clearedOf, lastRow, refusalNamed, named, comparisonOf}
 use Rattle.comparison_spec.specs.Meaning.{ReachedBefore, ReachedEver, Number, SmallestStray, FirstRefusedAt, Describes, refines, stray, refusal}
 use Rattle.comparison_spec.specs.RefusedLaws.{refused→, refused←}
 use Rattle.comparison_spec.specs.ComparisonLaws.{cleared-before, cleared-ever, nearest-below, nearest-is, nearest-only, trace-violates, refines-nearest}
-
--- the trace beside the answer: the nearest violation's, or none
-unfoldable pub traceOf : Bool → Sheet → Sheet → List ℕ
-traceOf traceOnly P Q = cond (ltb (nearest traceOnly P Q) (pairCount P Q)) (nearestTrace traceOnly P Q) []
 
 -- a violation is a trace of both sheets
 pub violation-traces : (traceOnly : Bool) (P Q : Sheet) (t : List ℕ) → ViolationIn traceOnly P Q t → Trace P t × Trace Q t

@@ -17,6 +17,7 @@ use Rattle.base.specs.Range.{all→, all←, not-all, least}
 use Rattle.events.specs.Bit.{bit, bit≤1, bit-and, bit-one, bit-other, bit-drop, bit-keep, bit-le, bits-ext, Within, Apart, within-le, within-antisym}
 use Rattle.events.specs.Sets.{inside, meets, inside→, inside←, meets→, meets←, meets-not}
 use Rattle.probes_spec.specs.Probes.{hits, isProbe, Hits, Probe}
+use Rattle.probes_spec.specs.Shapes.{Alone}
 
 module _ (accs : List ℕ) where
   pub hits→ : (X : ℕ) → hits accs X ≡ true → Hits accs X
@@ -65,13 +66,9 @@ module _ (accs : List ℕ) where
       small Z w g (inl e) = e
       small Z w g (inr l) = absurd (clash (and-i (hits← Z g) (inside← Z X (λ i. omega (arith, w i, within i)))) (m .3 Z l))
 
-  -- event i is the only one that X has in common with some acceptance
-  abbrev pub Alone : ℕ → ℕ → Type 0
-  Alone X i = (j : ℕ) × (j < length accs) × (bitAnd (getD accs j 0) X ≡ 2 ^ i)
-
   -- a hitting set each of whose events is alone in the meeting with some acceptance is minimal: whatever hits inside it
   -- has that event
-  pub alone→probe : (X : ℕ) → Hits accs X → ((i : ℕ) → bit X i ≡ 1 → Alone X i) → Probe accs X
+  pub alone→probe : (X : ℕ) → Hits accs X → ((i : ℕ) → bit X i ≡ 1 → Alone accs X i) → Probe accs X
   alone→probe X h k = record { hits = h; minimal = λ Y w g. within-antisym Y X w (λ i. back Y w g i (ℕ-discrete (bit X i) 1)) }
     where
       back : (Y : ℕ) → Within Y X → Hits accs Y → (i : ℕ) → Dec (bit X i ≡ 1) → bit X i ≤ bit Y i
@@ -87,7 +84,7 @@ module _ (accs : List ℕ) where
           pick l b y (no s) = absurd (omega (arith, bit-other i l s))
 
   -- in a probe every event is alone in the meeting with some acceptance: without it this acceptance would be missed
-  pub probe→alone : (X : ℕ) → Probe accs X → (i : ℕ) → bit X i ≡ 1 → Alone X i
+  pub probe→alone : (X : ℕ) → Probe accs X → (i : ℕ) → bit X i ≡ 1 → Alone accs X i
   probe→alone X p i e = go (dec (hits accs (X - 2 ^ i)))
     where
       smaller : Within (X - 2 ^ i) X
@@ -115,6 +112,6 @@ module _ (accs : List ℕ) where
           pick m (yes s) = omega (arith, bit-and m A X, ap (bit A) s, ap (bit X) s, ap (bit (2 ^ i)) s, bit-one i, hit, e)
           pick m (no s) = omega (arith, bit-and m A X, bit-other i m s, bit-keep i m X e s, z m, bit≤1 A m, bit≤1 X m)
 
-      go : (hits accs (X - 2 ^ i) ≡ true) ⊎ (hits accs (X - 2 ^ i) ≡ false) → Alone X i
+      go : (hits accs (X - 2 ^ i) ≡ true) ⊎ (hits accs (X - 2 ^ i) ≡ false) → Alone accs X i
       go (inl t) = absurd (omega (arith, bit-le i X e, pow-pos i, p .minimal (X - 2 ^ i) smaller (hits→ (X - 2 ^ i) t)))
       go (inr t) = let w = hits-not (X - 2 ^ i) t in (w .0, w .1, only (w .0) (w .1) (w .2))

@@ -15,8 +15,8 @@ use Rattle.base.specs.Truth.{same}
 use Rattle.base.specs.Gather.{gather, select}
 use Rattle.events.specs.Bit.{bit, bit·zero, bit·suc, bit≤1, bit-and, bit-or, bit-one, bit-other, bit-high, bits-zero, bits-ext, Within, apart-and, common, meet}
 use Rattle.probes_spec.specs.Probes.{isProbe, probes, Hits, Probe}
-use Rattle.probes_spec.specs.HitLaws.{isProbe→, isProbe←, Alone, alone→probe, probe→alone}
-use Rattle.probes_spec.specs.Shapes.{lone, onePass, candidateCount, candidate, listed}
+use Rattle.probes_spec.specs.HitLaws.{isProbe→, isProbe←, alone→probe, probe→alone}
+use Rattle.probes_spec.specs.Shapes.{Alone, lone, onePass, candidateCount, candidate, listed}
 
 -- ---- a set and its predecessor have no event in common exactly if the set has at most one event
 

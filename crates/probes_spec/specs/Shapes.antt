@@ -1,11 +1,17 @@
--- Nothing to believe: the shapes of loops. The code's test of one set in a single pass, and the candidates that its
--- loops look at, which are all sets; laws join them to Probes.
+-- Nothing to believe: the shapes of loops. The code's test of one set in a single pass, when it succeeds, and the
+-- candidates that its loops look at, which are all sets; laws join them to Probes.
+use mathlib.Core.Path.{_≡_}
 use mathlib.Core.Bool.{Bool, false, cond}
 use mathlib.Core.List.{List, [], _∷_}
-use Prim.Native.Nat.{ℕ, zero, suc, _-_, _^_}
+use Prim.Native.Nat.{ℕ, zero, suc, _-_, _^_, _<_}
 use lib.Dec.{eqb}
 use lib.Bits.{bitAnd, bitOr}
+use lib.ListN.{length, getD}
 use Rattle.probes_spec.specs.Probes.{isProbe}
+
+-- event i is the only one that X has in common with some acceptance
+abbrev pub Alone : List ℕ → ℕ → ℕ → Type 0
+Alone accs X i = (j : ℕ) × (j < length accs) × (bitAnd (getD accs j 0) X ≡ 2 ^ i)
 
 -- y where it has at most one event, else the empty set
 unfoldable pub lone : ℕ → ℕ

@@ -15,8 +15,7 @@ use Rattle.sheet_spec.specs.declared.Sheet.{Sheet}
 use Rattle.sheet_spec.specs.Kept.{row, successor, acceptance, Initial, step, graph}
 use Rattle.sheet_spec.specs.RuleLaws.{Walk→, Walk←}
 use Rattle.sheet_spec.specs.Sound.{Sound}
-use Rattle.refinement_spec.specs.Refinement.{After, Trace, Does, MayRefuse, Refuses, Strays, Overrefuses}
-use Rattle.refinement_spec.specs.Refinement.{Violation, Refines, TraceViolation, TraceRefines, ViolationIn, RefinesIn}
+use Rattle.refinement_spec.specs.Refinement.{After, Trace, Does, MayRefuse, Refuses, Strays, Overrefuses, Violation, Refines, TraceViolation, TraceRefines, ViolationIn, RefinesIn}
 use Rattle.refinement_spec.specs.ViolatingPairs.{hasStray, hasRefusal, violating}
 use Rattle.refinement_spec.specs.PairLaws.{stray-means, no-refusal-refuses, refused-refusal, refusal-set, violates-means}
 

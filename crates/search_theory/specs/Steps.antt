@@ -17,8 +17,7 @@ use Rattle.base.specs.Range.{first-is, first-none}
 use Rattle.walks.specs.Graph.{Graph}
 use Rattle.walks.specs.Product.{product}
 use Rattle.search_theory.specs.Tables.{tableGraph, tablePairs, next-both, next-none}
-use Rattle.search_theory.specs.Words.{wordsFor, St, st, nodeAt, linkAt, visited, tried, scanned, Running, tail-le, Stepped, entry-kept}
-use Rattle.search_theory.specs.Words.{VisitOk, visit-ok, scan-kept, running-next, running-start, put, none, LevelIs, level-grows, level-next}
+use Rattle.search_theory.specs.Words.{wordsFor, St, st, nodeAt, linkAt, visited, tried, scanned, Running, tail-le, Stepped, entry-kept, VisitOk, visit-ok, scan-kept, running-next, running-start, put, none, LevelIs, level-grows, level-next}
 use Rattle.search_theory.specs.Queue.{linkOf, levelStart}
 use Rattle.search_theory.specs.Found.{Ended}
 

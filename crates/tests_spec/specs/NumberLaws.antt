@@ -14,8 +14,7 @@ use Rattle.tests_spec.specs.declared.Report.{Report}
 use Rattle.tests_spec.specs.declared.Report.the-variants.{Event, Blocked}
 use Rattle.tests_spec.specs.Runs.{offerOf, newRun, openFault, openOf, reportFault, stepOf}
 use Rattle.tests_spec.specs.Numbers.{Said, said}
-use Rattle.tests_spec.specs.RunLaws.{open-going, open-denied, step-denied, stray-step, moving-step, passing-step, blocked-passes, blocked-refused}
-use Rattle.tests_spec.specs.RunLaws.{taken}
+use Rattle.tests_spec.specs.RunLaws.{open-going, open-denied, step-denied, stray-step, moving-step, passing-step, blocked-passes, blocked-refused, taken}
 use Rattle.tests_spec.specs.Reports.{Moving, Straying, Refusing, Passing, Taken, denies, moves, strays, refuses, passes}
 
 -- ---- an opening

@@ -12,18 +12,17 @@ use Rattle.base.specs.Truth.{lt-or-ge}
 use Rattle.sheet_spec.specs.declared.Sheet.{Sheet}
 use Rattle.sheet_spec.specs.declared.ReadSheet.{ReadSheet}
 use Rattle.sheet_spec.specs.Form.{Bytes}
-use Rattle.sheet_spec.specs.Reading.{readSheet}
+use Rattle.sheet_spec.specs.Reading.{readSheet, accepted}
 use Rattle.sheet_spec.specs.Encoding.{encode}
 use Rattle.sheet_spec.specs.AnswerLaws.{read-refusal}
 use Rattle.sheet_spec.specs.EncodingLaws.{reads→, read-back, accepted-exactly, encode-length}
-use Rattle.sheet_spec.specs.Reading.{accepted}
 use Rattle.text_spec.specs.Lines.{ascii, numberLine, sheetLine}
 use Rattle.text_spec.specs.Input.{cutInput}
 use Rattle.text_spec.specs.InputLaws.{cut-short}
 use Rattle.text_pair_spec.specs.Split.{firstEnd, firstSheet, secondSheet}
 use Rattle.text_pair_spec.specs.SplitLaws.{split-whole, split-accepted}
-use Rattle.text_pair_spec.specs.Program.{Findings, pairText}
-use Rattle.text_pair_spec.specs.ProgramLaws.{reference, device, device-refused, both-accepted}
+use Rattle.text_pair_spec.specs.Program.{Findings, pairText, reference, device}
+use Rattle.text_pair_spec.specs.ProgramLaws.{device-refused, both-accepted}
 use Rattle.text_pair_spec.specs.BackToBack.{AcceptedSheet, Begins, BackToBack}
 
 -- a part of bytes is bytes

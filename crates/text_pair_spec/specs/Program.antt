@@ -36,3 +36,11 @@ inputLines findings input = sheetsLines findings (readSheet (firstSheet input)) 
 -- all lines for any input, of which no more than 4,096 bytes count
 unfoldable pub pairText : Findings → List ℕ → List ℕ
 pairText findings input = inputLines findings (cutInput input)
+
+-- the reference of an input, as it is read
+abbrev pub reference : List ℕ → ReadSheet
+reference input = readSheet (firstSheet (cutInput input))
+
+-- the device of an input, as it is read
+abbrev pub device : List ℕ → ReadSheet
+device input = readSheet (secondSheet (cutInput input))

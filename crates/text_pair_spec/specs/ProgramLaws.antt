@@ -11,7 +11,6 @@ use lib.Dec.{eqb}
 use lib.ListN.{length, length-append}
 use borrow.Author.Tests.{eqb-true, eq-eqb, ne-eqb}
 use Rattle.sheet_spec.specs.declared.Sheet.{Sheet}
-use Rattle.sheet_spec.specs.declared.ReadSheet.{ReadSheet}
 use Rattle.sheet_spec.specs.Refusals.{sheetFault}
 use Rattle.sheet_spec.specs.Reading.{readSheet}
 use Rattle.sheet_spec.specs.AnswerLaws.{read-refusal, read-kept}
@@ -22,7 +21,7 @@ use Rattle.text_spec.specs.Input.{cutInput}
 use Rattle.text_pair_spec.specs.Split.{firstSheet, secondSheet}
 use Rattle.text_spec.specs.InputLaws.{cut-more}
 use Rattle.text_spec.specs.LengthLaws.{number-length, sheet-length}
-use Rattle.text_pair_spec.specs.Program.{Findings, deviceLines, sheetsLines, inputLines, pairText}
+use Rattle.text_pair_spec.specs.Program.{Findings, deviceLines, sheetsLines, inputLines, pairText, reference, device}
 
 -- bytes behind 4,096 count as absent
 pub later-absent : (findings : Findings) (input more : List ℕ) → length input ≡ 4096 → pairText findings (input ++ more) ≡ pairText findings input
@@ -30,32 +29,24 @@ unfolding pairText
 later-absent findings input more h = ap (inputLines findings) (cut-more input more h)
 
 module _ (input : List ℕ) where
-  -- the reference of an input, as it is read
-  abbrev pub reference : ReadSheet
-  reference = readSheet (firstSheet (cutInput input))
-
-  -- the device of an input, as it is read
-  abbrev pub device : ReadSheet
-  device = readSheet (secondSheet (cutInput input))
-
   module _ (findings : Findings) where
     -- a refused reference: its refusal alone
-    pub reference-refused : reference .refusal ≢ 0 → pairText findings input ≡ numberLine (ascii "reference refused ") (reference .refusal)
+    pub reference-refused : reference input .refusal ≢ 0 → pairText findings input ≡ numberLine (ascii "reference refused ") (reference input .refusal)
     unfolding pairText inputLines sheetsLines
-    reference-refused n = rw (ne-eqb (reference .refusal) 0 n)
+    reference-refused n = rw (ne-eqb (reference input .refusal) 0 n)
 
-    module _ (h : reference .refusal ≡ 0) where
+    module _ (h : reference input .refusal ≡ 0) where
       -- an accepted reference and a refused device: the size of the one, the refusal of the other
-      pub device-refused : device .refusal ≢ 0
-          → pairText findings input ≡ sheetLine (ascii "reference ") (reference .sheet .n) (reference .sheet .e) ++ numberLine (ascii "device refused ") (device .refusal)
+      pub device-refused : device input .refusal ≢ 0
+          → pairText findings input ≡ sheetLine (ascii "reference ") (reference input .sheet .n) (reference input .sheet .e) ++ numberLine (ascii "device refused ") (device input .refusal)
       unfolding pairText inputLines sheetsLines deviceLines
-      device-refused n = rw (eq-eqb (reference .refusal) 0 h, ne-eqb (device .refusal) 0 n)
+      device-refused n = rw (eq-eqb (reference input .refusal) 0 h, ne-eqb (device input .refusal) 0 n)
 
       -- two accepted sheets: their sizes, and the findings
-      pub both-accepted : device .refusal ≡ 0
-          → pairText findings input ≡ sheetLine (ascii "reference ") (reference .sheet .n) (reference .sheet .e) ++ (sheetLine (ascii "device ") (device .sheet .n) (device .sheet .e) ++ findings (reference .sheet) (device .sheet))
+      pub both-accepted : device input .refusal ≡ 0
+          → pairText findings input ≡ sheetLine (ascii "reference ") (reference input .sheet .n) (reference input .sheet .e) ++ (sheetLine (ascii "device ") (device input .sheet .n) (device input .sheet .e) ++ findings (reference input .sheet) (device input .sheet))
       unfolding pairText inputLines sheetsLines deviceLines
-      both-accepted k = rw (eq-eqb (reference .refusal) 0 h, eq-eqb (device .refusal) 0 k)
+      both-accepted k = rw (eq-eqb (reference input .refusal) 0 h, eq-eqb (device input .refusal) 0 k)
 
 -- the length of the line of an accepted sheet
 line-length : (who b : List ℕ) → readSheet b .refusal ≡ 0 → length (sheetLine who (readSheet b .sheet .n) (readSheet b .sheet .e)) ≤ length who + 19

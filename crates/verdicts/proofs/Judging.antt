@@ -14,14 +14,13 @@ use Rattle.sheet_spec.specs.SoundLaws.{nodes-most, check-sound}
 use Rattle.verdicts_spec.specs.declared.Verdict.{Verdict}
 use Rattle.verdicts_spec.specs.declared.Verdict.the-variants.{Passes, Fails}
 use Rattle.verdicts_spec.specs.Verdicts.{failsFrom}
-use Rattle.verdicts_spec.specs.Numbers.{judged}
+use Rattle.verdicts_spec.specs.Numbers.{judged, suited}
 use Rattle.verdicts_spec.specs.VerdictLaws.{verdict-given}
 use Rattle.sheet_spec.specs.Kept.{sheetWith}
 use Rattle.verdicts_layers.specs.LayerShapes.{kindOf}
 use Rattle.verdicts_spec.specs.declared.Suite.{Suite}
 use Rattle.verdicts_spec.specs.declared.Suite.the-variants.{Judged, Denied}
 use Rattle.verdicts_spec.specs.Suites.{testCount, verdictNumber, suiteFault, suiteOf, verdictsAfter}
-use Rattle.verdicts_spec.specs.Numbers.{suited}
 use Rattle.verdicts_spec.specs.SuiteLaws.{suite-reference, suite-device, suite-11, suite-10, suite-fits, denied-suite, denied-verdicts, given-suite, given-verdicts, suited-refusal}
 use Rattle.verdicts_spec.specs.Complete.{none-refused}
 

@@ -18,9 +18,8 @@ use Rattle.sheet_spec.specs.Spelling.{lengthField, nextAt, startOf, succOf, set
 use Rattle.sheet_spec.specs.Examples.{exampleReference, exampleDevice, stopped, sheet}
 use Rattle.refinement_spec.specs.ViolatingPairs.{strays, hasStray, covers, hasRefusal, violates, violating}
 use Rattle.verdicts_spec.specs.Verdicts.{failsFrom, verdictFault, verdictOf}
-use Rattle.verdicts_spec.specs.Numbers.{judged}
+use Rattle.verdicts_spec.specs.Numbers.{judged, suited}
 use Rattle.verdicts_spec.specs.Suites.{testCount, verdictNumber, suiteFault, suiteOf, verdictsAfter}
-use Rattle.verdicts_spec.specs.Numbers.{suited}
 
 -- the example's reference against a device, with a list of some places that hold 9: the refusal, how many tests, and
 -- the list at exit

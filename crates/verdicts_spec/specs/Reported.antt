@@ -8,8 +8,7 @@ use Rattle.events.specs.Bit.{bit, setOf}
 use Rattle.events.specs.Sets.{inside, meets}
 use Rattle.walks.specs.Reach.{nearer, leads}
 use Rattle.sheet_spec.specs.Kept.{row, successor, acceptance, initials, step}
-use Rattle.sheet_spec.specs.Rules.{rangesOk, countOk, successorsOk, rowSuccessorsOk, successorOk, setsOk, rowSetsOk, setOk, ascends, noneInside}
-use Rattle.sheet_spec.specs.Rules.{reachedOk}
+use Rattle.sheet_spec.specs.Rules.{rangesOk, countOk, successorsOk, rowSuccessorsOk, successorOk, setsOk, rowSetsOk, setOk, ascends, noneInside, reachedOk}
 use Rattle.sheet_spec.specs.Reading.{readSheet, answer}
 use Rattle.sheet_spec.specs.Refusals.{headFault, layoutFault, graphFault, bytesFault}
 use Rattle.sheet_spec.specs.Spelling.{lengthField, nextAt, startOf, succOf, setsOf, rowAt, rowOf, sheetOf}

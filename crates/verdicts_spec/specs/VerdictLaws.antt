@@ -37,10 +37,8 @@ use Rattle.tests_spec.specs.Numbers.{said}
 use Rattle.verdicts_spec.specs.Numbers.{judged}
 use Rattle.tests_spec.specs.Offers.{offer-all, offer-below, offer-at, offer-outside}
 use Rattle.verdicts_spec.specs.Blocks.{stop-blocks, all-blocked, block-refusal, refusal-block}
-use Rattle.tests_spec.specs.RunLaws.{open-0, open-going}
+use Rattle.tests_spec.specs.RunLaws.{open-0, open-going, report-0, answer-of, run-of, kind-same, value-same, stray-step, moving-step, blocked-refused, taken}
 use Rattle.tests_spec.specs.Reports.{Beyond, NotOffered, WrongRecord, Taken, denies, moves, strays, refuses, passes}
-use Rattle.tests_spec.specs.RunLaws.{report-0, answer-of, run-of, kind-same, value-same}
-use Rattle.tests_spec.specs.RunLaws.{stray-step, moving-step, blocked-refused, taken}
 use Rattle.verdicts_spec.specs.FaultyPairs.{StopsAt, FailsOnward, fails-next}
 
 -- The refusals of a verdict.
