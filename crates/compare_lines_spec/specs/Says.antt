@@ -1,7 +1,7 @@
--- Nothing to believe: words for laws alone. Which text an input gets from `compare`, in words of bytes and sheets: what
--- is refused, else whether the device refines the reference, and if not, what demand 3 says of the violation. No list
--- is lent in it and no test is made. SaysLaws says that the program's text is so described, and no other. No contract
--- uses it.
+-- Nothing to believe: words for laws alone. Which text an input gets from `compare`, in words of bytes and sheets:
+-- which part is refused, and by what number of reading (its laws say when), else whether the device refines the
+-- reference, and if not, what demand 3 says of the violation. No list is lent in it. SaysLaws says that the program's
+-- text is so described, and no other. No contract uses it.
 use mathlib.Core.Path.{_≡_}
 use mathlib.Core.Logic.{_≢_}
 use mathlib.Core.Bool.{false}

@@ -1,11 +1,14 @@
 -- Nothing to believe: laws. The answer and the trace list of a call that is not refused: exactly what 01 describes.
-use mathlib.Core.Path.{_≡_, refl, sym, _∙_}
+use mathlib.Core.Path.{_≡_, refl, sym, ap, _∙_}
+use mathlib.Core.Logic.{_⊎_, inl, inr}
 use mathlib.Core.Bool.{Bool}
 use mathlib.Core.List.{List}
 use Prim.Native.Nat.{ℕ, _-_, _*_, _≤_, _<_}
-use lib.ListN.{length, take}
+use native.Mathlib.Omega.{arith}
+use lib.ListN.{length, getD, take}
 use borrow.Author.Tests.{lt-ltb}
-use Rattle.base.specs.Front.{atFront-taken}
+use Rattle.base.specs.Truth.{lt-or-ge}
+use Rattle.base.specs.Front.{atFront-taken, atFront-length, atFront-behind}
 use Rattle.sheet_spec.specs.declared.Sheet.{Sheet}
 use Rattle.sheet_spec.specs.Refusals.{sheetFault}
 use Rattle.sheet_spec.specs.Sound.{Sound}
@@ -16,7 +19,7 @@ use Rattle.comparison_spec.specs.Comparison.{pairCount, nearest, nearest
 use Rattle.comparison_spec.specs.Meaning.{Describes}
 use Rattle.comparison_spec.specs.ComparisonLaws.{trace-length}
 use Rattle.comparison_spec.specs.OutcomeLaws.{comparison-describes, describes-only, comparison-self}
-use Rattle.comparison_spec.specs.CallLaws.{compare-fits, given-outcome, given-trace}
+use Rattle.comparison_spec.specs.CallLaws.{compare-0, compare-fits, given-outcome, given-trace, given-no-trace}
 
 -- a sheet that is not refused, compared with itself with lists that are long enough, refines
 pub outcome-self : (traceOnly : Bool) (s : Sheet) → sheetFault s ≡ 0 → (work trace : List ℕ) → 2 * pairCount s s ≤ length work → pairCount s s - 1 ≤ length trace
@@ -33,6 +36,20 @@ module _ (traceOnly : Bool) (P Q : Sheet) (accP : sheetFault P ≡ 0) (accQ : sh
   -- the front of the trace list at exit is the trace
   front : nearest traceOnly P Q < pairCount P Q → take (nearest traceOnly P Q) (traceAfter traceOnly P Q work trace) ≡ nearestTrace traceOnly P Q
   front l = rw (given-trace P Q work trace traceOnly z l) (atFront-taken trace (nearestTrace traceOnly P Q) (trace-length op oq same traceOnly))
+
+  -- where there is a violation, behind its trace the list is as it was
+  pub trace-rest : nearest traceOnly P Q < pairCount P Q → (x : ℕ) → nearest traceOnly P Q ≤ x → getD (traceAfter traceOnly P Q work trace) x 0 ≡ getD trace x 0
+  trace-rest l x h = rw (given-trace P Q work trace traceOnly z l) (atFront-behind trace (nearestTrace traceOnly P Q) x 0 (omega (arith, trace-length op oq same traceOnly, h)))
+
+  -- the trace list keeps its length
+  pub trace-kept : length (traceAfter traceOnly P Q work trace) ≡ length trace
+  trace-kept = go (lt-or-ge (nearest traceOnly P Q) (pairCount P Q))
+    where
+      go : (nearest traceOnly P Q < pairCount P Q) ⊎ (pairCount P Q ≤ nearest traceOnly P Q) → length (traceAfter traceOnly P Q work trace) ≡ length trace
+      go (inl l) =
+          let o = compare-0 P Q work trace .0 z in
+          rw (given-trace P Q work trace traceOnly z l) (atFront-length trace (nearestTrace traceOnly P Q) (omega (arith, o .1, l, trace-length op oq same traceOnly)))
+      go (inr l) = ap length (given-no-trace P Q work trace traceOnly l)
 
   -- the answer, with the trace, is what 01 describes
   pub outcome-describes : Describes traceOnly P Q (outcomeOf traceOnly P Q work trace) (traceOf traceOnly P Q)

@@ -7,9 +7,9 @@ use Prim.Native.Nat.{ℕ, _+_, _-_, _*_, _≤_, _<_}
 use native.Mathlib.Omega.{arith}
 use lib.Dec.{eqb, leb}
 use lib.ListN.{length, getD, replicate, length-replicate, getD-replicate}
-use borrow.Author.Tests.{eq-eqb, ne-eqb, lt-ltb, le-ltb}
+use borrow.Author.Tests.{eqb-true, eq-eqb, ne-eqb, lt-ltb, le-ltb}
 use Rattle.base.specs.Finds.{finds-le}
-use Rattle.base.specs.Front.{atFront, atFront-before, atFront-behind}
+use Rattle.base.specs.Front.{atFront, atFront-length, atFront-before, atFront-behind}
 use Rattle.base.specs.Refusal.{unless, unless-hit, unless-pass, unless-none, unless-other}
 use Rattle.sheet_spec.specs.declared.Sheet.{Sheet}
 use Rattle.sheet_spec.specs.Refusals.{sheetFault, BothAccepted, Own, NotOwn}
@@ -128,3 +128,14 @@ module _ (P Q : Sheet) (work trace : List ℕ) where
 
     pub work-left : compareFault P Q work trace ≡ 0 → (x : ℕ) → getD (workAfter P Q work trace) (2 * pairCount P Q + x) 0 ≡ getD work (2 * pairCount P Q + x) 0
     work-left z x = rw (given-work z) (atFront-behind work (replicate (workWords P Q) 0) (workWords P Q + x) 0 (omega (arith, length-replicate {A = ℕ} (workWords P Q) 0)))
+
+    -- the work list keeps its length in every call
+    pub work-kept : length (workAfter P Q work trace) ≡ length work
+    unfolding workAfter
+    work-kept = go (eqb (compareFault P Q work trace) 0) refl
+      where
+        go : (b : Bool) → eqb (compareFault P Q work trace) 0 ≡ b → length (cond b (atFront work (replicate (workWords P Q) 0)) work) ≡ length work
+        go true e =
+            let o = compare-0 .0 (eqb-true (compareFault P Q work trace) 0 e) in
+            atFront-length work (replicate (workWords P Q) 0) (omega (arith, o .0 .1, length-replicate {A = ℕ} (workWords P Q) 0))
+        go false e = refl

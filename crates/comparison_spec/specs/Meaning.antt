@@ -1,5 +1,5 @@
--- What 01 says of a comparison's answer, with "for every" and "there is" and no test in it. OutcomeLaws says that the
--- answer of the definition is so described, and that nothing else is.
+-- What 01 says of a comparison's answer, with "for every" and "there is" and no test in it but the list of probes, of
+-- which one is named. OutcomeLaws says that the answer of the definition is so described, and that nothing else is.
 use mathlib.Core.Path.{_≡_}
 use mathlib.Core.Bool.{Bool}
 use mathlib.Core.List.{List, []}

@@ -3,6 +3,7 @@
 -- acceptances ascend. Of the order of the list of probes nothing is used.
 use mathlib.Core.Path.{_≡_, refl, sym, _∙_}
 use mathlib.Core.Logic.{_⊎_, inl, inr}
+use mathlib.Core.List.{List}
 use Prim.Native.Nat.{ℕ, _≤_, _<_}
 use native.Mathlib.Omega.{arith}
 use native.Mathlib.Nat.{eq-or-lt-of-le}
@@ -10,11 +11,15 @@ use lib.ListN.{length, getD}
 use Rattle.base.specs.Truth.{lt-or-ge}
 use Rattle.events.specs.Bit.{Apart}
 use Rattle.sheet_spec.specs.declared.Row.{Row}
-use Rattle.sheet_spec.specs.Kept.{acceptance, acceptances}
+use Rattle.sheet_spec.specs.declared.Sheet.{Sheet}
+use Rattle.sheet_spec.specs.Kept.{row, acceptance, acceptances}
 use Rattle.sheet_spec.specs.RowLaws.{acceptances-length, acceptances-at}
 use Rattle.probes_spec.specs.Probes.{probes}
 use Rattle.probes_spec.specs.FirstMissed.{MissedFirst}
-use Rattle.comparison_spec.specs.Meaning.{Misses, FirstRefusedAt}
+use Rattle.probes_spec.specs.Listing.{nodeProbes}
+use Rattle.probes_spec.specs.ListingLaws.{node-list}
+use Rattle.refinement_spec.specs.Refinement.{After}
+use Rattle.comparison_spec.specs.Meaning.{Misses, FirstRefusedAt, FirstRefused}
 
 module _ (e : ℕ) (r q : Row) (up : (j k : ℕ) → j < k → k < q .c → acceptance q j < acceptance q k) where
   rising : (j k : ℕ) → j ≤ k → k < q .c → acceptance q j ≤ acceptance q k
@@ -68,3 +73,10 @@ module _ (e : ℕ) (r q : Row) (up : (j k : ℕ) → j < k → k < q .c → acce
       lower j h a =
           let k : j < q .c = omega (arith, f .misses .1) in
           omega (arith, f .lowest (acceptance q j) (j, k, refl, rw (acceptances-at q j k) at a), up j (f .misses .0) h (f .misses .1), f .misses .2)
+
+-- the probe that is named stands in the list that a probe call writes for the reference's node, and no probe before it
+-- there is missed
+pub named-listed : (P Q : Sheet) (t : List ℕ) (X A : ℕ) → FirstRefused P Q t X A
+    → (v : ℕ) × (w : ℕ) × After P t v × After Q t w
+    × ((x : ℕ) × (x < length (nodeProbes P v)) × (getD (nodeProbes P v) x 0 ≡ X) × ((y : ℕ) → y < x → (B : ℕ) → ¬ Misses (row Q w) (getD (nodeProbes P v) y 0) B))
+named-listed P Q t X A (v, w, a, b, f) = (v, w, a, b, rw (node-list P v) (f .place, f .listed, f .probe, f .first))

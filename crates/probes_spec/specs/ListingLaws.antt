@@ -23,7 +23,7 @@ use Rattle.sheet_spec.specs.Sound.{Sound}
 use Rattle.sheet_spec.specs.SoundLaws.{check-sound}
 use Rattle.probes_spec.specs.declared.Listed.the-variants.{Count, Denied}
 use Rattle.probes_spec.specs.Probes.{probes, Probe, Narrow}
-use Rattle.probes_spec.specs.ProbeLaws.{probe-at, probe-listed, probes-few, probes-none, probes-some}
+use Rattle.probes_spec.specs.ProbeLaws.{probe-at, probe-listed, probes-few, probes-none, probes-some, probes-ascending}
 use Rattle.probes_spec.specs.Listing.{nodeProbes, listFault, listCount, listedNumbers, listedOf, listAfter}
 
 -- the numbers of each case of an answer, for crates that may not unfold them
@@ -143,6 +143,18 @@ module _ (s : Sheet) (v : ℕ) (out : List ℕ) where
       go : (b : Bool) → eqb (listFault s v out) 0 ≡ b → length (cond b (atFront out (nodeProbes s v)) out) ≡ length out
       go true e = atFront-length out (nodeProbes s v) (list-0 .0 (eqb-true (listFault s v out) 0 e) .2)
       go false e = refl
+
+-- ---- the list of a node, whatever the sheet
+
+-- it is the list of the node's acceptances, of the sheet's events: the list by which a comparison names a probe
+pub node-list : (s : Sheet) (v : ℕ) → nodeProbes s v ≡ probes (acceptances (row s v)) (s .e)
+unfolding nodeProbes
+node-list s v = refl
+
+-- it ascends by number, so that each probe stands there once
+pub node-ascending : (s : Sheet) (v x y : ℕ) → x < y → y < length (nodeProbes s v) → getD (nodeProbes s v) x 0 < getD (nodeProbes s v) y 0
+unfolding nodeProbes
+node-ascending s v = probes-ascending (acceptances (row s v)) (s .e)
 
 -- ---- the probes of a node of a sheet that is not refused
 

@@ -4,16 +4,16 @@
 -- spell, whatever its rules (`encode-spelled`), and that sheet has the machine's form (`sheetOf-form`).
 use mathlib.Core.Path.{_≡_, sym, ap, _∙_}
 use mathlib.Core.Logic.{_↔_}
-use mathlib.Core.List.{List}
+use mathlib.Core.List.{List, _++_}
 use Prim.Native.Nat.{ℕ, _≤_}
-use lib.ListN.{length}
+use lib.ListN.{length, drop}
 use Rattle.sheet_spec.specs.declared.Sheet.{Sheet}
 use Rattle.sheet_spec.specs.declared.ReadSheet.{ReadSheet}
 use Rattle.sheet_spec.specs.Refusals.{headFault, layoutFault, bytesFault, sheetFault}
 use Rattle.sheet_spec.specs.Form.{Bytes, SheetForm}
 use Rattle.sheet_spec.specs.Reading.{answer, readSheet, accepted}
-use Rattle.sheet_spec.specs.Spelling.{eventCount, nodeCount, nodesAt, sheetOf}
-use Rattle.sheet_spec.specs.Encoding.{encode}
+use Rattle.sheet_spec.specs.Spelling.{lengthField, eventCount, nodeCount, nodesAt, sheetOf}
+use Rattle.sheet_spec.specs.Encoding.{four, encode}
 use Rattle.sheet_spec.specs.Places.{accepted-length}
 use Rattle.sheet_spec.specs.Accepted.{read-accepted}
 use Rattle.sheet_spec.specs.Spelled as spelled
@@ -49,6 +49,10 @@ read-encode s o b y = (to, from)
 
     from : (b ≡ encode s) × (sheetFault s ≡ 0) → readSheet b ≡ accepted s
     from h = rw (h .0) (read-back s o (h .1))
+
+-- the length field of any bytes is the number that their first four write, the highest first, however many there are
+pub length-spelled : (b : List ℕ) → Bytes b → 7 ≤ length b → four (lengthField b) ++ drop 4 b ≡ b
+length-spelled = spelled.head-spelled
 
 -- bytes with a right head and layout are the bytes of the sheet that they spell, whatever its rules
 pub encode-spelled : (b : List ℕ) → Bytes b → headFault b ≡ 0 → layoutFault b (eventCount b) (nodeCount b) nodesAt ≡ 0 → encode (sheetOf b) ≡ b

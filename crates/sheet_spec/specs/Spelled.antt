@@ -126,7 +126,7 @@ body-spelled b y a l =
     rw (rows-spelled b y (eventCount b) (nodeCount b) (r .e-high) (r .n-high) l, ← drop-cons b 6 0 w, ← a .version-is)
     (sym (drop-two b 4 0 (omega arith)))
 
-head-spelled : (b : List ℕ) → Bytes b → 7 ≤ length b → four (lengthField b) ++ drop 4 b ≡ b
+pub head-spelled : (b : List ℕ) → Bytes b → 7 ≤ length b → four (lengthField b) ++ drop 4 b ≡ b
 unfolding lengthField
 head-spelled b y h =
     rw (four-words (byte b 0) (byte b 1) (byte b 2) (byte b 3) (y 1) (y 2) (y 3), ← drop-two b 2 0 (omega arith)) (sym (drop-two b 0 0 (omega arith)))

@@ -2,7 +2,8 @@
 use mathlib.Core.Path.{_≡_, refl}
 use mathlib.Core.Logic.{_≢_}
 use mathlib.Core.Bool.{Bool, true, false, not, cond}
-use Prim.Native.Nat.{ℕ}
+use Prim.Native.Nat.{ℕ, _≤_}
+use native.Mathlib.Omega.{arith}
 use lib.Dec.{eqb}
 use borrow.Author.Tests.{ne-eqb}
 
@@ -29,3 +30,9 @@ pub flag-of : (b : Bool) → flag (flagOf b) ≡ b
 unfolding flag flagOf
 flag-of true = refl
 flag-of false = refl
+
+-- a flag is set with 1, and cleared with 0
+pub flag-small : (b : Bool) → flagOf b ≤ 1
+unfolding flagOf
+flag-small true = omega arith
+flag-small false = omega arith

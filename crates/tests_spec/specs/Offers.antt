@@ -1,5 +1,5 @@
 -- Nothing to believe: laws. What a run offers, event by event (01, "Test k and a live run").
-use mathlib.Core.Path.{_≡_, ap}
+use mathlib.Core.Path.{_≡_, sym, ap}
 use mathlib.Core.Logic.{_⊎_, inl, inr, _↔_}
 use mathlib.Core.Bool.{true, false, _||_}
 use mathlib.Core.List.{List}
@@ -18,6 +18,8 @@ use Rattle.sheet_spec.specs.declared.Row.{Row}
 use Rattle.sheet_spec.specs.declared.Sheet.{Sheet}
 use Rattle.sheet_spec.specs.Kept.{row, initials, Initial}
 use Rattle.sheet_spec.specs.RuleLaws.{initials→, initials←}
+use Rattle.probes_spec.specs.Listing.{nodeProbes}
+use Rattle.probes_spec.specs.ListingLaws.{node-list}
 use Rattle.tests_spec.specs.declared.Run.{Run}
 use Rattle.tests_spec.specs.Flags.{flag}
 use Rattle.tests_spec.specs.Runs.{allEvents, outside, probesAt, chosen, offerOf}
@@ -62,6 +64,11 @@ outside-means s v i small = (forth, back)
         go : Dec (bit X i ≡ 1) → bit (2 ^ s .e - 1 - X) i ≡ 1
         go (yes b) = absurd (n (initials→ (s .e) (row s v) small i b))
         go (no b) = omega (arith, digit l, bit≤1 X i, b)
+
+-- the probes that a run counts are those that a probe call lists for the node, in that order
+pub counted-list : (s : Sheet) (v : ℕ) → probesAt s v ≡ nodeProbes s v
+unfolding probesAt
+counted-list s v = sym (node-list s v)
 
 -- with no probe nothing is chosen
 pub chosen-none : (ps : List ℕ) (h : ℕ) → length ps ≡ 0 → chosen ps h ≡ 0
@@ -110,6 +117,14 @@ module _ (s : Sheet) (r : Run) where
       back : (bit X i ≡ 1) ⊎ ((i < s .e) × (¬ Initial (s .e) (row s (r .node)) i)) → bit (bitOr X Y) i ≡ 1
       back (inl x) = omega (arith, bit-or i X Y, x, bit≤1 Y i)
       back (inr y) = omega (arith, bit-or i X Y, outside-means s (r .node) i small .1 y, bit≤1 X i)
+
+  -- at depth k, with m probes in the node's list, number (h remainder m) of that list is offered whole
+  pub offer-probe : s .e ≤ 12 → flag (r .«trace_only») ≡ false → r .k ≤ r .depth → 0 < length (nodeProbes s (r .node))
+      → (i : ℕ) → bit (getD (nodeProbes s (r .node)) (r .h % length (nodeProbes s (r .node))) 0) i ≡ 1 → bit (offerOf s r) i ≡ 1
+  offer-probe small t l n i b =
+      let q = counted-list s (r .node) in
+      let c : chosen (probesAt s (r .node)) (r .h) ≡ getD (nodeProbes s (r .node)) (r .h % length (nodeProbes s (r .node))) 0 = rw q (chosen-some (nodeProbes s (r .node)) (r .h) n) in
+      offer-at small t l i .1 (inl (rw c b))
 
   -- an event of the sheet that is no initial is always offered
   pub offer-outside : s .e ≤ 12 → (i : ℕ) → i < s .e → ¬ Initial (s .e) (row s (r .node)) i → bit (offerOf s r) i ≡ 1

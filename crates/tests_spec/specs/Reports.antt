@@ -40,12 +40,13 @@ Shown s r = (sheetFault s ≡ 0) × (¬ (flag (r .ended) ≡ true))
 abbrev pub Fitting : Sheet → Run → Type 0
 Fitting s r = Shown s r × (¬ WrongRecord s r)
 
--- the record q is that of a run at its start: test k with the choice number h, trace-only or not, which has not ended
--- and is at node 0 and depth 0
+-- the record q is that of a run at its start: test k with the choice number h, trace-only, which is set with 1, or not,
+-- which has not ended and is at node 0 and depth 0
 pub record Started (traceOnly : Bool) (k h : ℕ) (q : Run) : Type 0 where
   pub test : q .k ≡ k
   pub choice : q .h ≡ h
   pub kind : flag (q .«trace_only») ≡ traceOnly
+  pub set : q .«trace_only» ≤ 1
   pub going : flag (q .ended) ≡ false
   pub node : q .node ≡ 0
   pub depth : q .depth ≡ 0

@@ -17,7 +17,7 @@ use Rattle.tests_spec.specs.declared.Report.{Report}
 use Rattle.tests_spec.specs.declared.Report.the-variants.{Event}
 use Rattle.tests_spec.specs.declared.Answer.{Answer}
 use Rattle.tests_spec.specs.declared.Answer.the-variants.{Going, Refused, Denied}
-use Rattle.tests_spec.specs.Flags.{flag, flag-clear, flag-set, flag-of}
+use Rattle.tests_spec.specs.Flags.{flag, flag-clear, flag-set, flag-of, flag-small}
 use Rattle.tests_spec.specs.Runs.{answered, offerOf, newRun, openFault, openOf, reportFault, movedBy, endedRun, stepOf}
 use Rattle.tests_spec.specs.declared.Stepped.{Stepped}
 use Rattle.tests_spec.specs.Numbers.{said}
@@ -29,7 +29,7 @@ pub opening-starts : (traceOnly : Bool) (s : Sheet) (k h : ℕ) → openFault s 
 unfolding newRun
 opening-starts traceOnly s k h z =
     rw (ap (λ (x : Stepped). x .run) (open-going s k h traceOnly z))
-    (record { test = refl; choice = refl; kind = flag-of traceOnly; going = flag-clear; node = refl; depth = refl })
+    (record { test = refl; choice = refl; kind = flag-of traceOnly; set = flag-small traceOnly; going = flag-clear; node = refl; depth = refl })
 
 module _ (s : Sheet) (r : Run) (x : Report) where
   -- a refusal is answered exactly with the number of the report's refusal

@@ -1,0 +1,38 @@
+-- Nothing to believe: laws. Each number crosses under its own name, and a run's record as it is.
+use mathlib.Core.Path.{_≡_, refl}
+use Prim.Native.Nat.{ℕ}
+use Rattle.tests_spec.specs.declared.Stepped.{Stepped}
+use Rattle.tests_spec.specs.Numbers.{Said, said}
+use Rattle.verdicts_spec.specs.Numbers.{Judgement, Suited}
+use Rattle.comparison_spec.specs.Numbers.{Compared}
+use Rattle.edge.specs.Flat.{listedFlat, saidFlat, steppedFlat, judgedFlat, suitedFlat, comparedFlat}
+
+-- a probe list's answer: two numbers
+pub listed-crosses : (refusal count : ℕ) → (listedFlat (refusal, count) .refusal ≡ refusal) × (listedFlat (refusal, count) .count ≡ count)
+unfolding listedFlat
+listed-crosses refusal count = (refl, refl)
+
+-- an answer to an opening or a report: three numbers
+pub said-crosses : (a : Said) → (saidFlat a .refusal ≡ a .refusal) × (saidFlat a .kind ≡ a .kind) × (saidFlat a .value ≡ a .value)
+unfolding saidFlat
+said-crosses a = (refl, refl, refl)
+
+-- a step: its answer in numbers, and the record after it
+pub stepped-crosses : (z : Stepped) → (steppedFlat z .answer ≡ saidFlat (said (z .answer))) × (steppedFlat z .run ≡ z .run)
+stepped-crosses z = (refl, refl)
+
+-- a verdict, and the answer on all tests: two numbers each
+pub judged-crosses : (a : Judgement) → (judgedFlat a .refusal ≡ a .refusal) × (judgedFlat a .kind ≡ a .kind)
+unfolding judgedFlat
+judged-crosses a = (refl, refl)
+
+pub suited-crosses : (a : Suited) → (suitedFlat a .refusal ≡ a .refusal) × (suitedFlat a .count ≡ a .count)
+unfolding suitedFlat
+suited-crosses a = (refl, refl)
+
+-- a comparison's answer: seven numbers
+pub compared-crosses : (a : Compared)
+    → (comparedFlat a .refusal ≡ a .refusal) × (comparedFlat a .kind ≡ a .kind) × (comparedFlat a .d ≡ a .d) × (comparedFlat a .cleared ≡ a .cleared)
+    × (comparedFlat a .event ≡ a .event) × (comparedFlat a .probe ≡ a .probe) × (comparedFlat a .acceptance ≡ a .acceptance)
+unfolding comparedFlat
+compared-crosses a = (refl, refl, refl, refl, refl, refl, refl)
