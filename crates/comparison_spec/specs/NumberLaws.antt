@@ -83,8 +83,8 @@ module _ (traceOnly : Bool) (P Q : Sheet) (work trace : List ℕ) where
         go (inl w) = rw (w .1)
         go (inr w) = absurd (w .0 r)
 
-    -- without a refusal, where the nearest violation ends with a stray, the kind is 22, with d, cleared and the smallest
-    -- stray
+    -- without a refusal, where the nearest violation ends with a stray, the kind is 22, with d, cleared and the
+    -- smallest stray
     pub stray-compared : (¬ RefinesIn traceOnly P Q) → Strays P Q (nearestTrace traceOnly P Q)
         → (i : ℕ) × SmallestStray P Q (nearestTrace traceOnly P Q) i
         × (compared (outcomeOf traceOnly P Q work trace) ≡ record { refusal = 0; kind = 22; d = nearest traceOnly P Q; cleared = clearedOf traceOnly P Q; event = i; probe = 0; acceptance = 0 })

@@ -18,8 +18,8 @@ strayNumber = 22
 abbrev pub refusalNumber : ℕ
 refusalNumber = 23
 
--- the numbers of an answer: the refusal's, 0 for none; which case it is (0 a refusal of the call, else the number of the
--- case); d; cleared; what is named
+-- the numbers of an answer: the refusal's, 0 for none; which case it is (0 for a refusal of the call, else the number
+-- of the case); d; cleared; what is named
 pub record Compared : Type 0 where
   pub refusal : ℕ
   pub kind : ℕ
