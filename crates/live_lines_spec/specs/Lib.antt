@@ -4,4 +4,5 @@ pub mod Answers
 pub mod NumberLaws
 pub mod WordLaws
 pub mod AnswerLaws
+pub mod EndingLaws
 pub mod Cases

@@ -1,7 +1,7 @@
 -- Which report a line of `live` is, and which test its words ask for. A line comes without its newline.
 use mathlib.Core.Bool.{Bool, false, not, _&&_, _||_, cond}
 use mathlib.Core.List.{List}
-use Prim.Native.Nat.{ℕ}
+use Prim.Native.Nat.{ℕ, _-_}
 use lib.Dec.{eqb, leb}
 use lib.ListN.{length, getD, take, drop}
 use Rattle.base.specs.Range.{all}
@@ -19,13 +19,21 @@ agreeAt a b i = eqb (getD a i 0) (getD b i 0)
 unfoldable pub sameText : List ℕ → List ℕ → Bool
 sameText a b = eqb (length a) (length b) && all (agreeAt a b) (length a)
 
--- the event that a line names: `event ` and one to three digits; every other line names 255, an event that no sheet has
+-- the event that a text names: `event ` and one to three digits; every other text names 255, an event that no sheet has
 unfoldable pub eventNamed : List ℕ → ℕ
-eventNamed line = cond (sameText (take 6 line) (ascii "event ")) (numberIn 3 254 (drop 6 line)) 255
+eventNamed words = cond (sameText (take 6 words) (ascii "event ")) (numberIn 3 254 (drop 6 words)) 255
 
--- the report that a line is
+-- the report that a text is: `blocked`, or an event
+unfoldable pub reportOf : List ℕ → Report
+reportOf words = cond (sameText words (ascii "blocked")) Blocked (Event (eventNamed words))
+
+-- how many bytes of a line count: all, but for one carriage return (13) where it is the last
+unfoldable pub countedBytes : List ℕ → ℕ
+countedBytes line = cond (eqb (getD line (length line - 1) 0) 13) (length line - 1) (length line)
+
+-- the report that a line is, by the bytes of it that count
 unfoldable pub heard : List ℕ → Report
-heard line = cond (sameText line (ascii "blocked")) Blocked (Event (eventNamed line))
+heard line = reportOf (take (countedBytes line) line)
 
 -- whether the word after k and h, if there is one, is `traces`
 unfoldable pub lastOk : Bool → List ℕ → Bool

@@ -1,17 +1,18 @@
 -- Numbers and reports, case by case.
-use mathlib.Core.Path.{_≡_, sym, ap, _∙_}
+use mathlib.Core.Path.{_≡_, refl, sym, ap, _∙_}
 use mathlib.Core.Bool.{Bool, true, false}
-use mathlib.Core.List.{List}
+use mathlib.Core.List.{List, [], _∷_}
 use Prim.Native.Nat.{ℕ, _+_, _-_, _≤_, _<_}
 use native.Mathlib.Omega.{arith}
-use lib.ListN.{length, take, drop, length-take, length-drop}
+use lib.ListN.{length, getD, take, drop, length-take, length-drop}
 use lib.Seq.{take-all}
-use borrow.Author.Tests.{le-leb, lt-leb}
+use borrow.Author.Tests.{eq-eqb, ne-eqb, le-leb, lt-leb}
 use Rattle.text_spec.specs.Lines.{ascii, valueFrom}
+use Rattle.tests_spec.specs.declared.Report.{Report}
 use Rattle.tests_spec.specs.declared.Report.the-variants.{Event, Blocked}
 use Rattle.live_lines_spec.specs.Numbers.{allDigits, fewDigits, numberIn, numberOf, Digits}
 use Rattle.live_lines_spec.specs.NumberLaws.{digits→, number-most}
-use Rattle.live_lines_spec.specs.Words.{sameText, eventNamed, heard, lastOk, wordsOk, askedOf}
+use Rattle.live_lines_spec.specs.Words.{sameText, eventNamed, reportOf, countedBytes, heard, lastOk, wordsOk, askedOf}
 use Rattle.live_lines_spec.specs.WordLaws.{same→}
 
 -- the ways out for no byte, for too many, and for as many as there may be
@@ -45,7 +46,7 @@ module _ (most : ℕ) (w : List ℕ) where
     unfolding numberIn
     in-is e t x l = rw (sym e ∙ t, le-leb (valueFrom 0 w) top (omega (arith, x, l))) x
 
--- the ways out for a line that is to begin with `event `
+-- the ways out for a text that is to begin with `event `
 module _ (line : List ℕ) {f : List ℕ} (p : f ≡ take 6 line) {d : Bool} (e : d ≡ sameText f (ascii "event ")) where
   begins : sameText (take 6 line) (ascii "event ") ≡ d
   begins = ap (λ (t : List ℕ). sameText t (ascii "event ")) (sym p) ∙ sym e
@@ -67,14 +68,33 @@ pub named-byte : {n : ℕ} (w : List ℕ) → n ≡ numberIn 3 254 w → n < 256
 named-byte w e = omega (arith, e, number-most 3 w 254)
 
 -- the ways out for the two kinds of report
-module _ (line : List ℕ) {d : Bool} (e : d ≡ sameText line (ascii "blocked")) where
-  pub is-blocked : d ≡ true → Blocked ≡ heard line
-  unfolding heard
+module _ (words : List ℕ) {d : Bool} (e : d ≡ sameText words (ascii "blocked")) where
+  pub is-blocked : d ≡ true → Blocked ≡ reportOf words
+  unfolding reportOf
   is-blocked t = rw (sym e ∙ t)
 
-  pub is-event : {n : ℕ} → d ≡ false → n ≡ eventNamed line → Event n ≡ heard line
-  unfolding heard
+  pub is-event : {n : ℕ} → d ≡ false → n ≡ eventNamed words → Event n ≡ reportOf words
+  unfolding reportOf
   is-event f q = rw (sym e ∙ f) (ap Event q)
+
+-- the ways out for the bytes of a line that count: there is none, or the last is a carriage return, or another byte
+pub counted-none : (line : List ℕ) → length line ≡ 0 → 0 ≡ countedBytes line
+counted-none [] e = unfold countedBytes in refl
+counted-none (b ∷ line) e = absurd (omega (arith, e))
+
+module _ (line : List ℕ) {last : ℕ} (e : last ≡ length line - 1) where
+  pub counted-return : getD line last 0 ≡ 13 → last ≡ countedBytes line
+  unfolding countedBytes
+  counted-return t = rw (eq-eqb (getD line (length line - 1) 0) 13 (ap (λ (k : ℕ). getD line k 0) (sym e) ∙ t)) e
+
+  pub counted-all : (getD line last 0 ≡ 13 → ⊥) → length line ≡ countedBytes line
+  unfolding countedBytes
+  counted-all n = rw (ne-eqb (getD line (length line - 1) 0) 13 (λ t. n (ap (λ (k : ℕ). getD line k 0) e ∙ t)))
+
+-- the report of the bytes that count is that of the line
+pub heard-is : {r : Report} {n : ℕ} {f : List ℕ} (line : List ℕ) → n ≡ countedBytes line → f ≡ take n line → r ≡ reportOf f → r ≡ heard line
+unfolding heard
+heard-is line e p q = q ∙ ap reportOf (p ∙ ap (λ (k : ℕ). take k line) e)
 
 -- the ways out for the last word
 pub last-none : (there : Bool) (word : List ℕ) → there ≡ false → true ≡ lastOk there word

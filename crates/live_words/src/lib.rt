@@ -4,7 +4,8 @@ ghost use mathlib.Core.Path.{_≡_};
 ghost use Prim.Native.Nat.{_+_, _-_, _*_, _≤_, _<_};
 ghost use Rattle.text_spec.specs.Lines.{valueFrom};
 ghost use Rattle.live_lines_spec.specs.Numbers.{isDigit, allDigits, fewDigits, numberIn, numberOf, Digits};
-ghost use Rattle.live_lines_spec.specs.Words.{sameText, eventNamed, heard, lastOk, askedOf};
+ghost use Rattle.live_lines_spec.specs.Words.{sameText, eventNamed, reportOf, countedBytes, heard};
+ghost use Rattle.live_lines_spec.specs.Words.{lastOk, askedOf};
 use live_lines_spec::Asked;
 use tests_spec::Report;
 
@@ -110,24 +111,45 @@ fn same_text(a: &[u8], b: &[u8]) -> bool
     true
 }
 
-// The event that a line names, 255 where it names none.
-fn event_named(line: &[u8]) -> u8
-    ensures { λ r. ⌜ r ≡ eventNamed (now (line .entry)) ⌝ }
+// The event that a text names, 255 where it names none.
+fn event_named(words: &[u8]) -> u8
+    ensures { λ r. ⌜ r ≡ eventNamed (now (words .entry)) ⌝ }
 {
-    if !same_text(text::front(line, 6), b"event ") {
+    if !same_text(text::front(words, 6), b"event ") {
         return 255;
     }
-    number_in(&line[6..], 3, 254) as u8
+    number_in(&words[6..], 3, 254) as u8
 }
 
-// The report that a line is; a line that is none is an event that no sheet has.
+// The report that a text is; a text that is none is an event that no sheet has.
+fn report_of(words: &[u8]) -> Report
+    ensures { λ r. ⌜ r ≡ reportOf (now (words .entry)) ⌝ }
+{
+    if same_text(words, b"blocked") {
+        return Report::Blocked;
+    }
+    Report::Event(event_named(words))
+}
+
+// How many bytes of a line count: all, but for one carriage return at its end.
+fn counted_bytes(line: &[u8]) -> usize
+    ensures { λ r. ⌜ r ≡ countedBytes (now (line .entry)) ⌝ }
+{
+    if line.len() == 0 {
+        return 0;
+    }
+    let last = line.len() - 1;
+    if line[last] == 13 {
+        return last;
+    }
+    line.len()
+}
+
+// The report that a line is, by the bytes of it that count.
 pub fn heard(line: &[u8]) -> Report
     ensures { λ r. ⌜ r ≡ heard (now (line .entry)) ⌝ }
 {
-    if same_text(line, b"blocked") {
-        return Report::Blocked;
-    }
-    Report::Event(event_named(line))
+    report_of(text::front(line, counted_bytes(line)))
 }
 
 // Whether the word after k and h, if there is one, is `traces`.

@@ -1,8 +1,8 @@
--- The reference's refusal, or the answer.
+-- The reference's refusal, or what the opening of the test prints.
 use native.Mathlib.Omega.{arith}
 use borrow.Author.Tests.{eq-eqb, ne-eqb}
 use Rattle.text_spec.specs.AddsLaws.{adds-all}
-use Rattle.live_lines_spec.specs.Answers.{openingLine}
+use Rattle.live_lines_spec.specs.Answers.{openingLines}
 use Rattle.live_lines.proofs.put_opening.Statement.{statement}
 use Rattle.live_lines.proofs.put_opening.Tie as tie
 
@@ -16,21 +16,18 @@ same-length : tie.Need-same-length
 same-length c = omega arith
 
 returns : tie.Need-returns
-unfolding openingLine
+unfolding openingLines
 returns c = rw (ne-eqb (c .before .before .before .before .before .before .before .args .fault) 0 (c .before .before .before .before .before .if1 .taken)) (adds-all (c .before .before .put-number-line .ensures))
 
-slice-aggregate-put-with : tie.Need-slice-aggregate-put-with
-slice-aggregate-put-with c = omega arith
-
-put-with-requires : tie.Need-put-with-requires
-put-with-requires c κs = tt
+put-test-requires : tie.Need-put-test-requires
+put-test-requires c κs = tt
 
 same-length-2 : tie.Need-same-length-2
 same-length-2 c = omega arith
 
 returns-2 : tie.Need-returns-2
-unfolding openingLine
-returns-2 c = rw (eq-eqb (c .before .before .before .before .before .before .before .args .fault) 0 (c .before .before .before .before .before .if1 .left)) (adds-all (c .before .before .put-with .ensures))
+unfolding openingLines
+returns-2 c = rw (eq-eqb (c .before .before .before .before .before .before .args .fault) 0 (c .before .before .before .before .if1 .left)) (adds-all (c .before .before .put-test .ensures))
 
 pub put-opening-spec : {M : Type 1} → statement M
 put-opening-spec =
@@ -40,7 +37,6 @@ put-opening-spec =
     put-number-line-requires
     same-length
     returns
-    slice-aggregate-put-with
-    put-with-requires
+    put-test-requires
     same-length-2
     returns-2)

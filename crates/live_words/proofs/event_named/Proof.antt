@@ -16,13 +16,13 @@ same-text-requires : tie.Need-same-text-requires
 same-text-requires c κs = tt
 
 returns : tie.Need-returns
-returns c = named-not (c .before .before .before .before .before .args .line .now) (c .before .before .before .front .ensures) (c .before .same-text .ensures) (not-true _ (c .if1 .taken))
+returns c = named-not (c .before .before .before .before .before .args .words .now) (c .before .before .before .front .ensures) (c .before .same-text .ensures) (not-true _ (c .if1 .taken))
 
 sub-number-in : tie.Need-sub-number-in
-sub-number-in c = named-long (c .before .before .before .before .before .args .line .now) (c .before .before .before .front .ensures) (c .before .same-text .ensures) (not-false _ (c .if1 .left))
+sub-number-in c = named-long (c .before .before .before .before .before .args .words .now) (c .before .before .before .front .ensures) (c .before .same-text .ensures) (not-false _ (c .if1 .left))
 
 part-number-in-start : tie.Need-part-number-in-start
-part-number-in-start c = named-long (c .before .before .before .before .before .args .line .now) (c .before .before .before .front .ensures) (c .before .same-text .ensures) (not-false _ (c .if1 .left))
+part-number-in-start c = named-long (c .before .before .before .before .before .args .words .now) (c .before .before .before .front .ensures) (c .before .same-text .ensures) (not-false _ (c .if1 .left))
 
 part-number-in-end : tie.Need-part-number-in-end
 part-number-in-end c = omega arith
@@ -34,7 +34,7 @@ cast-result : tie.Need-cast-result
 cast-result c = let h : c .number-in .result < 256 = named-byte _ (c .number-in .ensures) in omega arith
 
 returns-2 : tie.Need-returns-2
-returns-2 c = named-is (c .before .before .before .before .before .before .before .args .line .now) (c .before .before .before .before .before .front .ensures) (c .before .before .before .same-text .ensures) (not-false _ (c .before .before .if1 .left)) (c .number-in .ensures)
+returns-2 c = named-is (c .before .before .before .before .before .before .before .args .words .now) (c .before .before .before .before .before .front .ensures) (c .before .before .before .same-text .ensures) (not-false _ (c .before .before .if1 .left)) (c .number-in .ensures)
 
 pub event-named-spec : {M : Type 1} → statement M
 event-named-spec =

@@ -1,25 +1,25 @@
--- `blocked`, or an event.
-use native.Mathlib.Omega.{arith}
-use Rattle.live_words.proofs.Parts.{is-blocked, is-event}
+-- The report of the bytes that count.
+use Rattle.live_words.proofs.Parts.{heard-is}
 use Rattle.live_words.proofs.heard.Statement.{statement}
 use Rattle.live_words.proofs.heard.Tie as tie
 
-slice-aggregate-same-text : tie.Need-slice-aggregate-same-text
-slice-aggregate-same-text c = omega arith
+counted-bytes-requires : tie.Need-counted-bytes-requires
+counted-bytes-requires c κs = tt
 
-same-text-requires : tie.Need-same-text-requires
-same-text-requires c κs = tt
+front-requires : tie.Need-front-requires
+front-requires c κs = tt
+
+report-of-requires : tie.Need-report-of-requires
+report-of-requires c κs = tt
 
 returns : tie.Need-returns
-returns c = is-blocked (c .before .before .before .before .args .line .now) (c .before .same-text .ensures) (c .if1 .taken)
-
-event-named-requires : tie.Need-event-named-requires
-event-named-requires c κs = tt
-
-returns-2 : tie.Need-returns-2
-returns-2 c = is-event (c .before .before .before .before .before .args .line .now) (c .before .before .same-text .ensures) (c .before .if1 .left) (c .event-named .ensures)
+returns c = heard-is (c .before .before .before .before .args .line .now) (c .before .before .counted-bytes .ensures) (c .before .front .ensures) (c .report-of .ensures)
 
 pub heard-spec : {M : Type 1} → statement M
 heard-spec =
     tie.close
-    (tie.spec slice-aggregate-same-text same-text-requires returns event-named-requires returns-2)
+    (tie.spec
+    counted-bytes-requires
+    front-requires
+    report-of-requires
+    returns)

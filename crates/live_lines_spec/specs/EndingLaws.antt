@@ -1,0 +1,181 @@
+-- Nothing to believe: laws. What the endings of a run are evidence of: each is printed exactly if the run ended so, and
+-- no other line that is printed begins with `run `. And the first line says whether the run is trace-only.
+use mathlib.Core.Path.{_≡_, refl, ap}
+use mathlib.Core.Logic.{_⊎_, inl, inr, _↔_}
+use mathlib.Core.Bool.{Bool, true, false, false≢true, cond}
+use mathlib.Core.List.{List, _++_}
+use Prim.Native.Nat.{ℕ}
+use native.Mathlib.Omega.{arith}
+use lib.Dec.{eqb}
+use lib.ListN.{getD}
+use Rattle.sheet_spec.specs.declared.Sheet.{Sheet}
+use Rattle.text_spec.specs.Lines.{ascii, numberLine}
+use Rattle.text_spec.specs.Sets.{setWords}
+use Rattle.tests_spec.specs.declared.Run.{Run}
+use Rattle.tests_spec.specs.declared.Report.{Report}
+use Rattle.tests_spec.specs.declared.Report.the-variants.{Event, Blocked}
+use Rattle.tests_spec.specs.declared.Answer.{Answer}
+use Rattle.tests_spec.specs.declared.Answer.the-variants.{Going, Stray, Refused, Passed, Denied}
+use Rattle.tests_spec.specs.Numbers.{said}
+use Rattle.tests_spec.specs.Runs.{offerOf, reportFault, stepOf}
+use Rattle.tests_spec.specs.Reports.{Straying, Refusing, Passing}
+use Rattle.tests_spec.specs.RunLaws.{stray-step, blocked-refused, answer-of}
+use Rattle.tests_spec.specs.NumberLaws.{kind-2, kind-3, kind-4}
+use Rattle.live_lines_spec.specs.declared.Asked.{Asked}
+use Rattle.live_lines_spec.specs.Answers.{kindWords, headLine, offerLine, refusedSetLine, reportRefusedLine, answerLines, testLines, openingLines, endedLine}
+
+-- a text begins with these words
+abbrev pub StartsWith : List ℕ → List ℕ → Type 0
+StartsWith words text = (rest : List ℕ) × (text ≡ words ++ rest)
+
+-- an answer that ends a run: its kind is 2 for a stray, 3 for refused, 4 for passed
+abbrev pub Ends : Answer → Type 0
+Ends a = (said a .kind ≡ 2) ⊎ ((said a .kind ≡ 3) ⊎ (said a .kind ≡ 4))
+
+-- ---- the text of an answer, whatever was offered before it
+
+-- the text is `run passed` exactly if the answer is that the run has passed
+passed-exactly : (x : ℕ) (a : Answer) → (answerLines x a ≡ ascii "run passed\n") ↔ (said a .kind ≡ 4)
+unfolding answerLines offerLine numberLine refusedSetLine reportRefusedLine said
+passed-exactly x (Going y) = (λ e. absurd (let z = ap (λ (l : List ℕ). getD l 0 0) e in omega (arith, z)), λ e. absurd (omega (arith, e)))
+passed-exactly x (Stray i) = (λ e. absurd (let z = ap (λ (l : List ℕ). getD l 4 0) e in omega (arith, z)), λ e. absurd (omega (arith, e)))
+passed-exactly x (Refused y) = (λ e. absurd (let z = ap (λ (l : List ℕ). getD l 4 0) e in omega (arith, z)), λ e. absurd (omega (arith, e)))
+passed-exactly x Passed = (λ e. refl, λ e. refl)
+passed-exactly x (Denied m) = (λ e. absurd (let z = ap (λ (l : List ℕ). getD l 1 0) e in omega (arith, z)), λ e. absurd (omega (arith, e)))
+
+-- it begins with `run failed stray ` exactly if the answer is a stray
+stray-exactly : (x : ℕ) (a : Answer) → StartsWith (ascii "run failed stray ") (answerLines x a) ↔ (said a .kind ≡ 2)
+unfolding answerLines offerLine numberLine refusedSetLine reportRefusedLine said
+stray-exactly x (Going y) = (λ w. absurd (let z = ap (λ (l : List ℕ). getD l 0 0) (w .1) in omega (arith, z)), λ e. absurd (omega (arith, e)))
+stray-exactly x (Stray i) = (λ w. refl, λ e. (_, refl))
+stray-exactly x (Refused y) = (λ w. absurd (let z = ap (λ (l : List ℕ). getD l 11 0) (w .1) in omega (arith, z)), λ e. absurd (omega (arith, e)))
+stray-exactly x Passed = (λ w. absurd (let z = ap (λ (l : List ℕ). getD l 4 0) (w .1) in omega (arith, z)), λ e. absurd (omega (arith, e)))
+stray-exactly x (Denied m) = (λ w. absurd (let z = ap (λ (l : List ℕ). getD l 1 0) (w .1) in omega (arith, z)), λ e. absurd (omega (arith, e)))
+
+-- it begins with `run failed refused ` exactly if the answer is "refused"
+refused-exactly : (x : ℕ) (a : Answer) → StartsWith (ascii "run failed refused ") (answerLines x a) ↔ (said a .kind ≡ 3)
+unfolding answerLines offerLine numberLine refusedSetLine reportRefusedLine said
+refused-exactly x (Going y) = (λ w. absurd (let z = ap (λ (l : List ℕ). getD l 0 0) (w .1) in omega (arith, z)), λ e. absurd (omega (arith, e)))
+refused-exactly x (Stray i) = (λ w. absurd (let z = ap (λ (l : List ℕ). getD l 11 0) (w .1) in omega (arith, z)), λ e. absurd (omega (arith, e)))
+refused-exactly x (Refused y) = (λ w. refl, λ e. (setWords y ++ ascii "\n", refl))
+refused-exactly x Passed = (λ w. absurd (let z = ap (λ (l : List ℕ). getD l 4 0) (w .1) in omega (arith, z)), λ e. absurd (omega (arith, e)))
+refused-exactly x (Denied m) = (λ w. absurd (let z = ap (λ (l : List ℕ). getD l 1 0) (w .1) in omega (arith, z)), λ e. absurd (omega (arith, e)))
+
+-- it begins with `run ` exactly if the answer ends the run
+pub ending-exactly : (x : ℕ) (a : Answer) → StartsWith (ascii "run ") (answerLines x a) ↔ Ends a
+unfolding answerLines offerLine numberLine refusedSetLine reportRefusedLine said
+ending-exactly x (Going y) = (λ w. absurd (let z = ap (λ (l : List ℕ). getD l 0 0) (w .1) in omega (arith, z)), none)
+  where
+    none : (_≡_ {A = ℕ} 1 2) ⊎ ((_≡_ {A = ℕ} 1 3) ⊎ (_≡_ {A = ℕ} 1 4)) → StartsWith (ascii "run ") (answerLines x (Going y))
+    none (inl e) = absurd (omega (arith, e))
+    none (inr (inl e)) = absurd (omega (arith, e))
+    none (inr (inr e)) = absurd (omega (arith, e))
+ending-exactly x (Stray i) = (λ w. inl refl, λ e. (_, refl))
+ending-exactly x (Refused y) = (λ w. inr (inl refl), λ e. (_, refl))
+ending-exactly x Passed = (λ w. inr (inr refl), λ e. (ascii "passed\n", refl))
+ending-exactly x (Denied m) = (λ w. absurd (let z = ap (λ (l : List ℕ). getD l 1 0) (w .1) in omega (arith, z)), none)
+  where
+    none : (_≡_ {A = ℕ} 0 2) ⊎ ((_≡_ {A = ℕ} 0 3) ⊎ (_≡_ {A = ℕ} 0 4)) → StartsWith (ascii "run ") (answerLines x (Denied m))
+    none (inl e) = absurd (omega (arith, e))
+    none (inr (inl e)) = absurd (omega (arith, e))
+    none (inr (inr e)) = absurd (omega (arith, e))
+
+-- ---- every sheet, record and report
+
+module _ (y : ℕ) (s : Sheet) (r : Run) (x : Report) where
+  -- `run passed` is printed exactly if the report is not refused and the run has passed with it
+  pub says-passed : (answerLines y (stepOf s r x .answer) ≡ ascii "run passed\n") ↔ ((reportFault s r x ≡ 0) × Passing s r x)
+  says-passed =
+      let p = passed-exactly y (stepOf s r x .answer) in
+      (λ e. kind-4 s r x .0 (p .0 e), λ w. p .1 (kind-4 s r x .1 w))
+
+  -- `run failed stray ` is printed exactly if the report is not refused and is an event outside the initials
+  pub says-stray : StartsWith (ascii "run failed stray ") (answerLines y (stepOf s r x .answer)) ↔ ((reportFault s r x ≡ 0) × Straying s r x)
+  says-stray =
+      let p = stray-exactly y (stepOf s r x .answer) in
+      (λ e. kind-2 s r x .0 (p .0 e), λ w. p .1 (kind-2 s r x .1 w))
+
+  -- `run failed refused ` is printed exactly if the report is not refused and is "blocked" where the run may not stop
+  pub says-refused : StartsWith (ascii "run failed refused ") (answerLines y (stepOf s r x .answer)) ↔ ((reportFault s r x ≡ 0) × Refusing s r x)
+  says-refused =
+      let p = refused-exactly y (stepOf s r x .answer) in
+      (λ e. kind-3 s r x .0 (p .0 e), λ w. p .1 (kind-3 s r x .1 w))
+
+  -- all else that is printed to a report does not begin with `run `
+  pub says-ending : StartsWith (ascii "run ") (answerLines y (stepOf s r x .answer)) ↔ ((reportFault s r x ≡ 0) × (Straying s r x ⊎ (Refusing s r x ⊎ Passing s r x)))
+  says-ending = (λ e. forth (ending-exactly y (stepOf s r x .answer) .0 e), λ w. ending-exactly y (stepOf s r x .answer) .1 (back (w .0) (w .1)))
+    where
+      forth : Ends (stepOf s r x .answer) → (reportFault s r x ≡ 0) × (Straying s r x ⊎ (Refusing s r x ⊎ Passing s r x))
+      forth (inl e) = let w = kind-2 s r x .0 e in (w .0, inl (w .1))
+      forth (inr (inl e)) = let w = kind-3 s r x .0 e in (w .0, inr (inl (w .1)))
+      forth (inr (inr e)) = let w = kind-4 s r x .0 e in (w .0, inr (inr (w .1)))
+
+      back : reportFault s r x ≡ 0 → Straying s r x ⊎ (Refusing s r x ⊎ Passing s r x) → Ends (stepOf s r x .answer)
+      back z (inl w) = inl (kind-2 s r x .1 (z, w))
+      back z (inr (inl w)) = inr (inl (kind-3 s r x .1 (z, w)))
+      back z (inr (inr w)) = inr (inr (kind-4 s r x .1 (z, w)))
+
+-- the event of a stray is the one that was reported
+pub stray-line : (y : ℕ) (s : Sheet) (r : Run) (i : ℕ) → reportFault s r (Event i) ≡ 0 → Straying s r (Event i)
+    → answerLines y (stepOf s r (Event i) .answer) ≡ numberLine (ascii "run failed stray ") i
+unfolding answerLines Straying
+stray-line y s r i z w = rw (answer-of (stray-step s r i z w))
+
+-- the set of a refusal is what the run offered
+pub refused-line : (y : ℕ) (s : Sheet) (r : Run) → reportFault s r Blocked ≡ 0 → Refusing s r Blocked
+    → answerLines y (stepOf s r Blocked .answer) ≡ ascii "run failed refused " ++ (setWords (offerOf s r) ++ ascii "\n")
+unfolding answerLines refusedSetLine Refusing
+refused-line y s r z w = rw (answer-of (blocked-refused s r z (w .0) (w .1)))
+
+-- ---- all other lines
+
+-- an offer does not begin with `run `
+pub offer-other : (x : ℕ) → ¬ StartsWith (ascii "run ") (offerLine x)
+unfolding offerLine
+offer-other x w = let z = ap (λ (l : List ℕ). getD l 0 0) (w .1) in omega (arith, z)
+
+-- the line of a refused report does not
+pub report-other : (m : ℕ) → ¬ StartsWith (ascii "run ") (reportRefusedLine m)
+unfolding reportRefusedLine
+report-other m w = let z = ap (λ (l : List ℕ). getD l 1 0) (w .1) in omega (arith, z)
+
+-- the first line of a run does not
+pub head-other : (traceOnly : Bool) (k h n e : ℕ) → ¬ StartsWith (ascii "run ") (headLine traceOnly k h n e)
+unfolding headLine kindWords
+head-other true k h n e w = let z = ap (λ (l : List ℕ). getD l 0 0) (w .1) in omega (arith, z)
+head-other false k h n e w = let z = ap (λ (l : List ℕ). getD l 0 0) (w .1) in omega (arith, z)
+
+test-other : (asked : Asked) (n e : ℕ) (a : Answer) → ¬ StartsWith (ascii "run ") (testLines asked n e a)
+unfolding testLines headLine kindWords numberLine
+test-other asked n e (Going x) w = go (asked .«trace_only») (ap (λ (l : List ℕ). getD l 0 0) (w .1))
+  where
+    go : (b : Bool) → getD (headLine b (asked .k) (asked .h) n e ++ offerLine x) 0 0 ≡ 114 → ⊥
+    go true z = omega (arith, z)
+    go false z = omega (arith, z)
+test-other asked n e (Stray i) w = let z = ap (λ (l : List ℕ). getD l 0 0) (w .1) in omega (arith, z)
+test-other asked n e (Refused x) w = let z = ap (λ (l : List ℕ). getD l 0 0) (w .1) in omega (arith, z)
+test-other asked n e Passed w = let z = ap (λ (l : List ℕ). getD l 0 0) (w .1) in omega (arith, z)
+test-other asked n e (Denied m) w = let z = ap (λ (l : List ℕ). getD l 0 0) (w .1) in omega (arith, z)
+
+-- whatever an opening prints, it does not
+pub opening-other : (asked : Asked) (n e fault : ℕ) (a : Answer) → ¬ StartsWith (ascii "run ") (openingLines asked n e fault a)
+unfolding openingLines numberLine
+opening-other asked n e fault a = go (eqb fault 0)
+  where
+    go : (b : Bool) → ¬ StartsWith (ascii "run ") (cond b (testLines asked n e a) (numberLine (ascii "reference refused ") fault))
+    go true w = test-other asked n e a w
+    go false w = let z = ap (λ (l : List ℕ). getD l 1 0) (w .1) in omega (arith, z)
+
+-- the line where a run has not ended does not
+pub ended-other : (many : Bool) → ¬ StartsWith (ascii "run ") (endedLine many)
+unfolding endedLine
+ended-other true w = let z = ap (λ (l : List ℕ). getD l 0 0) (w .1) in omega (arith, z)
+ended-other false w = let z = ap (λ (l : List ℕ). getD l 0 0) (w .1) in omega (arith, z)
+
+-- ---- the first line
+
+-- the first line begins with `trace-only ` exactly in a trace-only run
+pub head-kind : (traceOnly : Bool) (k h n e : ℕ) → StartsWith (ascii "trace-only ") (headLine traceOnly k h n e) ↔ (traceOnly ≡ true)
+unfolding headLine kindWords
+head-kind true k h n e = (λ w. refl, λ t. (_, refl))
+head-kind false k h n e = (λ w. absurd (let z = ap (λ (l : List ℕ). getD l 1 0) (w .1) in omega (arith, z)), λ t. absurd (false≢true t))
