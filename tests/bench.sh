@@ -101,11 +101,11 @@ seen() { # LINES: so many are printed, soon
     done
     fails "live printed no line $1 before the next report"
 }
-seen 1
-echo 'event 0' >&4
 seen 2
 echo 'event 0' >&4
 seen 3
+echo 'event 0' >&4
+seen 4
 exec 4>&-
 wait "$live" || fails "a live run, typed: status $?"
 

@@ -1,7 +1,7 @@
 #!/bin/sh
 # Runs the program `live` and holds what it prints to 01's section "Test k and a live run" and to the header of
-# crates/live/src/main.rt: every kind of line, bad words, files that cannot be read, trace-only runs, and input that is
-# empty, cut off, long or in pieces.
+# crates/live/src/main.rt: every kind of line, bad words, files that cannot be read, trace-only runs, input that is
+# empty, cut off, long or in pieces, and output that cannot be written.
 set -u
 cd "$(dirname "$0")/.." || exit 1
 . tests/shared
@@ -45,70 +45,80 @@ bytes 00 00 00 12 01 0C 01 00 00 00 00 00 00 00 00 00 00 00 00 01 08 07 > "$scra
 # the probes are 20 and 24
 bytes 00 00 00 0D 01 05 01 FF FF 00 00 00 02 00 0C 00 10 > "$scratch/five"
 R=$scratch/reference
+# first lines on 01's reference, and the lines of refused reports
+test_0='test 0 choice 0 reference 2 nodes 2 events'
+test_1='test 1 choice 0 reference 2 nodes 2 events'
+no_report='report refused 15 no event of the sheet, or no report'
+not_offered='report refused 17 the event was not offered'
 
 # ---- test 1 on 01's reference: node 0 has probe 3, node 1 probes 1 and 2
 reports 'event 0' 'event 0'
 started "$R" 1 0
-held 'passed at depth k' 'offer 0 1' 'offer 0' 'passed'
+held 'passed at depth k' "$test_1" 'offer 0 1' 'offer 0' 'run passed'
 quiet 'passed at depth k'
 reports 'event 1' 'event 1'
 started "$R" 1 1
-held 'the second probe' 'offer 0 1' 'offer 1' 'passed'
+held 'the second probe' 'test 1 choice 1 reference 2 nodes 2 events' 'offer 0 1' 'offer 1' 'run passed'
 reports 'event 1' 'event 0'
 started "$R" 1 65534
-held 'h 65,534' 'offer 0 1' 'offer 0' 'passed'
+held 'h 65,534' 'test 1 choice 65534 reference 2 nodes 2 events' 'offer 0 1' 'offer 0' 'run passed'
 started "$R" 1 65535
-held 'h 65,535, and then an event that is not offered' 'offer 0 1' 'offer 1' 'report refused 17' 'input ended'
+held 'h 65,535, and then an event that is not offered' 'test 1 choice 65535 reference 2 nodes 2 events' 'offer 0 1' \
+    'offer 1' "$not_offered" 'offer 1' 'input ended'
 reports 'event 0' 'blocked'
 started "$R" 1 0
-held 'refused' 'offer 0 1' 'offer 0' 'refused 1 ( 0 )'
+held 'refused' "$test_1" 'offer 0 1' 'offer 0' 'run failed refused 1 ( 0 )'
 reports 'blocked'
 started "$R" 1 0
-held 'blocked below depth k' 'offer 0 1' 'refused 3 ( 0 1 )'
+held 'blocked below depth k' "$test_1" 'offer 0 1' 'run failed refused 3 ( 0 1 )'
 reports 'event 1'
 started "$scratch/only_zero" 0 0
-held 'a stray' 'offer 0 1' 'stray 1'
+held 'a stray' 'test 0 choice 0 reference 1 nodes 2 events' 'offer 0 1' 'run failed stray 1'
 reports 'blocked'
 started "$scratch/may_loop" 0 0
-held 'an empty offer, and a node that may stop' 'offer' 'passed'
+held 'an empty offer, and a node that may stop' 'test 0 choice 0 reference 1 nodes 1 events' 'offer' 'run passed'
 started "$scratch/stopped" 0 0
-held 'no initial' 'offer 0' 'passed'
+held 'no initial' 'test 0 choice 0 reference 1 nodes 1 events' 'offer 0' 'run passed'
 reports 'event 0'
 started "$scratch/stopped" 0 0
-held 'a stray where there is no initial' 'offer 0' 'stray 0'
+held 'a stray where there is no initial' 'test 0 choice 0 reference 1 nodes 1 events' 'offer 0' 'run failed stray 0'
 reports 'blocked'
 started "$scratch/twelve" 1 0
-held 'a set of twelve events' 'offer 0 1 2 3 4 5 6 7 8 9 10 11' 'refused 4095 ( 0 1 2 3 4 5 6 7 8 9 10 11 )'
+held 'a set of twelve events' 'test 1 choice 0 reference 1 nodes 12 events' 'offer 0 1 2 3 4 5 6 7 8 9 10 11' \
+    'run failed refused 4095 ( 0 1 2 3 4 5 6 7 8 9 10 11 )'
 started "$scratch/twelve" 0 3
-held 'an event of two digits' 'offer 11' 'refused 2048 ( 11 )'
+held 'an event of two digits' 'test 0 choice 3 reference 1 nodes 12 events' 'offer 11' \
+    'run failed refused 2048 ( 11 )'
 started "$scratch/five" 0 0
-held 'a probe and the events outside the initials' 'offer 0 1 2 4' 'refused 23 ( 0 1 2 4 )'
+held 'a probe and the events outside the initials' 'test 0 choice 0 reference 1 nodes 5 events' 'offer 0 1 2 4' \
+    'run failed refused 23 ( 0 1 2 4 )'
 started "$scratch/five" 0 1
-held 'the other probe' 'offer 0 1 3 4' 'refused 27 ( 0 1 3 4 )'
+held 'the other probe' 'test 0 choice 1 reference 1 nodes 5 events' 'offer 0 1 3 4' \
+    'run failed refused 27 ( 0 1 3 4 )'
 
 # what follows an ending is not read
 reports 'event 0' 'event 0' 'event 0' 'blocked'
 started "$R" 1 0
-held 'after the end' 'offer 0 1' 'offer 0' 'passed'
+held 'after the end' "$test_1" 'offer 0 1' 'offer 0' 'run passed'
 
-# ---- lines that are no report: the offer stands
+# ---- lines that are no report: the offer stands, and is printed again
 reports 'event 2' 'event 255' 'event 256' 'event 999' 'event 0000' 'event' 'event ' 'event  0' ' event 0' 'event 0 ' \
     'event -0' 'event x' 'Event 0' 'block' 'blocked ' 'Blocked' '' '0' 'traces' 'event 0'
 started "$R" 0 0
-held 'no reports' 'offer 0 1' \
-    'report refused 15' 'report refused 15' 'report refused 15' 'report refused 15' 'report refused 15' \
-    'report refused 15' 'report refused 15' 'report refused 15' 'report refused 15' 'report refused 15' \
-    'report refused 15' 'report refused 15' 'report refused 15' 'report refused 15' 'report refused 15' \
-    'report refused 15' 'report refused 15' 'report refused 15' 'report refused 15' 'passed'
+held 'no reports' "$test_0" 'offer 0 1' "$(repeat 19 "$no_report\noffer 0 1\n")" 'run passed'
 reports 'event 000'
 started "$R" 0 0
-held 'leading zeros' 'offer 0 1' 'passed'
-printf 'event 0\r\nblocked\r\nblocked\n' > "$scratch/input"
+held 'leading zeros' "$test_0" 'offer 0 1' 'run passed'
+printf 'event 0\r\nblocked\r\n' > "$scratch/input"
+started "$R" 1 0
+held 'a carriage return at the end' "$test_1" 'offer 0 1' 'offer 0' 'run failed refused 1 ( 0 )'
+printf 'event 0\r\r\n\revent 0\nevent\r0\nblocked\r\r\n\r\nevent 0\r \nevent 0\n' > "$scratch/input"
 started "$R" 0 0
-held 'a carriage return' 'offer 0 1' 'report refused 15' 'report refused 15' 'refused 3 ( 0 1 )'
+held 'two carriage returns, and others than at the end' "$test_0" 'offer 0 1' \
+    "$(repeat 6 "$no_report\noffer 0 1\n")" 'run passed'
 printf 'event 0\000\n\377\376\nevent 0\n' > "$scratch/input"
 started "$R" 0 0
-held 'bytes that are no text' 'offer 0 1' 'report refused 15' 'report refused 15' 'passed'
+held 'bytes that are no text' "$test_0" 'offer 0 1' "$(repeat 2 "$no_report\noffer 0 1\n")" 'run passed'
 
 # lines of 63 to 65 bytes and of many: one refusal each
 long() { # COUNT: `event 0` and so many bytes more
@@ -124,29 +134,33 @@ long() { # COUNT: `event 0` and so many bytes more
     printf 'event 0\n'
 } > "$scratch/input"
 started "$R" 0 0
-held 'long lines' 'offer 0 1' 'report refused 15' 'report refused 15' 'report refused 15' 'report refused 15' 'passed'
+held 'long lines' "$test_0" 'offer 0 1' "$(repeat 4 "$no_report\noffer 0 1\n")" 'run passed'
 # after 1,000,000 bytes a line counts as ended: the rest of it is another line
 {
     repeat 1000000 x
     printf 'event 0\n'
 } > "$scratch/input"
 started "$R" 0 0
-held 'a line of more than 1,000,000 bytes' 'offer 0 1' 'report refused 15' 'passed'
+held 'a line of more than 1,000,000 bytes' "$test_0" 'offer 0 1' "$no_report" 'offer 0 1' 'run passed'
 
 # ---- the input ends
 : > "$scratch/input"
 started "$R" 1 0
-held 'no input' 'offer 0 1' 'input ended'
+held 'no input' "$test_1" 'offer 0 1' 'input ended'
+# a last line without its newline is no report
 printf 'event 0' > "$scratch/input"
 started "$R" 1 0
-held 'no last newline' 'offer 0 1' 'offer 0' 'input ended'
+held 'no last newline' "$test_1" 'offer 0 1' 'input ended'
 started "$R" 0 0
-held 'no last newline, and the run ends' 'offer 0 1' 'passed'
+held 'no last newline where the run would end' "$test_0" 'offer 0 1' 'input ended'
+printf 'event 0\r' > "$scratch/input"
+started "$R" 0 0
+held 'a carriage return and no last newline' "$test_0" 'offer 0 1' 'input ended'
 printf 'event 0\nev' > "$scratch/input"
 started "$R" 1 0
-held 'half a line' 'offer 0 1' 'offer 0' 'report refused 15' 'input ended'
+held 'half a line' "$test_1" 'offer 0 1' 'offer 0' 'input ended'
 "$program" "$R" 1 0 <&- > "$scratch/printed" 2> "$scratch/said"
-held 'no standard input' 'offer 0 1' 'input ended'
+held 'no standard input' "$test_1" 'offer 0 1' 'input ended'
 {
     printf 'eve'
     sleep 1
@@ -154,23 +168,24 @@ held 'no standard input' 'offer 0 1' 'input ended'
     sleep 1
     printf 'cked\n'
 } | "$program" "$R" 1 0 > "$scratch/printed"
-held 'in pieces' 'offer 0 1' 'offer 0' 'refused 1 ( 0 )'
+held 'in pieces' "$test_1" 'offer 0 1' 'offer 0' 'run failed refused 1 ( 0 )'
 
 # ---- trace-only: all events at each depth, never refused
 reports 'event 0' 'event 1'
 started "$R" 1 0 traces
-held 'traces' 'offer 0 1' 'offer 0 1' 'passed'
+held 'traces' 'trace-only test 1 choice 0 reference 2 nodes 2 events' 'offer 0 1' 'offer 0 1' 'run passed'
 reports 'event 0' 'blocked'
 started "$R" 1 0 traces
-held 'traces, blocked' 'offer 0 1' 'offer 0 1' 'passed'
+held 'traces, blocked' 'trace-only test 1 choice 0 reference 2 nodes 2 events' 'offer 0 1' 'offer 0 1' 'run passed'
 reports 'event 0' 'event 1'
 started "$scratch/only_zero" 3 0 traces
-held 'traces, a stray' 'offer 0 1' 'offer 0 1' 'stray 1'
+held 'traces, a stray' 'trace-only test 3 choice 0 reference 1 nodes 2 events' 'offer 0 1' 'offer 0 1' \
+    'run failed stray 1'
 
 # ---- k 1,023 and 1,024
 repeat 1030 'event 0\n' > "$scratch/input"
 started "$R" 1023 0
-held 'k 1,023' "$(repeat 1023 'offer 0 1\n')" 'offer 0' 'passed'
+held 'k 1,023' 'test 1023 choice 0 reference 2 nodes 2 events' "$(repeat 1023 'offer 0 1\n')" 'offer 0' 'run passed'
 reports 'event 0'
 started "$R" 1024 0
 held 'k 1,024' 'test refused 14'
@@ -207,7 +222,7 @@ bad "$R" "$(repeat 100 1)" 0
 # four digits with zeros before them
 : > "$scratch/input"
 started "$R" 00001 00000
-held 'zeros before a number' 'offer 0 1' 'input ended'
+held 'zeros before a number' "$test_1" 'offer 0 1' 'input ended'
 
 # ---- the reference's own refusals come before 14
 refused_first() { # NUMBER HEX..: these bytes are refused with the number, before the words are
@@ -257,11 +272,30 @@ started "$(repeat 5000 x)" 1 0
 held 'a name that is too long'
 told 'a name that is too long' 'live: File name too long'
 
+# ---- output that cannot be written: one line on standard error, and the end
+unwritten() { # NAME: it was told, once
+    runs=$((runs + 1))
+    told "$1" '^live: the output could not be written$'
+}
+reports 'event 0' 'blocked'
+"$program" "$R" 1 0 < "$scratch/input" > /dev/full 2> "$scratch/said"
+unwritten 'a full device'
+"$program" "$R" 1024 0 < "$scratch/input" > /dev/full 2> "$scratch/said"
+unwritten 'a full device, refused'
+"$program" > /dev/full 2> "$scratch/said"
+unwritten 'a full device, no words'
+"$program" "$R" 1 0 < "$scratch/input" >&- 2> "$scratch/said"
+unwritten 'a closed output'
+repeat 1030 'event 0\n' > "$scratch/input"
+sh -c 'trap "" XFSZ; ulimit -f 1; exec "$@"' sh "$program" "$R" 1023 0 < "$scratch/input" > "$scratch/printed" \
+    2> "$scratch/said"
+unwritten 'a limit on file size'
+
 # ---- 1,000,000 lines
 yes | head -n 1000001 > "$scratch/input"
 started "$R" 0 0
 runs=$((runs + 1))
-[ "$(wc -l < "$scratch/printed")" -eq 1000002 ] && [ "$(tail -n 1 "$scratch/printed")" = 'lines ended' ] &&
+[ "$(wc -l < "$scratch/printed")" -eq 2000003 ] && [ "$(tail -n 1 "$scratch/printed")" = 'lines ended' ] &&
     [ "$(grep -c 'report refused 15' "$scratch/printed")" -eq 1000000 ] || fails '1,000,000 lines'
 
 ends

@@ -2,9 +2,12 @@
 //   live REF K H [traces]
 // REF names a file with the reference's bytes, of which no more than 4,096 are kept; later bytes count as absent. K and
 // H are numbers in base ten, and `traces` makes the run trace-only. Other counts of words are refused with 14 before
-// the file is opened. It prints the first offer, or a refusal; then it reads one report a line from standard input,
-// `event e` or `blocked`, and prints the answer to each, until the run ends. A line that is no report is refused with
-// 15, and the offer stands.
+// the file is opened. It prints a first line, with the test, the choice number, whether it is trace-only and the size of
+// the reference, and the first offer; or one refusal. Then it reads one report a line from standard input, `event e` or
+// `blocked`, and prints the answer to each, until the run ends. A line that is no report is refused with 15, and the
+// offer, which stands, is printed again. A last line without its newline is no line: the input has ended. Where an
+// answer cannot be written, the program says so on standard error and ends.
+use libc::STDERR_FILENO;
 use libc::STDIN_FILENO;
 use libc::STDOUT_FILENO;
 use live_lines_spec::Asked;
@@ -110,32 +113,52 @@ fn asked_for(four: bool) -> Asked {
 
 // ---- writing
 
-// Writes the answer to an opening; `fault` is the reference's own refusal.
-fn say_opening(fault: u8, a: Answer) {
-    let mut out = [0u8; 128];
-    let n = live_lines::put_opening(&mut out, fault, a);
-    io::write_all(STDOUT_FILENO, text::front(&out, n));
+// Writes a text and answers whether all of it was written; where it was not, standard error says so.
+fn written(bytes: &[u8]) -> bool {
+    if io::write_all(STDOUT_FILENO, bytes) {
+        return true;
+    }
+    io::write_all(STDERR_FILENO, b"live: the output could not be written\n");
+    false
 }
 
-// Writes the answer to a report.
-fn say_answer(a: Answer) {
+// Writes what an opening prints, on a reference of n nodes and e events; `fault` is its own refusal.
+fn say_opening(asked: Asked, n: u8, e: u8, fault: u8, a: Answer) -> bool {
     let mut out = [0u8; 128];
-    let n = live_lines::put_answer(&mut out, a);
-    io::write_all(STDOUT_FILENO, text::front(&out, n));
+    let len = live_lines::put_opening(&mut out, asked, n, e, fault, a);
+    written(text::front(&out, len))
+}
+
+// Writes what the answer to a report prints, where `offered` is the set that stood offered.
+fn say_answer(offered: u16, a: Answer) -> bool {
+    let mut out = [0u8; 128];
+    let len = live_lines::put_answer(&mut out, offered, a);
+    written(text::front(&out, len))
 }
 
 // Writes that the lines were too many, or that the input ended.
-fn say_stop(many: bool) {
+fn say_stop(many: bool) -> bool {
     let mut out = [0u8; 128];
-    let n = live_lines::put_stop(&mut out, many);
-    io::write_all(STDOUT_FILENO, text::front(&out, n));
+    let len = live_lines::put_stop(&mut out, many);
+    written(text::front(&out, len))
+}
+
+// Writes that the words ask for no test.
+fn say_no_test() -> bool {
+    let none = Asked {
+        k: 65535,
+        h: 0,
+        trace_only: false,
+    };
+    say_opening(none, 0, 0, 0, Answer::Denied(14))
 }
 
 // ---- the run
 
-// The run after a line, and whether it goes on.
+// The run after a line, the set that stands offered, and whether the run goes on.
 struct Heard {
     going: bool,
+    offered: u16,
     run: Run,
 }
 
@@ -161,50 +184,54 @@ fn goes_on(a: Answer) -> bool {
     }
 }
 
-// Whether the input ended before a line began.
-fn has_ended(got: Got) -> bool {
-    if got.len > 0 {
-        return false;
-    }
-    got.end > 255
-}
-
-// One round of a run: hears a line, steps the run and writes the answer.
-fn take_line(sheet: Sheet, run: Run, line: &[u8]) -> Heard {
+// One round of a run: hears a line, steps the run and writes the answer; a run whose answer is not written ends.
+fn take_line(sheet: Sheet, run: Run, offered: u16, line: &[u8]) -> Heard {
     let stepped = tests::step(sheet, run, live_words::heard(line));
     let a = stepped.answer;
     let after = stepped.run;
-    say_answer(a);
+    let next = live_lines::next_offer(offered, a);
+    if say_answer(offered, a) {
+        return Heard {
+            going: goes_on(a),
+            offered: next,
+            run: after,
+        };
+    }
     Heard {
-        going: goes_on(a),
+        going: false,
+        offered: next,
         run: after,
     }
 }
 
-// Reads a line and answers it; of a longer line the first 64 bytes are kept, which are no report.
-fn next_line(sheet: Sheet, run: Run) -> Heard {
+// Reads a line and answers it; of a longer line the first 64 bytes are kept, which are no report. Bytes after which the
+// input ends are no line.
+fn next_line(sheet: Sheet, run: Run, offered: u16) -> Heard {
     let mut line = [0u8; 64];
     let got = read_to(STDIN_FILENO, 10, &mut line);
-    if has_ended(got) {
+    if got.end > 255 {
         say_stop(false);
         return Heard {
             going: false,
+            offered: offered,
             run: run,
         };
     }
-    take_line(sheet, run, text::front(&line, got.len))
+    take_line(sheet, run, offered, text::front(&line, got.len))
 }
 
-// Answers line after line until the run ends.
-fn answer_lines(sheet: Sheet, first: Run) {
+// Answers line after line until the run ends; `set` is its first offer.
+fn answer_lines(sheet: Sheet, first: Run, set: u16) {
     let mut run = first;
+    let mut offered = set;
     let mut left = LINES;
     while left > 0 {
-        let next = next_line(sheet, run);
+        let next = next_line(sheet, run, offered);
         if !next.going {
             return;
         }
         run = next.run;
+        offered = next.offered;
         left -= 1;
     }
     say_stop(true);
@@ -218,9 +245,11 @@ fn run_test(bytes: &[u8], asked: Asked) {
     let opened = tests::open_test(s, asked.k, asked.h, asked.trace_only);
     let a = opened.answer;
     let run = opened.run;
-    say_opening(reference.refusal, a);
+    if !say_opening(asked, s.n, s.e, reference.refusal, a) {
+        return;
+    }
     if has_begun(a) {
-        answer_lines(s, run);
+        answer_lines(s, run, live_lines::next_offer(0, a));
     }
 }
 
@@ -228,11 +257,11 @@ fn run_test(bytes: &[u8], asked: Asked) {
 fn main() {
     let words = os::arg_count();
     if words < 4 {
-        say_opening(0, Answer::Denied(14));
+        say_no_test();
         return;
     }
     if words > 5 {
-        say_opening(0, Answer::Denied(14));
+        say_no_test();
         return;
     }
     let mut space = io::buffer();

@@ -5,10 +5,10 @@ use Rattle.live.proofs.answer_lines.Statement.{statement}
 use Rattle.live.proofs.answer_lines.Tie as tie
 
 abbrev Inv-loop : tie.InvT-loop
-Inv-loop sheet run₀ left₀ run left = left ≤ 1000000
+Inv-loop sheet set run₀ offered₀ left₀ run offered left = left ≤ 1000000
 
 abbrev μ-loop : tie.MeasureT-loop
-μ-loop sheet run₀ left₀ run left = left
+μ-loop sheet set run₀ offered₀ left₀ run offered left = left
 
 loop-holds : tie.Need-loop-holds Inv-loop μ-loop
 loop-holds c = omega arith
