@@ -1,16 +1,18 @@
 -- Nothing to believe: laws. What the endings of a run are evidence of: each is printed exactly if the run ended so, and
--- no other line that is printed begins with `run `. And the first line says whether the run is trace-only.
-use mathlib.Core.Path.{_≡_, refl, ap}
+-- no other line that is printed begins with `run `. And the first line tells the test, the choice number, whether the
+-- run is trace-only, and the size of the sheet.
+use mathlib.Core.Path.{_≡_, refl, sym, ap, _∙_}
 use mathlib.Core.Logic.{_⊎_, inl, inr, _↔_}
 use mathlib.Core.Bool.{Bool, true, false, false≢true, cond}
-use mathlib.Core.List.{List, _++_}
-use Prim.Native.Nat.{ℕ}
+use mathlib.Core.List.{List, [], _∷_, _++_, append-assoc}
+use Prim.Native.Nat.{ℕ, suc, _≤_, _<_}
 use native.Mathlib.Omega.{arith}
 use lib.Dec.{eqb}
-use lib.ListN.{getD}
+use lib.ListN.{length, getD, drop}
 use Rattle.sheet_spec.specs.declared.Sheet.{Sheet}
-use Rattle.text_spec.specs.Lines.{ascii, numberLine}
+use Rattle.text_spec.specs.Lines.{ascii, decimal, valueFrom, numberLine, sheetLine}
 use Rattle.text_spec.specs.Sets.{setWords}
+use Rattle.text_spec.specs.DecimalLaws.{decimal-value, decimal-digits}
 use Rattle.tests_spec.specs.declared.Run.{Run}
 use Rattle.tests_spec.specs.declared.Report.{Report}
 use Rattle.tests_spec.specs.declared.Report.the-variants.{Event, Blocked}
@@ -179,3 +181,51 @@ pub head-kind : (traceOnly : Bool) (k h n e : ℕ) → StartsWith (ascii "trace-
 unfolding headLine kindWords
 head-kind true k h n e = (λ w. refl, λ t. (_, refl))
 head-kind false k h n e = (λ w. absurd (let z = ap (λ (l : List ℕ). getD l 1 0) (w .1) in omega (arith, z)), λ t. absurd (false≢true t))
+
+-- texts that begin with digits and a blank have the same digits, and go on alike
+after-digits : (a b : List ℕ) → ((i : ℕ) → i < length a → 48 ≤ getD a i 0) → ((i : ℕ) → i < length b → 48 ≤ getD b i 0) → (x y : List ℕ) → a ++ (32 ∷ x) ≡ b ++ (32 ∷ y)
+    → (a ≡ b) × (x ≡ y)
+after-digits [] [] f g x y e = (refl, ap (λ (l : List ℕ). drop 1 l) e)
+after-digits [] (k ∷ b) f g x y e = let z : 32 ≡ k = ap (λ (l : List ℕ). getD l 0 0) e in absurd (omega (arith, z, g 0 (omega arith)))
+after-digits (k ∷ a) [] f g x y e = let z : k ≡ 32 = ap (λ (l : List ℕ). getD l 0 0) e in absurd (omega (arith, z, f 0 (omega arith)))
+after-digits (k ∷ a) (m ∷ b) f g x y e =
+    let z : k ≡ m = ap (λ (l : List ℕ). getD l 0 0) e in
+    let w = after-digits a b (λ i l. f (suc i) (omega arith)) (λ i l. g (suc i) (omega arith)) x y (ap (λ (l : List ℕ). drop 1 l) e) in
+    (rw (z, w .0), w .1)
+
+-- texts that begin with numbers and a blank have the same number, and go on alike
+same-number : (m n : ℕ) (x y : List ℕ) → decimal m ++ (32 ∷ x) ≡ decimal n ++ (32 ∷ y) → (m ≡ n) × (x ≡ y)
+same-number m n x y e =
+    let w = after-digits (decimal m) (decimal n) (λ i l. decimal-digits m i l .0) (λ i l. decimal-digits n i l .0) x y e in
+    (sym (decimal-value m) ∙ ap (valueFrom 0) (w .0) ∙ decimal-value n, w .1)
+
+-- what follows the kind of a run in its first line
+abbrev afterKind : ℕ → ℕ → ℕ → ℕ → List ℕ
+afterKind k h n e = ascii "test " ++ (decimal k ++ (ascii " choice " ++ (decimal h ++ (ascii " reference " ++ (decimal n ++ (ascii " nodes " ++ (decimal e ++ ascii " events\n")))))))
+
+head-parts : (traceOnly : Bool) (k h n e : ℕ) → headLine traceOnly k h n e ≡ kindWords traceOnly ++ afterKind k h n e
+unfolding headLine sheetLine
+head-parts traceOnly k h n e =
+    let rest : List ℕ = ascii "reference " ++ (decimal n ++ (ascii " nodes " ++ (decimal e ++ ascii " events\n"))) in
+    ap (λ (l : List ℕ). kindWords traceOnly ++ (ascii "test " ++ l))
+    (append-assoc (decimal k) (ascii " choice " ++ (decimal h ++ ascii " ")) rest
+    ∙ ap (λ (l : List ℕ). decimal k ++ (ascii " choice " ++ l)) (append-assoc (decimal h) (ascii " ") rest))
+
+numbers-told : (k h n e k′ h′ n′ e′ : ℕ) → afterKind k h n e ≡ afterKind k′ h′ n′ e′ → (k ≡ k′) × (h ≡ h′) × (n ≡ n′) × (e ≡ e′)
+numbers-told k h n e k′ h′ n′ e′ q =
+    let a = same-number k k′ _ _ (ap (λ (l : List ℕ). drop 5 l) q) in
+    let b = same-number h h′ _ _ (ap (λ (l : List ℕ). drop 7 l) (a .1)) in
+    let c = same-number n n′ _ _ (ap (λ (l : List ℕ). drop 10 l) (b .1)) in
+    let d = same-number e e′ _ _ (ap (λ (l : List ℕ). drop 6 l) (c .1)) in
+    (a .0, b .0, c .0, d .0)
+
+-- two runs with the same first line have the same kind, test and choice number, on references of the same size
+pub head-tells : (traceOnly traceOnly′ : Bool) (k h n e k′ h′ n′ e′ : ℕ) → headLine traceOnly k h n e ≡ headLine traceOnly′ k′ h′ n′ e′
+    → (traceOnly ≡ traceOnly′) × (k ≡ k′) × (h ≡ h′) × (n ≡ n′) × (e ≡ e′)
+head-tells traceOnly traceOnly′ k h n e k′ h′ n′ e′ q = go traceOnly traceOnly′ (sym (head-parts traceOnly k h n e) ∙ q ∙ head-parts traceOnly′ k′ h′ n′ e′)
+  where
+    go : (b c : Bool) → kindWords b ++ afterKind k h n e ≡ kindWords c ++ afterKind k′ h′ n′ e′ → (b ≡ c) × (k ≡ k′) × (h ≡ h′) × (n ≡ n′) × (e ≡ e′)
+    go true true p = unfold kindWords in let w = numbers-told k h n e k′ h′ n′ e′ (ap (λ (l : List ℕ). drop 11 l) p) in (refl, w .0, w .1, w .2, w .3)
+    go true false p = unfold kindWords in absurd (let z = ap (λ (l : List ℕ). getD l 1 0) p in omega (arith, z))
+    go false true p = unfold kindWords in absurd (let z = ap (λ (l : List ℕ). getD l 1 0) p in omega (arith, z))
+    go false false p = unfold kindWords in let w = numbers-told k h n e k′ h′ n′ e′ p in (refl, w .0, w .1, w .2, w .3)

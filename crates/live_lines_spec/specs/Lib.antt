@@ -5,4 +5,5 @@ pub mod NumberLaws
 pub mod WordLaws
 pub mod AnswerLaws
 pub mod EndingLaws
+pub mod RefusedLaws
 pub mod Cases
