@@ -142,6 +142,8 @@ for program in compare suite show probe_list; do
     ends_with 0 "$program itself" sh -c "target/bin/$program < '$input' > /dev/full"
     told "$program itself" "$program: the output could not be written"
 done
+ends_with 2 'a live run to a full device' \
+    sh -c './bench live "$1" 1 0 < "$2" > /dev/full' sh "$scratch/reference" "$scratch/passes"
 
 # a program that is cut off before its last line, or that ends badly, is never status 0
 copy() { # a copy of the script, with a crate and a stand-in for each program
