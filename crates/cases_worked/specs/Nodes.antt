@@ -1,7 +1,8 @@
--- Nothing to believe: cases. The lines of the program `probe_list`: of 01's example reference, and of three nodes of
--- which one may stop.
+-- Nothing to believe: cases. The lines of the program `probe_list`: of 01's example reference, of three nodes of which
+-- one may stop, and of two nodes with optional events.
 use mathlib.Core.Path.{_≡_, refl}
-use mathlib.Core.List.{[], _∷_, map}
+use mathlib.Core.List.{List, [], _∷_, map}
+use Prim.Native.Nat.{ℕ}
 use Rattle.base.specs.Range.{all, any}
 use Rattle.base.specs.Table.{upTo}
 use Rattle.base.specs.Gather.{gather, select}
@@ -19,23 +20,33 @@ use Rattle.probes_spec.specs.Listing.{nodeProbes, listFault}
 use Rattle.text_spec.specs.Lines.{ascii, decimalIn, decimal, eventList}
 use Rattle.text_spec.specs.Sets.{eventsIn, members, setWords}
 use Rattle.text_spec.specs.Joined.{joined}
-use Rattle.text_sheet_spec.specs.Node.{probeSpace, placeWords, setList, probesLine, mayStopLine, deniedLine, nodeLine}
+use Rattle.text_sheet_spec.specs.Node.{probeSpace, placeWords, setList, probesLine, mayStopLine, deniedLine, nodeLine, optional, optionalLine, optionalText, nodeText}
 use Rattle.text_sheet_spec.specs.Cases.{threeNodes}
 use Rattle.sheet_spec.specs.Examples.{exampleReference, sheet}
 
 -- 01's example reference has two nodes; there is no node 2
-pub reference-lines : map (nodeLine (sheet exampleReference)) (0 ∷ 1 ∷ 2 ∷ [])
+pub reference-lines : map (nodeText (sheet exampleReference)) (0 ∷ 1 ∷ 2 ∷ [])
     ≡ (ascii "node 0 probes 3 ( 0 1 )\n" ∷ ascii "node 1 probes 1 ( 0 ) 2 ( 1 )\n" ∷ ascii "node 2 refused 9\n" ∷ [])
-unfolding exampleReference sheet nodeLine probesLine mayStopLine deniedLine setList placeWords probeSpace joined nodeProbes listFault setWords members eventsIn eventList decimal decimalIn readSheet answer bytesFault headFault lengthField layoutFault nextAt startOf succOf setsOf rowAt rowOf sheetOf graphFault rangesOk countOk countsOk successorOk rowSuccessorsOk successorsOk ascends noneInside setOk rowSetsOk setsOk blank unusedOk blanksOk reachedOk sheetFault successor acceptance acceptances initials mayStop step bit setOf has inside meets nearer leads walk all any upTo hits isProbe gather select probes
+unfolding exampleReference sheet nodeText optionalText optionalLine optional nodeLine probesLine mayStopLine deniedLine setList placeWords probeSpace joined nodeProbes listFault setWords members eventsIn eventList decimal decimalIn readSheet answer bytesFault headFault lengthField layoutFault nextAt startOf succOf setsOf rowAt rowOf sheetOf graphFault rangesOk countOk countsOk successorOk rowSuccessorsOk successorsOk ascends noneInside setOk rowSetsOk setsOk blank unusedOk blanksOk reachedOk sheetFault successor acceptance acceptances initials mayStop step bit setOf has inside meets nearer leads walk all any upTo hits isProbe gather select probes
 reference-lines = refl
 
 -- three nodes, of which the last may stop
-pub three-lines : map (nodeLine (sheet threeNodes)) (0 ∷ 1 ∷ 2 ∷ [])
+pub three-lines : map (nodeText (sheet threeNodes)) (0 ∷ 1 ∷ 2 ∷ [])
     ≡ (ascii "node 0 probes 3 ( 0 1 )\n" ∷ ascii "node 1 probes 1 ( 0 )\n" ∷ ascii "node 2 may stop\n" ∷ [])
-unfolding threeNodes sheet nodeLine probesLine mayStopLine deniedLine setList placeWords probeSpace joined nodeProbes listFault setWords members eventsIn eventList decimal decimalIn readSheet answer bytesFault headFault lengthField layoutFault nextAt startOf succOf setsOf rowAt rowOf sheetOf graphFault rangesOk countOk countsOk successorOk rowSuccessorsOk successorsOk ascends noneInside setOk rowSetsOk setsOk blank unusedOk blanksOk reachedOk sheetFault successor acceptance acceptances initials mayStop step bit setOf has inside meets nearer leads walk all any upTo hits isProbe gather select probes
+unfolding threeNodes sheet nodeText optionalText optionalLine optional nodeLine probesLine mayStopLine deniedLine setList placeWords probeSpace joined nodeProbes listFault setWords members eventsIn eventList decimal decimalIn readSheet answer bytesFault headFault lengthField layoutFault nextAt startOf succOf setsOf rowAt rowOf sheetOf graphFault rangesOk countOk countsOk successorOk rowSuccessorsOk successorsOk ascends noneInside setOk rowSetsOk setsOk blank unusedOk blanksOk reachedOk sheetFault successor acceptance acceptances initials mayStop step bit setOf has inside meets nearer leads walk all any upTo hits isProbe gather select probes
 three-lines = refl
 
+-- two nodes with two events: at node 0 nothing demands event 1, node 1 may stop and has event 0
+unfoldable pub twoNodes : List ℕ
+twoNodes = 0 ∷ 0 ∷ 0 ∷ 13 ∷ 1 ∷ 2 ∷ 2 ∷ 1 ∷ 0 ∷ 1 ∷ 0 ∷ 1 ∷ 0 ∷ 255 ∷ 1 ∷ 0 ∷ 0 ∷ []
+
+-- a line of optional events follows that of the probes, or that the node may stop
+pub optional-lines : map (nodeText (sheet twoNodes)) (0 ∷ 1 ∷ [])
+    ≡ (ascii "node 0 probes 1 ( 0 )\nnode 0 optional 1\n" ∷ ascii "node 1 may stop\nnode 1 optional 0\n" ∷ [])
+unfolding twoNodes sheet nodeText optionalText optionalLine optional nodeLine probesLine mayStopLine deniedLine setList placeWords probeSpace joined nodeProbes listFault setWords members eventsIn eventList decimal decimalIn readSheet answer bytesFault headFault lengthField layoutFault nextAt startOf succOf setsOf rowAt rowOf sheetOf graphFault rangesOk countOk countsOk successorOk rowSuccessorsOk successorsOk ascends noneInside setOk rowSetsOk setsOk blank unusedOk blanksOk reachedOk sheetFault successor acceptance acceptances initials mayStop step bit setOf has inside meets nearer leads walk all any upTo hits isProbe gather select probes
+optional-lines = refl
+
 -- the sheet of a refused reading, all 0: each node is refused with its number
-pub refused-lines : map (nodeLine (sheet [])) (0 ∷ 255 ∷ []) ≡ (ascii "node 0 refused 3\n" ∷ ascii "node 255 refused 3\n" ∷ [])
-unfolding sheet nodeLine deniedLine probeSpace listFault decimal decimalIn readSheet answer bytesFault headFault lengthField sheetFault rangesOk
+pub refused-lines : map (nodeText (sheet [])) (0 ∷ 255 ∷ []) ≡ (ascii "node 0 refused 3\n" ∷ ascii "node 255 refused 3\n" ∷ [])
+unfolding sheet nodeText nodeLine deniedLine probeSpace listFault decimal decimalIn readSheet answer bytesFault headFault lengthField sheetFault rangesOk
 refused-lines = refl

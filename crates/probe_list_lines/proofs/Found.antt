@@ -13,14 +13,16 @@ use Rattle.base.specs.Truth.{dec}
 use Rattle.sheet_spec.specs.declared.Sheet.{Sheet}
 use Rattle.sheet_spec.specs.Kept.{row, mayStop}
 use Rattle.sheet_spec.specs.Refusals.{sheetFault}
+use Rattle.sheet_spec.specs.SoundLaws.{check-sound}
 use Rattle.probes_spec.specs.declared.Listed.{Listed}
 use Rattle.probes_spec.specs.declared.Listed.the-variants.{Count, Denied}
 use Rattle.probes_spec.specs.Listing.{nodeProbes, listFault, listedNumbers, listedOf, listAfter}
 use Rattle.probes_spec.specs.ListingLaws.{listedNumbers-count, listedNumbers-denied, list-0, listed-denied, listed-count, after-probe, after-length, node-stop}
 use Rattle.text_spec.specs.Adds.{Holds, Adds}
-use Rattle.text_spec.specs.AddsLaws.{adds-all}
-use Rattle.text_sheet_spec.specs.Node.{probeSpace, deniedLine, nodeLine}
+use Rattle.text_spec.specs.AddsLaws.{adds-then, adds-all}
+use Rattle.text_sheet_spec.specs.Node.{probeSpace, deniedLine, nodeLine, optional, optionalText, nodeText}
 use Rattle.text_sheet_spec.specs.NodeLaws.{space-length, line-stop, line-probes, line-denied, line-some}
+use Rattle.text_sheet_spec.specs.OptionalLaws.{text-denied, text-listed}
 use Rattle.probe_list_lines.specs.Shapes.{foundLine}
 
 -- whether an answer of the probe call is a count, not a refusal
@@ -55,8 +57,8 @@ module _ (s : Sheet) (v : ℕ) where
   denied-number k e =
       ap (λ (p : ℕ × ℕ). p .0) (sym (listedNumbers-denied k) ∙ ap listedNumbers (e ∙ listed-denied s v probeSpace (denied-fault k e)) ∙ listedNumbers-denied (listFault s v probeSpace))
 
-  denied-is : (k : ℕ) → Denied k ≡ listedOf s v probeSpace → deniedLine v k ≡ nodeLine s v
-  denied-is k e = rw (denied-number k e) (sym (line-denied s v (denied-fault k e)))
+  denied-is : (k : ℕ) → Denied k ≡ listedOf s v probeSpace → deniedLine v k ≡ nodeText s v
+  denied-is k e = rw (denied-number k e, text-denied s v (denied-fault k e)) (sym (line-denied s v (denied-fault k e)))
 
   -- the front of the list, of as many places as were counted, are the probes
   front-is : (m : ℕ) → Count m ≡ listedOf s v probeSpace → take m (listAfter s v probeSpace) ≡ nodeProbes s v
@@ -89,9 +91,17 @@ module _ (s : Sheet) (v : ℕ) {x : Listed} (told : x ≡ listedOf s v probeSpac
   pub found-count : {m : ℕ} {sets : List ℕ} → x ≡ Count m → sets ≡ listAfter s v probeSpace → m ≡ length (take m sets)
   found-count {m} {sets} e a = sym (length-take-le m sets (omega (arith, found-fits e, ap length a, after-length s v probeSpace, space-length)))
 
-  pub found-holds : {m r : ℕ} {sets out out′ : List ℕ} → x ≡ Count m → sets ≡ listAfter s v probeSpace → Adds (foundLine v (take m sets)) out 0 out′ r
-      → Holds out (nodeLine s v) out′ r
-  found-holds {m} {r} {sets} {out} {out′} e a p = rw (← found-is s v m sets (sym e ∙ told) a) (adds-all p)
+  -- a node whose probes were counted has a row in the sheet
+  pub found-node : {m : ℕ} → x ≡ Count m → v < 32
+  found-node {m} e =
+      let w = list-0 s v probeSpace .0 (count-clear s v m (sym e ∙ told)) in
+      omega (arith, w .1, check-sound s (w .0) .ranges .n-high)
 
-  pub denied-holds : {k r : ℕ} {out out′ : List ℕ} → x ≡ Denied k → Adds (deniedLine v k) out 0 out′ r → Holds out (nodeLine s v) out′ r
+  pub found-holds : {m r k : ℕ} {sets out mid out′ : List ℕ} → x ≡ Count m → sets ≡ listAfter s v probeSpace
+      → Adds (foundLine v (take m sets)) out 0 mid k → Adds (optionalText v (optional (s .e) (row s v))) mid k out′ r
+      → Holds out (nodeText s v) out′ r
+  found-holds {m} {r} {k} {sets} {out} {mid} {out′} e a p q =
+      rw (text-listed s v (count-clear s v m (sym e ∙ told)), ← found-is s v m sets (sym e ∙ told) a) (adds-all (adds-then p q))
+
+  pub denied-holds : {k r : ℕ} {out out′ : List ℕ} → x ≡ Denied k → Adds (deniedLine v k) out 0 out′ r → Holds out (nodeText s v) out′ r
   denied-holds {k} e p = rw (← denied-is s v k (sym e ∙ told)) (adds-all p)

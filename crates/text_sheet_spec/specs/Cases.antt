@@ -9,6 +9,7 @@ use Rattle.events.specs.Bit.{bit, setOf}
 use Rattle.events.specs.Sets.{has, inside}
 use Rattle.walks.specs.Graph.{walk}
 use Rattle.walks.specs.Reach.{nearer, leads}
+use Rattle.sheet_spec.specs.declared.Row.{Row}
 use Rattle.sheet_spec.specs.Kept.{successor, acceptance, acceptances, initials, mayStop, step}
 use Rattle.sheet_spec.specs.Rules.{rangesOk, countOk, successorOk, rowSuccessorsOk, successorsOk, ascends, noneInside, setOk, rowSetsOk, setsOk, reachedOk}
 use Rattle.sheet_spec.specs.Reading.{answer, readSheet}
@@ -20,7 +21,7 @@ use Rattle.text_spec.specs.Input.{cutInput}
 use Rattle.text_spec.specs.Joined.{joined}
 use Rattle.text_sheet_spec.specs.Head.{refusalWords, refusedSheetLine, headLine}
 use Rattle.text_sheet_spec.specs.Show.{eventLine, successorLine, acceptsLine, acceptanceLine, restLines, rowLines, nodeLines, showLines, showText}
-use Rattle.text_sheet_spec.specs.Node.{placeWords, setList, probesLine, mayStopLine, deniedLine}
+use Rattle.text_sheet_spec.specs.Node.{placeWords, setList, probesLine, mayStopLine, deniedLine, optional, optionalLine, optionalText}
 
 -- three nodes with two events; node 2 may stop
 unfoldable pub threeNodes : List ℕ
@@ -76,3 +77,20 @@ stop-holds = refl
 pub denied-holds : deniedLine 255 9 ≡ ascii "node 255 refused 9\n"
 unfolding deniedLine decimal decimalIn
 denied-holds = refl
+
+-- rows of three events, none of event 1 but in the last: with acceptances 1 and 4, with acceptance 4 alone, one that may
+-- stop, one without events, and one that can do all three and has the acceptances 1 and 2
+unfoldable pub rows : List Row
+rows =
+    record { succ = 0 ∷ 255 ∷ 0 ∷ []; sets = 1 ∷ 4 ∷ []; c = 2 }
+    ∷ record { succ = 0 ∷ 255 ∷ 0 ∷ []; sets = 4 ∷ 0 ∷ []; c = 1 }
+    ∷ record { succ = 0 ∷ 255 ∷ 0 ∷ []; sets = 0 ∷ 0 ∷ []; c = 1 }
+    ∷ record { succ = 255 ∷ 255 ∷ 255 ∷ []; sets = 0 ∷ 0 ∷ []; c = 1 }
+    ∷ record { succ = 0 ∷ 0 ∷ 0 ∷ []; sets = 1 ∷ 2 ∷ []; c = 2 }
+    ∷ []
+
+-- the line of the optional events of each row, as node 7; where there are none, no line
+pub optional-hold : map (λ r. optionalText 7 (optional 3 r)) rows
+    ≡ ([] ∷ ascii "node 7 optional 0\n" ∷ ascii "node 7 optional 0 2\n" ∷ [] ∷ ascii "node 7 optional 2\n" ∷ [])
+unfolding rows optional optionalText optionalLine members eventsIn select gather eventList decimal decimalIn initials successor acceptance setOf has bit any
+optional-hold = refl

@@ -1,5 +1,5 @@
--- Nothing to believe: laws. How long the texts can be: nothing is ever cut where `show` has 65,536 bytes and a line of
--- `probe_list` 262,144.
+-- Nothing to believe: laws. How long the texts can be: nothing is ever cut where `show` has 65,536 bytes and the text
+-- of a node in `probe_list` 262,144.
 use mathlib.Core.Path.{_≡_, refl}
 use mathlib.Core.Logic.{_⊎_, inl, inr}
 use mathlib.Core.Bool.{Bool, true, false, cond}
@@ -23,19 +23,19 @@ use Rattle.sheet_spec.specs.CheckLaws.{check-below}
 use Rattle.sheet_spec.specs.Sound.{Sound}
 use Rattle.sheet_spec.specs.SoundLaws.{check-sound}
 use Rattle.probes_spec.specs.ProbeLaws.{probe-small, probe-listed}
-use Rattle.probes_spec.specs.Listing.{nodeProbes}
+use Rattle.probes_spec.specs.Listing.{nodeProbes, listFault}
 use Rattle.probes_spec.specs.ListingLaws.{node-narrow, node-probe, node-few}
-use Rattle.text_spec.specs.Lines.{ascii, decimal, numberLine, sheetLine}
-use Rattle.text_spec.specs.Sets.{setWords}
+use Rattle.text_spec.specs.Lines.{ascii, decimal, numberLine, sheetLine, eventList}
+use Rattle.text_spec.specs.Sets.{eventsIn, members, setWords}
 use Rattle.text_spec.specs.DecimalLaws.{decimal-few}
 use Rattle.text_spec.specs.Input.{cutInput}
-use Rattle.text_spec.specs.LengthLaws.{number-length, sheet-length, set-length}
+use Rattle.text_spec.specs.LengthLaws.{number-length, sheet-length, events-length as set-events-length, set-length}
 use Rattle.text_spec.specs.Joined.{joined}
 use Rattle.text_spec.specs.JoinedLaws.{joined-length}
 use Rattle.text_sheet_spec.specs.Head.{refusalWords, refusedSheetLine, headLine}
 use Rattle.text_sheet_spec.specs.Show.{eventLine, successorLine, acceptsLine, acceptanceLine, restLines, rowLines, nodeLines, showLines, showText}
 use Rattle.text_sheet_spec.specs.NodeLaws.{line-stop, line-probes, line-sheet, line-9}
-use Rattle.text_sheet_spec.specs.Node.{placeWords, setList, probesLine, mayStopLine, deniedLine, nodeLine}
+use Rattle.text_sheet_spec.specs.Node.{probeSpace, placeWords, setList, probesLine, mayStopLine, deniedLine, nodeLine, optional, optionalLine, optionalText, nodeText}
 
 -- ---- the first line
 
@@ -228,6 +228,34 @@ line-length s v b = go (ℕ-discrete (sheetFault s) 0) (lt-or-ge v (s .n)) (dec 
     go (yes h) (inl l) (inl t) = rw (line-stop s v h l t) (omega (arith, stop-length v (omega arith)))
     go (yes h) (inl l) (inr t) = rw (line-probes s v h l t) (probes-length v (nodeProbes s v) (omega arith) (node-few s h v l) (probe-narrow s h v l))
 
--- the line of any node fits where 262,144 bytes are kept
-pub line-fits : (s : Sheet) (v : ℕ) → v < 256 → length (nodeLine s v) ≤ 262144
-line-fits s v b = omega (arith, line-length s v b)
+-- the line of optional events has at most 66 bytes
+optional-length : (v x : ℕ) → v < 1000 → length (optionalLine v x) ≤ 66
+unfolding optionalLine members
+optional-length v x h =
+    omega (
+      arith,
+      length-append (ascii "node ") (decimal v ++ (ascii " optional" ++ (eventList (eventsIn x 16) ++ ascii "\n"))),
+      length-append (decimal v) (ascii " optional" ++ (eventList (eventsIn x 16) ++ ascii "\n")),
+      length-append (ascii " optional") (eventList (eventsIn x 16) ++ ascii "\n"),
+      length-append (eventList (eventsIn x 16)) (ascii "\n"),
+      decimal-few 2 v h,
+      set-events-length x 16 (omega arith),
+    )
+
+-- the text of any node has at most 237,650 bytes
+pub node-length : (s : Sheet) (v : ℕ) → v < 256 → length (nodeText s v) ≤ 237650
+unfolding nodeText optionalText
+node-length s v b =
+    let x = optional (s .e) (row s v) in
+    omega (
+      arith,
+      length-append (nodeLine s v) (cond (eqb (listFault s v probeSpace) 0) (cond (eqb x 0) [] (optionalLine v x)) []),
+      line-length s v b,
+      pick-length (eqb (listFault s v probeSpace) 0) (cond (eqb x 0) [] (optionalLine v x)) [] 66
+          (pick-length (eqb x 0) [] (optionalLine v x) 66 (omega arith) (optional-length v x (omega arith)))
+          (omega arith),
+    )
+
+-- the text of any node fits where 262,144 bytes are kept
+pub node-fits : (s : Sheet) (v : ℕ) → v < 256 → length (nodeText s v) ≤ 262144
+node-fits s v b = omega (arith, node-length s v b)

@@ -1,14 +1,18 @@
--- The line that `probe_list` prints of one node.
-use mathlib.Core.Bool.{cond}
-use mathlib.Core.List.{List, _++_}
+-- What `probe_list` prints of one node: a line with its probes, and one with the events that are optional there.
+use mathlib.Core.Bool.{not, _&&_, cond}
+use mathlib.Core.List.{List, [], _++_}
 use Prim.Native.Nat.{ℕ}
 use lib.Dec.{eqb}
 use lib.ListN.{length, getD, replicate}
+use Rattle.base.specs.Range.{any}
+use Rattle.events.specs.Bit.{setOf}
+use Rattle.events.specs.Sets.{has}
+use Rattle.sheet_spec.specs.declared.Row.{Row}
 use Rattle.sheet_spec.specs.declared.Sheet.{Sheet}
-use Rattle.sheet_spec.specs.Kept.{row, mayStop}
+use Rattle.sheet_spec.specs.Kept.{row, acceptance, initials, mayStop}
 use Rattle.probes_spec.specs.Listing.{nodeProbes, listFault}
 use Rattle.text_spec.specs.Lines.{ascii, decimal, numbersText}
-use Rattle.text_spec.specs.Sets.{setWords}
+use Rattle.text_spec.specs.Sets.{members, setWords}
 use Rattle.text_spec.specs.Joined.{joined}
 
 -- the list that is lent to the probe call: 4,096 places, which is enough for every node
@@ -42,3 +46,19 @@ nodeLine s v =
     cond (eqb (listFault s v probeSpace) 0)
     (cond (mayStop (row s v)) (mayStopLine v) (probesLine v (nodeProbes s v)))
     (deniedLine v (listFault s v probeSpace))
+
+-- the optional events of a row, as a set: the initials that stand in none of its acceptances; a device need not do them
+unfoldable pub optional : ℕ → Row → ℕ
+optional e r = setOf (λ i. has (initials e r) i && not (any (λ j. has (acceptance r j) i) (r .c))) 12
+
+-- the line of the optional events x of node v: `node v optional e e`
+unfoldable pub optionalLine : ℕ → ℕ → List ℕ
+optionalLine v x = ascii "node " ++ (decimal v ++ (ascii " optional" ++ (members x ++ ascii "\n")))
+
+-- the line of the optional events of node v where there are any, else nothing
+unfoldable pub optionalText : ℕ → ℕ → List ℕ
+optionalText v x = cond (eqb x 0) [] (optionalLine v x)
+
+-- the text of node v: its line, and where the probe call is not refused the line of its optional events
+unfoldable pub nodeText : Sheet → ℕ → List ℕ
+nodeText s v = nodeLine s v ++ cond (eqb (listFault s v probeSpace) 0) (optionalText v (optional (s .e) (row s v))) []

@@ -1,7 +1,7 @@
--- The answer of the probe call is the line of the node.
+-- The answer of the probe call, and the optional events after it, are the text of the node.
 use native.Mathlib.Omega.{arith}
 use Rattle.text_sheet_spec.specs.Node.{probeSpace}
-use Rattle.probe_list_lines.proofs.Found.{found-fits, found-count, found-holds, denied-holds}
+use Rattle.probe_list_lines.proofs.Found.{found-fits, found-count, found-node, found-holds, denied-holds}
 use Rattle.probe_list_lines.proofs.put_node.Statement.{statement}
 use Rattle.probe_list_lines.proofs.put_node.Tie as tie
 
@@ -28,6 +28,10 @@ slice-aggregate-put-found c = found-count (c .before .before .before .before .be
 put-found-requires : tie.Need-put-found-requires
 put-found-requires c κs = tt
 
+put-rest-requires : tie.Need-put-rest-requires
+unfolding probeSpace
+put-rest-requires c κs = found-node (c .before .before .before .before .before .before .before .before .before .before .before .before .before .args .sheet) (c .before .before .before .before .before .before .before .before .before .before .before .before .before .args .node) (c .before .before .before .before .before .before .before .before .before .before .list .ensures .0) (c .before .before .before .before .before .before .before .found .given .1)
+
 enum-known-found-2 : tie.Need-enum-known-found-2
 enum-known-found-2 c = omega arith
 
@@ -39,7 +43,7 @@ same-length c = omega arith
 
 returns : tie.Need-returns
 unfolding probeSpace
-returns c = found-holds (c .before .before .before .before .before .before .before .before .before .before .before .before .args .sheet) (c .before .before .before .before .before .before .before .before .before .before .before .before .args .node) (c .before .before .before .before .before .before .before .before .before .list .ensures .0) (c .before .before .before .before .before .before .found .given .1) (c .before .before .before .before .before .before .before .before .before .list .ensures .2) (c .before .before .put-found .ensures)
+returns c = found-holds (c .before .before .before .before .before .before .before .before .before .before .before .before .before .before .before .before .args .sheet) (c .before .before .before .before .before .before .before .before .before .before .before .before .before .before .before .before .args .node) (c .before .before .before .before .before .before .before .before .before .before .before .before .before .list .ensures .0) (c .before .before .before .before .before .before .before .before .before .before .found .given .1) (c .before .before .before .before .before .before .before .before .before .before .before .before .before .list .ensures .2) (c .before .before .before .before .before .before .put-found .ensures) (c .before .before .put-rest .ensures)
 
 same-length-2 : tie.Need-same-length-2
 same-length-2 c = omega arith
@@ -59,6 +63,7 @@ put-node-spec =
     array-share-prefix-sets
     slice-aggregate-put-found
     put-found-requires
+    put-rest-requires
     enum-known-found-2
     put-denied-line-requires
     same-length
