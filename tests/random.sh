@@ -1,5 +1,5 @@
 #!/bin/sh
-# The model against the proved library, and against the program `compare`, on random inputs.
+# The model against the proved library, and against the programs, on random inputs.
 #
 #     tests/random.sh [SEED [COUNT [FIRST]]]
 set -eu
@@ -9,8 +9,10 @@ cd "$(dirname "$0")/.."
 sh tests/archive
 mkdir -p target/random
 
-echo "random: rt check compare"
-logged target/random/compare.out rt check compare
+for program in compare suite show probe_list live; do
+    echo "random: rt check $program"
+    logged "target/random/$program.out" rt check "$program"
+done
 
 echo "random: building the comparison"
 cargo_here

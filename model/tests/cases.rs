@@ -9,7 +9,7 @@ use model::probes::{fill, list, probes, probes_of};
 use model::random::{random_raw, Rng};
 use model::sheet::{check, encode, read, Sheet, MAX_BYTES, NO_NODE};
 use model::tests::{open, verdict, Answer, Verdict};
-use model::text::output;
+use model::text::compare::output;
 
 /// A one-node sheet of three events, all looping, with given acceptances.
 fn looping(sets: &[u16]) -> Sheet {

@@ -4,7 +4,7 @@ use model::comparison::{compare, Outcome, MAX_WORDS};
 use model::faults::{check_with, read_with, Fault};
 use model::random::*;
 use model::sheet::{check, encode, read, Sheet, MAX_BYTES};
-use model::text::output;
+use model::text::compare::output;
 
 #[test]
 fn the_generator_is_splitmix64() {

@@ -8,13 +8,18 @@ use model::numbers::{listed, Record};
 use model::planted::comparisons::{compare_with, CompareFault};
 use model::planted::probes::{fill_with, ProbeFault};
 use model::planted::runs::{open_with, step_with, RunFault};
-use model::planted::text::{output_with, TextFault};
+use model::planted::text;
+use model::planted::text::compare::TextFault;
+use model::planted::text::live::LiveFault;
+use model::planted::text::probe_list::ProbeTextFault;
+use model::planted::text::show::ShowFault;
+use model::planted::text::suite::SuiteTextFault;
 use model::planted::verdicts::{verdict_with, VerdictFault};
 use model::probes::fill;
 use model::random::*;
 use model::sheet::{check, Sheet};
 use model::tests::{open, step};
-use model::text::output;
+use model::text::{compare, live, probe_list, show, suite};
 use model::verdict::verdict;
 
 #[test]
@@ -153,12 +158,40 @@ fn three_words_a_pair_show() {
 }
 
 #[test]
-fn no_fault_in_the_text() {
+fn no_fault_in_the_texts_of_two_sheets() {
     let mut rng = Rng::new(84);
     for _ in 0..600 {
         let input = program_input(&mut rng);
-        assert_eq!(output(&input), output_with(TextFault::None, &input));
+        let planted = text::compare::output_with(TextFault::None, &input);
+        assert_eq!(compare::output(&input), planted);
+        let planted = text::suite::output_with(SuiteTextFault::None, &input);
+        assert_eq!(suite::output(&input), planted);
     }
+}
+
+#[test]
+fn no_fault_in_the_texts_of_one_sheet() {
+    let mut rng = Rng::new(87);
+    for round in 0..600 {
+        let input = sheet_input(&mut rng, round);
+        let planted = text::show::output_with(ShowFault::None, &input);
+        assert_eq!(show::output(&input), planted);
+        let planted = text::probe_list::output_with(ProbeTextFault::None, &input);
+        assert_eq!(probe_list::output(&input), planted);
+    }
+}
+
+#[test]
+fn every_fault_of_a_live_text_shows() {
+    let mut rng = Rng::new(88);
+    let mut hidden = LiveFault::ALL.to_vec();
+    for round in 0..4_000 {
+        let call = live_call(&mut rng, round);
+        let plain = live::output(&call);
+        assert_eq!(plain, text::live::output_with(LiveFault::None, &call));
+        hidden.retain(|&fault| text::live::output_with(fault, &call) == plain);
+    }
+    assert_eq!(hidden, []);
 }
 
 #[test]

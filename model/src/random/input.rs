@@ -1,12 +1,14 @@
-//! Inputs for the program: two sheets back to back, good, damaged, cut or too long.
+//! Inputs for the programs: two sheets back to back, one sheet, or a call of `live`; good, damaged,
+//! cut or too long.
 
 use super::damage::{damaged, damaged_twice, noise_bytes, AIMS_READ};
 use super::pairs::pair;
-use super::raw::random_sheet;
+use super::raw::{full_sheet, random_sheet};
 use super::Rng;
-use crate::sheet::encode;
+use crate::sheet::{after, encode, Sheet};
+use crate::text::live::Call;
 
-/// An input for the program. Half of the inputs are two good sheets with equal E.
+/// An input for a program that reads two sheets. Half of the inputs are two good sheets with equal E.
 pub fn program_input(rng: &mut Rng) -> Vec<u8> {
     let (reference, device) = pair(rng);
     let (mut first, mut second) = (encode(&reference), encode(&device));
@@ -40,4 +42,125 @@ fn long_input(rng: &mut Rng, mut bytes: Vec<u8>) -> Vec<u8> {
     bytes.extend_from_slice(&[1, rng.pick(&[1, 12, 13]), 32]);
     bytes.resize(total, rng.pick(&[0, 1, 255]));
     bytes
+}
+
+/// An input for a program that reads one sheet: a good sheet, each refusal of a reading in turn, a
+/// few bytes, or bytes around the most that is read.
+pub fn sheet_input(rng: &mut Rng, round: u64) -> Vec<u8> {
+    let aim = AIMS_READ[(round / 8) as usize % AIMS_READ.len()];
+    match round % 8 {
+        0 => (0..rng.below(8)).map(|_| rng.byte()).collect(),
+        1 | 2 => damaged(rng, aim),
+        3 if rng.one_in(2) => damaged_twice(rng),
+        3 => long_sheet(rng),
+        4 if rng.one_in(2) => encode(&full_sheet(rng)),
+        _ => encode(&random_sheet(rng)),
+    }
+}
+
+/// A sheet that ends near byte 4,096, as `long_input` has it in the second place.
+fn long_sheet(rng: &mut Rng) -> Vec<u8> {
+    long_input(rng, Vec::new())
+}
+
+/// A call of `live`: a good reference or a damaged one, words of which some are wrong, and lines of
+/// which most are reports that the run admits.
+pub fn live_call(rng: &mut Rng, round: u64) -> Call {
+    let aim = AIMS_READ[(round / 8) as usize % AIMS_READ.len()];
+    let sheet = random_sheet(rng);
+    let k = match rng.below(8) {
+        0 => rng.pick(&[1_023, 1_024, 65_535]),
+        1 => rng.range(10, 30),
+        _ => rng.below(5),
+    };
+    let h = if rng.one_in(2) {
+        rng.below(4)
+    } else {
+        usize::from(rng.word())
+    };
+    let mut words = vec![k.to_string(), h.to_string()];
+    if rng.one_in(4) {
+        words.push("traces".to_string());
+    }
+    match round % 24 {
+        7 => words[rng.below(2)] = wrong_word(rng),
+        15 => words.push(wrong_word(rng)),
+        23 => words.truncate(rng.below(2)),
+        _ => {}
+    }
+    let file = match round % 8 {
+        6 => damaged(rng, aim),
+        _ => encode(&sheet),
+    };
+    let typed = typed_lines(rng, &sheet, k.min(40));
+    Call { file, words, typed }
+}
+
+/// A word that is no number of at most five digits up to 65,535, and not `traces`.
+fn wrong_word(rng: &mut Rng) -> String {
+    let words = [
+        "", "x", "65536", "99999", "000000", "-1", "+1", "1x", " 1", "trace", "Traces", "tracesx",
+    ];
+    rng.pick(&words).to_string()
+}
+
+/// Some lines, about as many as a run of depth `k` takes; at times the last has no newline.
+fn typed_lines(rng: &mut Rng, sheet: &Sheet, k: usize) -> Vec<u8> {
+    let mut typed = Vec::new();
+    let mut node = 0;
+    for _ in 0..rng.below(k + 3) + usize::from(rng.one_in(2)) * k {
+        let known: Vec<u8> = (0..sheet.e)
+            .filter(|&event| after(sheet, node, event).is_some())
+            .collect();
+        let event = match known.len() {
+            0 => rng.below(12) as u8,
+            _ if rng.one_in(12) => rng.below(sheet.e.into()) as u8,
+            _ => rng.pick(&known),
+        };
+        let line = match rng.below(24) {
+            0 => "blocked".to_string(),
+            1 => wrong_line(rng),
+            2 => format!("event 0{event}"),
+            _ => format!("event {event}"),
+        };
+        if line.starts_with("event") {
+            node = after(sheet, node, event).unwrap_or(node);
+        }
+        typed.extend_from_slice(line.as_bytes());
+        if rng.one_in(8) {
+            typed.push(b'\r');
+        }
+        typed.push(b'\n');
+    }
+    if rng.one_in(4) && !typed.is_empty() {
+        typed.pop();
+    }
+    typed
+}
+
+/// A line that is no report, or one of an event that no sheet has.
+fn wrong_line(rng: &mut Rng) -> String {
+    let lines = [
+        "",
+        "event",
+        "event ",
+        "event  0",
+        " event 0",
+        "event 0 ",
+        "event x",
+        "Event 0",
+        "block",
+        "Blocked",
+        "blocked ",
+        "0",
+        "event 12",
+        "event 255",
+        "event 256",
+        "event 999",
+        "event 0000",
+        "event -0",
+        "event +1",
+        "event 0\r",
+    ];
+    rng.pick(&lines).to_string()
 }

@@ -9,7 +9,7 @@ mod raw;
 mod runs;
 
 pub use damage::{damaged, damaged_twice, long_bytes, noise_bytes, AIMS_READ};
-pub use input::program_input;
+pub use input::{live_call, program_input, sheet_input};
 pub use kept::{kept, kept_noise, kept_twice, AIMS_KEPT};
 pub use lists::{length_around, work_length};
 pub use pairs::{deep_pair, device_of, pair, small_pair};

@@ -5,7 +5,7 @@ mod probes;
 mod runs;
 mod sheets;
 mod suites;
-mod text;
+mod texts;
 mod verdicts;
 
 use model::random::{kept, kept_noise, kept_twice, Rng, AIMS_KEPT};
@@ -14,16 +14,28 @@ use model::sheet::{check, Row, Sheet};
 use crate::findings::Findings;
 use crate::play::Part;
 
-/// Every part, in the order in which they are played.
-pub static ALL: [Part; 7] = [
+/// Every part but that of `live`, in the order in which they are played.
+static ALL: [Part; 10] = [
     sheets::PART,
     probes::PART,
     runs::PART,
     verdicts::PART,
     suites::PART,
     comparisons::PART,
-    text::PART,
+    texts::compare::PART,
+    texts::suite::PART,
+    texts::show::PART,
+    texts::probe_list::PART,
 ];
+
+/// The parts that are played.
+pub fn played() -> Vec<&'static Part> {
+    let mut parts: Vec<&'static Part> = ALL.iter().collect();
+    if texts::live::FOLLOWS {
+        parts.push(&texts::live::PART);
+    }
+    parts
+}
 
 /// 01's mistakes that a good bench hand makes: the name under which each is planted, in every
 /// part in which it can show, and the mistake in words.

@@ -1,29 +1,24 @@
-//! The program `compare`: the built program is run on inputs of every kind, which reach it
-//! through a pipe, some of them in pieces.
+//! The program `compare`.
 
-use std::io::{Read, Write};
-use std::path::PathBuf;
-use std::process::{Command, Stdio};
-
-use model::planted::text::{output_with, TextFault};
+use model::planted::text::compare::{output_with, TextFault};
 use model::random::{damaged, deep_pair, pair, program_input, Rng, AIMS_READ};
 use model::sheet::encode;
-use model::text::output;
+use model::text::compare::output;
 
-use super::{catch, names};
+use super::super::{catch, names};
+use super::{after, count_length, printed, LENGTH};
 use crate::findings::Findings;
 use crate::play::Part;
 
 const LINES: &str =
-    "text, 0 refines, 1 stray, 2 refused, 3 reference refused, 4 device refused, 5 unequal events";
-const MINE: &str = "text, the refusals of the reference";
-const THEIRS: &str = "text, the refusals of the device";
-const LENGTH: &str = "input under 4 bytes (0), up to 4096 (1), longer (2)";
-const STRAYS: &str = "text, strays at d 0 (0), 1 to 9 (1), 10 to 99 (2), 100 and more (3)";
-const REFUSALS: &str = "text, refusals at d 0 (0), 1 to 9 (1), 10 to 99 (2), 100 and more (3)";
+    "compare, 0 refines, 1 stray, 2 refused, 3 reference refused, 4 device refused, 5 unequal events";
+const MINE: &str = "compare, the refusals of the reference";
+const THEIRS: &str = "compare, the refusals of the device";
+const STRAYS: &str = "compare, strays at d 0 (0), 1 to 9 (1), 10 to 99 (2), 100 and more (3)";
+const REFUSALS: &str = "compare, refusals at d 0 (0), 1 to 9 (1), 10 to 99 (2), 100 and more (3)";
 
 pub const PART: Part = Part {
-    name: "text",
+    name: "compare text",
     rounds: 6_400,
     findings,
     round,
@@ -40,14 +35,6 @@ fn findings() -> Findings {
         (REFUSALS, vec![0, 1, 2, 3]),
     ];
     Findings::new(groups, names(TextFault::ALL))
-}
-
-/// The program, where `rt check compare` writes it.
-fn program() -> PathBuf {
-    PathBuf::from(concat!(
-        env!("CARGO_MANIFEST_DIR"),
-        "/../../target/bin/compare"
-    ))
 }
 
 /// An input: a pair far apart, a few bytes of noise, each refusal of a sheet in turn as the
@@ -71,10 +58,7 @@ fn input_of(rng: &mut Rng, round: u64) -> Vec<u8> {
 
 fn round(rng: &mut Rng, round: u64, findings: &mut Findings) {
     let input = input_of(rng, round);
-    let ours = match written(&input, rng.one_in(8)) {
-        Ok(text) => text,
-        Err(error) => format!("no output: {error}"),
-    };
+    let ours = printed("compare", &[], &input, rng.one_in(8));
     let model = output(&input);
     findings.compared(ours == model, || {
         format!("input {input:?}: model {model:?}, program {ours:?}")
@@ -83,33 +67,6 @@ fn round(rng: &mut Rng, round: u64, findings: &mut Findings) {
     catch(findings, TextFault::ALL, |fault| {
         output_with(fault, &input) != ours
     });
-}
-
-/// What the program writes for an input, which comes in two pieces if asked for.
-fn written(input: &[u8], pieces: bool) -> std::io::Result<String> {
-    let mut child = Command::new(program())
-        .stdin(Stdio::piped())
-        .stdout(Stdio::piped())
-        .spawn()?;
-    if let Some(mut pipe) = child.stdin.take() {
-        let middle = if pieces { input.len() / 2 } else { 0 };
-        let first = pipe.write_all(&input[..middle]);
-        if pieces {
-            std::thread::sleep(std::time::Duration::from_millis(2));
-        }
-        // The program stops reading after its 4,096 bytes, so that the rest may fail.
-        let _ = first.and_then(|()| pipe.write_all(&input[middle..]));
-    }
-    let mut text = String::new();
-    if let Some(mut pipe) = child.stdout.take() {
-        pipe.read_to_string(&mut text)?;
-    }
-    let status = child.wait()?;
-    Ok(if status.success() {
-        text
-    } else {
-        format!("{text}{status}")
-    })
 }
 
 fn count(findings: &mut Findings, input: &[u8], text: &str) {
@@ -125,27 +82,18 @@ fn count(findings: &mut Findings, input: &[u8], text: &str) {
     if let Some(class) = class.iter().position(|words| has(words)) {
         findings.count(LINES, class as u64);
     }
-    let length = match input.len() {
-        0..=3 => 0,
-        4..=4_096 => 1,
-        _ => 2,
-    };
-    findings.count(LENGTH, length);
+    count_length(findings, input);
     count_numbers(findings, text);
 }
 
 /// The number of a refusal, or the band of d.
 fn count_numbers(findings: &mut Findings, text: &str) {
-    let after = |words: &str| {
-        let rest = text.lines().find_map(|line| line.strip_prefix(words))?;
-        rest.split(' ').next()?.parse::<u64>().ok()
-    };
     for (words, group) in [("reference refused ", MINE), ("device refused ", THEIRS)] {
-        if let Some(number) = after(words) {
+        if let Some(number) = after(text, words) {
             findings.count(group, number);
         }
     }
-    let Some(d) = after("violates after ") else {
+    let Some(d) = after(text, "violates after ") else {
         return;
     };
     let class = match d {
@@ -154,6 +102,6 @@ fn count_numbers(findings: &mut Findings, text: &str) {
         10..=99 => 2,
         _ => 3,
     };
-    let stray = after("stray ").is_some();
+    let stray = after(text, "stray ").is_some();
     findings.count(if stray { STRAYS } else { REFUSALS }, class);
 }

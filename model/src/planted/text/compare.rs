@@ -1,10 +1,12 @@
 //! The text of `compare` with a fault planted.
 
-use super::comparisons::{compare_with, CompareFault};
-use super::faults;
+use super::super::comparisons::{compare_with, CompareFault};
+use super::super::faults;
+use super::{exchanged, joined, owned};
 use crate::comparison::MAX_WORDS;
 use crate::sheet::read;
-use crate::text::{output, output_by, MAX_INPUT};
+use crate::text::compare::{output, output_by};
+use crate::text::MAX_INPUT;
 
 faults! {
     /// One planted fault of the text, or none.
@@ -81,8 +83,6 @@ fn lines_with(fault: TextFault, input: &[u8]) -> String {
         output(input)
     };
     let lines: Vec<&str> = plain.lines().collect();
-    let join = |lines: &[String]| -> String { lines.iter().map(|l| format!("{l}\n")).collect() };
-    let owned = |lines: &[&str]| -> Vec<String> { lines.iter().map(|l| l.to_string()).collect() };
     match fault {
         TextFault::SplitWithoutFour => shifted(input).unwrap_or(plain),
         TextFault::BlankAfterTrace => plain.replace("trace\n", "trace \n"),
@@ -91,27 +91,18 @@ fn lines_with(fault: TextFault, input: &[u8]) -> String {
                 Some(events) => format!("trace {}", events.replace(' ', "")),
                 None => l.to_string(),
             };
-            join(&lines.iter().map(line).collect::<Vec<_>>())
+            joined(&lines.iter().map(line).collect::<Vec<_>>())
         }
-        TextFault::HeadsExchanged => {
-            let line = |l: &&str| {
-                let words: Vec<&str> = l.split(' ').collect();
-                match words[..] {
-                    [who, n, "nodes", e, "events"] => format!("{who} {e} nodes {n} events"),
-                    _ => l.to_string(),
-                }
-            };
-            join(&lines.iter().map(line).collect::<Vec<_>>())
-        }
+        TextFault::HeadsExchanged => exchanged(&plain),
         TextFault::NoLastNewline => plain.trim_end_matches('\n').to_string(),
         TextFault::NamedBeforeTrace if lines.len() == 5 => {
-            join(&owned(&[lines[0], lines[1], lines[2], lines[4], lines[3]]))
+            joined(&owned(&[lines[0], lines[1], lines[2], lines[4], lines[3]]))
         }
         TextFault::DeviceAlone if lines.len() == 2 && lines[1].starts_with("device refused") => {
-            join(&owned(&lines[1..]))
+            joined(&owned(&lines[1..]))
         }
         TextFault::ElevenAfterOne if plain.contains("comparison refused") => {
-            join(&owned(&[lines[0], lines[2]]))
+            joined(&owned(&[lines[0], lines[2]]))
         }
         TextFault::ClearedOneMore => {
             let line = |l: &&str| match l.rsplit_once("cleared ") {
@@ -121,7 +112,7 @@ fn lines_with(fault: TextFault, input: &[u8]) -> String {
                 }
                 None => l.to_string(),
             };
-            join(&lines.iter().map(line).collect::<Vec<_>>())
+            joined(&lines.iter().map(line).collect::<Vec<_>>())
         }
         _ => plain,
     }

@@ -1,0 +1,94 @@
+//! The program `live`.
+
+use std::fs::{create_dir_all, write};
+
+use model::planted::text::live::{output_with, LiveFault};
+use model::random::{live_call, Rng};
+use model::text::live::{output, Call};
+
+use super::super::{catch, names};
+use super::{after, printed, target};
+use crate::findings::Findings;
+use crate::play::Part;
+
+/// Whether the program's lines are those of the model; as long as they are not, this part is not
+/// played.
+pub const FOLLOWS: bool = false;
+
+const LINES: &str = "live, 0 passed, 1 stray, 2 refused, 3 input ended, 4 test refused";
+const REPORTS: &str = "live, runs with a report refused";
+const REFUSALS: &str = "live, the refusals of the reference";
+const DEPTH: &str = "live, accepted reports 0 (0), 1 to 9 (1), 10 and more (2)";
+
+pub const PART: Part = Part {
+    name: "live text",
+    rounds: 4_000,
+    findings,
+    round,
+    demands: |_| {},
+};
+
+fn findings() -> Findings {
+    let groups = vec![
+        (LINES, (0..=4).collect()),
+        (REPORTS, vec![15, 17]),
+        (REFUSALS, (1..=8).collect()),
+        (DEPTH, vec![0, 1, 2]),
+    ];
+    Findings::new(groups, names(LiveFault::ALL))
+}
+
+fn round(rng: &mut Rng, round: u64, findings: &mut Findings) {
+    let call = live_call(rng, round);
+    let ours = run(&call, rng.one_in(8));
+    let model = output(&call);
+    findings.compared(ours == model, || {
+        format!("call {call:?}: model {model:?}, program {ours:?}")
+    });
+    count(findings, &model);
+    catch(findings, LiveFault::ALL, |fault| {
+        output_with(fault, &call) != ours
+    });
+}
+
+/// What the program writes; the reference stands in a file.
+fn run(call: &Call, pieces: bool) -> String {
+    let folder = target().join("random");
+    let file = folder.join("live.sheet");
+    if let Err(error) = create_dir_all(&folder).and_then(|()| write(&file, &call.file)) {
+        return format!("no file: {error}");
+    }
+    let mut words = vec![file.display().to_string()];
+    words.extend_from_slice(&call.words);
+    printed("live", &words, &call.typed, pieces)
+}
+
+fn count(findings: &mut Findings, text: &str) {
+    if let Some(number) = after(text, "reference refused ") {
+        findings.count(REFUSALS, number);
+        return;
+    }
+    let ends = [
+        "run passed",
+        "run failed stray",
+        "run failed refused",
+        "input ended",
+        "test refused 14",
+    ];
+    let last = text.lines().last().unwrap_or("");
+    if let Some(class) = ends.iter().position(|end| last.starts_with(end)) {
+        findings.count(LINES, class as u64);
+    }
+    for number in [15, 17] {
+        if text.contains(&format!("report refused {number} ")) {
+            findings.count(REPORTS, number);
+        }
+    }
+    let lines = |words: &str| text.lines().filter(|line| line.starts_with(words)).count();
+    let class = match (lines("offer") + lines("run")).saturating_sub(lines("report") + 1) {
+        0 => 0,
+        1..=9 => 1,
+        _ => 2,
+    };
+    findings.count(DEPTH, class);
+}

@@ -1,0 +1,71 @@
+//! The programs: each is run as it was built, on inputs of every kind, which reach it through a
+//! pipe, some of them in pieces.
+
+pub mod compare;
+pub mod live;
+pub mod probe_list;
+pub mod show;
+pub mod suite;
+
+use std::io::{Read, Write};
+use std::path::{Path, PathBuf};
+use std::process::{Command, Stdio};
+
+use crate::findings::Findings;
+
+const LENGTH: &str = "input under 4 bytes (0), up to 4096 (1), longer (2)";
+
+fn count_length(findings: &mut Findings, input: &[u8]) {
+    let length = match input.len() {
+        0..=3 => 0,
+        4..=4_096 => 1,
+        _ => 2,
+    };
+    findings.count(LENGTH, length);
+}
+
+/// The number that a text has after some words at the front of a line.
+fn after(text: &str, words: &str) -> Option<u64> {
+    let rest = text.lines().find_map(|line| line.strip_prefix(words))?;
+    rest.split(' ').next()?.parse().ok()
+}
+
+/// The repository's target/, where `rt check` writes the programs below bin/.
+fn target() -> PathBuf {
+    Path::new(env!("CARGO_MANIFEST_DIR")).join("../../target")
+}
+
+/// What a program writes for some words and an input, which comes in two pieces if asked for.
+fn printed(program: &str, words: &[String], input: &[u8], pieces: bool) -> String {
+    match written(program, words, input, pieces) {
+        Ok(text) => text,
+        Err(error) => format!("no output: {error}"),
+    }
+}
+
+fn written(program: &str, words: &[String], input: &[u8], pieces: bool) -> std::io::Result<String> {
+    let mut child = Command::new(target().join("bin").join(program))
+        .args(words)
+        .stdin(Stdio::piped())
+        .stdout(Stdio::piped())
+        .spawn()?;
+    if let Some(mut pipe) = child.stdin.take() {
+        let middle = if pieces { input.len() / 2 } else { 0 };
+        let first = pipe.write_all(&input[..middle]);
+        if pieces {
+            std::thread::sleep(std::time::Duration::from_millis(2));
+        }
+        // A program may stop reading before the end, so that the rest may fail.
+        let _ = first.and_then(|()| pipe.write_all(&input[middle..]));
+    }
+    let mut text = String::new();
+    if let Some(mut pipe) = child.stdout.take() {
+        pipe.read_to_string(&mut text)?;
+    }
+    let status = child.wait()?;
+    Ok(if status.success() {
+        text
+    } else {
+        format!("{text}{status}")
+    })
+}
