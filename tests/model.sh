@@ -1,5 +1,5 @@
 #!/bin/sh
-# The model's own tests: the cases of the papers, and its definitions held against literal ones.
+# The model's own tests: the cases of the papers, the samples, and its definitions held against literal ones.
 set -eu
 cd "$(dirname "$0")/.."
 . tests/shared

@@ -1,5 +1,5 @@
 //! One-fault variants of the calls on probes, runs, verdicts and comparisons, and of the
-//! text. With the fault `None` each of them answers as the plain model does.
+//! texts. With the fault `None` each of them answers as the plain model does.
 
 pub mod comparisons;
 pub mod probes;
