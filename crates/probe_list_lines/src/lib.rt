@@ -83,7 +83,7 @@ fn put_found(out: &mut [u8], at: usize, node: u8, sets: &[u16]) -> usize
 // ---- the line of optional events
 
 // The events of a set that are not in the other.
-fn less(set: u16, other: u16) -> u16
+fn without(set: u16, other: u16) -> u16
     ensures { λ r. ⌜ r ≡ without set other ⌝ }
 {
     set - (set & other)
@@ -97,7 +97,7 @@ fn optional_of(row: Row, e: usize) -> u16
     let mut rest = sheet_rows::initials_of(row, e);
     for j in 0..c {
         let x = sheet_rows::acceptance_at(row, j);
-        rest = less(rest, x);
+        rest = without(rest, x);
     }
     rest
 }
@@ -124,14 +124,14 @@ fn put_optional(out: &mut [u8], at: usize, node: u8, set: u16) -> usize
 }
 
 // Puts the optional events of a node of the sheet; its row is copied out once.
-fn put_rest(out: &mut [u8], at: usize, sheet: Sheet, node: u8) -> usize
+fn put_optional_of(out: &mut [u8], at: usize, sheet: Sheet, node: u8) -> usize
     requires { ⌜ node < 32 ⌝ }
     ensures { λ r. ⌜ Adds (optionalText node (optional (sheet .e) (row sheet node)))
         (now (out .entry)) at (now (out .exit)) r ⌝ }
 {
     let v = base::wide(node);
-    let own = sheet.rows[v];
-    let set = optional_of(own, base::wide(sheet.e));
+    let row = sheet.rows[v];
+    let set = optional_of(row, base::wide(sheet.e));
     put_optional(out, at, node, set)
 }
 
@@ -147,7 +147,7 @@ pub fn put_node(sheet: Sheet, node: u8, out: &mut [u8]) -> usize
         Listed::Count(m) => {
             let n = m as usize;
             let at = put_found(out, 0, node, &sets[..n]);
-            put_rest(out, at, sheet, node)
+            put_optional_of(out, at, sheet, node)
         }
         Listed::Denied(k) => put_denied_line(out, 0, node, k),
     }

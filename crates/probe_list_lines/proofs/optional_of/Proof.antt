@@ -25,8 +25,8 @@ loop-holds c = (c .before .wide .ensures, omega arith, c .initials-of .ensures �
 acceptance-at-requires : tie.Need-acceptance-at-requires Inv-loop μ-loop
 acceptance-at-requires c κs = tt
 
-less-requires : tie.Need-less-requires Inv-loop μ-loop
-less-requires c κs = tt
+without-requires : tie.Need-without-requires Inv-loop μ-loop
+without-requires c κs = tt
 
 add-j : tie.Need-add-j Inv-loop μ-loop
 add-j c = omega arith
@@ -37,7 +37,7 @@ loop-less c = omega arith
 loop-again : tie.Need-loop-again Inv-loop μ-loop
 loop-again c =
     let l = c .before .before .before .loop in
-    (l .inv .0, omega arith, c .less .ensures ∙ rest-more _ _ (l .j) (l .inv .2) (c .before .acceptance-at .ensures))
+    (l .inv .0, omega arith, c .without .ensures ∙ rest-more _ _ (l .j) (l .inv .2) (c .before .acceptance-at .ensures))
 
 returns : tie.Need-returns Inv-loop μ-loop
 returns c =
@@ -54,7 +54,7 @@ optional-of-spec =
     initials-of-requires
     loop-holds
     acceptance-at-requires
-    less-requires
+    without-requires
     add-j
     loop-less
     loop-again

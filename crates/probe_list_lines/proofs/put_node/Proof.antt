@@ -28,9 +28,9 @@ slice-aggregate-put-found c = found-count (c .before .before .before .before .be
 put-found-requires : tie.Need-put-found-requires
 put-found-requires c κs = tt
 
-put-rest-requires : tie.Need-put-rest-requires
+put-optional-of-requires : tie.Need-put-optional-of-requires
 unfolding probeSpace
-put-rest-requires c κs = found-node (c .before .before .before .before .before .before .before .before .before .before .before .before .before .args .sheet) (c .before .before .before .before .before .before .before .before .before .before .before .before .before .args .node) (c .before .before .before .before .before .before .before .before .before .before .list .ensures .0) (c .before .before .before .before .before .before .before .found .given .1)
+put-optional-of-requires c κs = found-node (c .before .before .before .before .before .before .before .before .before .before .before .before .before .args .sheet) (c .before .before .before .before .before .before .before .before .before .before .before .before .before .args .node) (c .before .before .before .before .before .before .before .before .before .before .list .ensures .0) (c .before .before .before .before .before .before .before .found .given .1)
 
 enum-known-found-2 : tie.Need-enum-known-found-2
 enum-known-found-2 c = omega arith
@@ -43,7 +43,7 @@ same-length c = omega arith
 
 returns : tie.Need-returns
 unfolding probeSpace
-returns c = found-holds (c .before .before .before .before .before .before .before .before .before .before .before .before .before .before .before .before .args .sheet) (c .before .before .before .before .before .before .before .before .before .before .before .before .before .before .before .before .args .node) (c .before .before .before .before .before .before .before .before .before .before .before .before .before .list .ensures .0) (c .before .before .before .before .before .before .before .before .before .before .found .given .1) (c .before .before .before .before .before .before .before .before .before .before .before .before .before .list .ensures .2) (c .before .before .before .before .before .before .put-found .ensures) (c .before .before .put-rest .ensures)
+returns c = found-holds (c .before .before .before .before .before .before .before .before .before .before .before .before .before .before .before .before .args .sheet) (c .before .before .before .before .before .before .before .before .before .before .before .before .before .before .before .before .args .node) (c .before .before .before .before .before .before .before .before .before .before .before .before .before .list .ensures .0) (c .before .before .before .before .before .before .before .before .before .before .found .given .1) (c .before .before .before .before .before .before .before .before .before .before .before .before .before .list .ensures .2) (c .before .before .before .before .before .before .put-found .ensures) (c .before .before .put-optional-of .ensures)
 
 same-length-2 : tie.Need-same-length-2
 same-length-2 c = omega arith
@@ -63,7 +63,7 @@ put-node-spec =
     array-share-prefix-sets
     slice-aggregate-put-found
     put-found-requires
-    put-rest-requires
+    put-optional-of-requires
     enum-known-found-2
     put-denied-line-requires
     same-length
