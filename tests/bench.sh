@@ -281,6 +281,18 @@ rm -rf "$scratch/copy/target"
 : > "$scratch/copy/target"
 ends_with 2 'a target that is no folder' "$scratch/copy/bench" show $example/reference.sheet
 told 'a target that is no folder' 'cannot be written'
+# a checkout that cannot be written: root, who can write everything, tries it as another user
+copy
+rm -rf "$scratch/copy/target"
+chmod -R a+rX "$scratch" "$scratch/copy"
+chmod -R a-w "$scratch/copy"
+other=
+[ "$(id -u)" != 0 ] || other='setpriv --reuid 65534 --regid 65534 --clear-groups'
+if [ -z "$other" ] || command -v setpriv > /dev/null 2>&1; then
+    ends_with 2 'a checkout that cannot be written' $other "$scratch/copy/bench" show "$scratch/reference"
+    told 'a checkout that cannot be written' 'cannot be written'
+fi
+chmod -R u+w "$scratch/copy"
 rm -f "$scratch/tools/rt"
 copy
 mkdir "$scratch/few"

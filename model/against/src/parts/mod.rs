@@ -14,8 +14,8 @@ use model::sheet::{check, Row, Sheet};
 use crate::findings::Findings;
 use crate::play::Part;
 
-/// Every part but that of `live`, in the order in which they are played.
-static ALL: [Part; 10] = [
+/// Every part, in the order in which they are played.
+pub static ALL: [Part; 11] = [
     sheets::PART,
     probes::PART,
     runs::PART,
@@ -26,16 +26,8 @@ static ALL: [Part; 10] = [
     texts::suite::PART,
     texts::show::PART,
     texts::probe_list::PART,
+    texts::live::PART,
 ];
-
-/// The parts that are played.
-pub fn played() -> Vec<&'static Part> {
-    let mut parts: Vec<&'static Part> = ALL.iter().collect();
-    if texts::live::FOLLOWS {
-        parts.push(&texts::live::PART);
-    }
-    parts
-}
 
 /// 01's mistakes that a good bench hand makes: the name under which each is planted, in every
 /// part in which it can show, and the mistake in words.

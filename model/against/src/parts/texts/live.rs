@@ -11,10 +11,6 @@ use super::{after, printed, target};
 use crate::findings::Findings;
 use crate::play::Part;
 
-/// Whether the program's lines are those of the model; as long as they are not, this part is not
-/// played.
-pub const FOLLOWS: bool = false;
-
 const LINES: &str = "live, 0 passed, 1 stray, 2 refused, 3 input ended, 4 test refused";
 const REPORTS: &str = "live, runs with a report refused";
 const REFUSALS: &str = "live, the refusals of the reference";
