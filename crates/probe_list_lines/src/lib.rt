@@ -102,7 +102,7 @@ fn optional_of(row: Row, e: usize) -> u16
     rest
 }
 
-// Puts the line of a node with these optional events.
+// Puts the line of a node with these optional events, also where there are none.
 fn put_optional_line(out: &mut [u8], at: usize, node: u8, set: u16) -> usize
     ensures { λ r. ⌜ Adds (optionalLine node set) (now (out .entry)) at (now (out .exit)) r ⌝ }
 {
@@ -113,7 +113,7 @@ fn put_optional_line(out: &mut [u8], at: usize, node: u8, set: u16) -> usize
     text::put(out, d, b"\n")
 }
 
-// Puts that line where some event is optional.
+// Puts the line of the optional events of a node, where there are any.
 fn put_optional(out: &mut [u8], at: usize, node: u8, set: u16) -> usize
     ensures { λ r. ⌜ Adds (optionalText node set) (now (out .entry)) at (now (out .exit)) r ⌝ }
 {
