@@ -1,13 +1,13 @@
 -- The loop over the acceptances of a row: what is left of the initials after each round.
-use mathlib.Core.Path.{_≡_, refl, sym, ap, _∙_}
+use mathlib.Core.Path.{_≡_, refl, ap, _∙_}
 use mathlib.Core.Logic.{_⊎_, inl, inr}
 use mathlib.Core.Bool.{Bool, true, false, not, _&&_, _||_, cond}
-use Prim.Native.Nat.{ℕ, zero, suc, _+_, _-_, _/_, _%_, _≤_, _<_}
+use Prim.Native.Nat.{ℕ, zero, suc, _+_, _-_, _/_, _≤_, _<_}
 use native.Mathlib.Numerals.{add-one}
 use native.Mathlib.Omega.{arith}
 use lib.Bits.{bitAnd, and-step, and-le-l}
 use lib.Dec.{eqb, ltb}
-use Rattle.base.specs.Truth.{dec, lt-or-ge}
+use Rattle.base.specs.Truth.{lt-or-ge}
 use Rattle.base.specs.Range.{any}
 use Rattle.events.specs.Bit.{bit, bit·zero, bit·suc, bits-ext, bit-high, setOf, setOf-lt, bit-setOf}
 use Rattle.events.specs.Sets.{has, has→, has-not}
