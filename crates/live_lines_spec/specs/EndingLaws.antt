@@ -21,7 +21,7 @@ use Rattle.tests_spec.specs.declared.Answer.the-variants.{Going, Stray, Refused
 use Rattle.tests_spec.specs.Numbers.{said}
 use Rattle.tests_spec.specs.Runs.{offerOf, reportFault, stepOf}
 use Rattle.tests_spec.specs.Reports.{Straying, Refusing, Passing}
-use Rattle.tests_spec.specs.RunLaws.{stray-step, blocked-refused, answer-of}
+use Rattle.tests_spec.specs.RunLaws.{stray-step, blocked-refused, answer-of, kind-same}
 use Rattle.tests_spec.specs.NumberLaws.{kind-2, kind-3, kind-4}
 use Rattle.live_lines_spec.specs.declared.Asked.{Asked}
 use Rattle.live_lines_spec.specs.Answers.{kindWords, headLine, offerLine, refusedSetLine, reportRefusedLine, answerLines, testLines, openingLines, endedLine}
@@ -30,92 +30,135 @@ use Rattle.live_lines_spec.specs.Answers.{kindWords, headLine, offerLine
 abbrev pub StartsWith : List ℕ → List ℕ → Type 0
 StartsWith words text = (rest : List ℕ) × (text ≡ words ++ rest)
 
--- an answer that ends a run: its kind is 2 for a stray, 3 for refused, 4 for passed
+-- an answer that ends a run: a stray, "refused", or passed
 abbrev pub Ends : Answer → Type 0
-Ends a = (said a .kind ≡ 2) ⊎ ((said a .kind ≡ 3) ⊎ (said a .kind ≡ 4))
+Ends a = ((i : ℕ) × (a ≡ Stray i)) ⊎ (((X : ℕ) × (a ≡ Refused X)) ⊎ (a ≡ Passed))
 
 -- ---- the text of an answer, whatever was offered before it
 
--- the text is `run passed` exactly if the answer is that the run has passed
-passed-exactly : (x : ℕ) (a : Answer) → (answerLines x a ≡ ascii "run passed\n") ↔ (said a .kind ≡ 4)
+-- the text of an answer is `run passed` exactly if the answer is that the run has passed
+pub passed-exactly : (x : ℕ) (a : Answer) → (answerLines x a ≡ ascii "run passed\n") ↔ (a ≡ Passed)
 unfolding answerLines offerLine numberLine refusedSetLine reportRefusedLine said
-passed-exactly x (Going y) = (λ e. absurd (let z = ap (λ (l : List ℕ). getD l 0 0) e in omega (arith, z)), λ e. absurd (omega (arith, e)))
-passed-exactly x (Stray i) = (λ e. absurd (let z = ap (λ (l : List ℕ). getD l 4 0) e in omega (arith, z)), λ e. absurd (omega (arith, e)))
-passed-exactly x (Refused y) = (λ e. absurd (let z = ap (λ (l : List ℕ). getD l 4 0) e in omega (arith, z)), λ e. absurd (omega (arith, e)))
+passed-exactly x (Going y) = (λ e. absurd (let z = ap (λ (l : List ℕ). getD l 0 0) e in omega (arith, z)), λ e. absurd (omega (arith, kind-same e)))
+passed-exactly x (Stray i) = (λ e. absurd (let z = ap (λ (l : List ℕ). getD l 4 0) e in omega (arith, z)), λ e. absurd (omega (arith, kind-same e)))
+passed-exactly x (Refused y) = (λ e. absurd (let z = ap (λ (l : List ℕ). getD l 4 0) e in omega (arith, z)), λ e. absurd (omega (arith, kind-same e)))
 passed-exactly x Passed = (λ e. refl, λ e. refl)
-passed-exactly x (Denied m) = (λ e. absurd (let z = ap (λ (l : List ℕ). getD l 1 0) e in omega (arith, z)), λ e. absurd (omega (arith, e)))
+passed-exactly x (Denied m) = (λ e. absurd (let z = ap (λ (l : List ℕ). getD l 1 0) e in omega (arith, z)), λ e. absurd (omega (arith, kind-same e)))
 
--- it begins with `run failed stray ` exactly if the answer is a stray
-stray-exactly : (x : ℕ) (a : Answer) → StartsWith (ascii "run failed stray ") (answerLines x a) ↔ (said a .kind ≡ 2)
+-- the text of an answer begins with `run failed stray ` exactly if the answer is a stray
+pub stray-exactly : (x : ℕ) (a : Answer) → StartsWith (ascii "run failed stray ") (answerLines x a) ↔ ((i : ℕ) × (a ≡ Stray i))
 unfolding answerLines offerLine numberLine refusedSetLine reportRefusedLine said
-stray-exactly x (Going y) = (λ w. absurd (let z = ap (λ (l : List ℕ). getD l 0 0) (w .1) in omega (arith, z)), λ e. absurd (omega (arith, e)))
-stray-exactly x (Stray i) = (λ w. refl, λ e. (_, refl))
-stray-exactly x (Refused y) = (λ w. absurd (let z = ap (λ (l : List ℕ). getD l 11 0) (w .1) in omega (arith, z)), λ e. absurd (omega (arith, e)))
-stray-exactly x Passed = (λ w. absurd (let z = ap (λ (l : List ℕ). getD l 4 0) (w .1) in omega (arith, z)), λ e. absurd (omega (arith, e)))
-stray-exactly x (Denied m) = (λ w. absurd (let z = ap (λ (l : List ℕ). getD l 1 0) (w .1) in omega (arith, z)), λ e. absurd (omega (arith, e)))
+stray-exactly x (Going y) = (λ w. absurd (let z = ap (λ (l : List ℕ). getD l 0 0) (w .1) in omega (arith, z)), λ w. absurd (omega (arith, kind-same (w .1))))
+stray-exactly x (Stray i) = (λ w. (i, refl), λ w. (decimal i ++ ascii "\n", refl))
+stray-exactly x (Refused y) = (λ w. absurd (let z = ap (λ (l : List ℕ). getD l 11 0) (w .1) in omega (arith, z)), λ w. absurd (omega (arith, kind-same (w .1))))
+stray-exactly x Passed = (λ w. absurd (let z = ap (λ (l : List ℕ). getD l 4 0) (w .1) in omega (arith, z)), λ w. absurd (omega (arith, kind-same (w .1))))
+stray-exactly x (Denied m) = (λ w. absurd (let z = ap (λ (l : List ℕ). getD l 1 0) (w .1) in omega (arith, z)), λ w. absurd (omega (arith, kind-same (w .1))))
 
--- it begins with `run failed refused ` exactly if the answer is "refused"
-refused-exactly : (x : ℕ) (a : Answer) → StartsWith (ascii "run failed refused ") (answerLines x a) ↔ (said a .kind ≡ 3)
+-- the text of an answer begins with `run failed refused ` exactly if the answer is "refused"
+pub refused-exactly : (x : ℕ) (a : Answer) → StartsWith (ascii "run failed refused ") (answerLines x a) ↔ ((X : ℕ) × (a ≡ Refused X))
 unfolding answerLines offerLine numberLine refusedSetLine reportRefusedLine said
-refused-exactly x (Going y) = (λ w. absurd (let z = ap (λ (l : List ℕ). getD l 0 0) (w .1) in omega (arith, z)), λ e. absurd (omega (arith, e)))
-refused-exactly x (Stray i) = (λ w. absurd (let z = ap (λ (l : List ℕ). getD l 11 0) (w .1) in omega (arith, z)), λ e. absurd (omega (arith, e)))
-refused-exactly x (Refused y) = (λ w. refl, λ e. (setWords y ++ ascii "\n", refl))
-refused-exactly x Passed = (λ w. absurd (let z = ap (λ (l : List ℕ). getD l 4 0) (w .1) in omega (arith, z)), λ e. absurd (omega (arith, e)))
-refused-exactly x (Denied m) = (λ w. absurd (let z = ap (λ (l : List ℕ). getD l 1 0) (w .1) in omega (arith, z)), λ e. absurd (omega (arith, e)))
+refused-exactly x (Going y) = (λ w. absurd (let z = ap (λ (l : List ℕ). getD l 0 0) (w .1) in omega (arith, z)), λ w. absurd (omega (arith, kind-same (w .1))))
+refused-exactly x (Stray i) = (λ w. absurd (let z = ap (λ (l : List ℕ). getD l 11 0) (w .1) in omega (arith, z)), λ w. absurd (omega (arith, kind-same (w .1))))
+refused-exactly x (Refused y) = (λ w. (y, refl), λ w. (setWords y ++ ascii "\n", refl))
+refused-exactly x Passed = (λ w. absurd (let z = ap (λ (l : List ℕ). getD l 4 0) (w .1) in omega (arith, z)), λ w. absurd (omega (arith, kind-same (w .1))))
+refused-exactly x (Denied m) = (λ w. absurd (let z = ap (λ (l : List ℕ). getD l 1 0) (w .1) in omega (arith, z)), λ w. absurd (omega (arith, kind-same (w .1))))
 
--- it begins with `run ` exactly if the answer ends the run
+going-on : (y : ℕ) → ¬ Ends (Going y)
+unfolding said
+going-on y (inl w) = omega (arith, kind-same (w .1))
+going-on y (inr (inl w)) = omega (arith, kind-same (w .1))
+going-on y (inr (inr e)) = omega (arith, kind-same e)
+
+denied-on : (m : ℕ) → ¬ Ends (Denied m)
+unfolding said
+denied-on m (inl w) = omega (arith, kind-same (w .1))
+denied-on m (inr (inl w)) = omega (arith, kind-same (w .1))
+denied-on m (inr (inr e)) = omega (arith, kind-same e)
+
+-- the text of an answer begins with `run ` exactly if the answer ends the run
 pub ending-exactly : (x : ℕ) (a : Answer) → StartsWith (ascii "run ") (answerLines x a) ↔ Ends a
-unfolding answerLines offerLine numberLine refusedSetLine reportRefusedLine said
-ending-exactly x (Going y) = (λ w. absurd (let z = ap (λ (l : List ℕ). getD l 0 0) (w .1) in omega (arith, z)), none)
-  where
-    none : (_≡_ {A = ℕ} 1 2) ⊎ ((_≡_ {A = ℕ} 1 3) ⊎ (_≡_ {A = ℕ} 1 4)) → StartsWith (ascii "run ") (answerLines x (Going y))
-    none (inl e) = absurd (omega (arith, e))
-    none (inr (inl e)) = absurd (omega (arith, e))
-    none (inr (inr e)) = absurd (omega (arith, e))
-ending-exactly x (Stray i) = (λ w. inl refl, λ e. (_, refl))
-ending-exactly x (Refused y) = (λ w. inr (inl refl), λ e. (_, refl))
+unfolding answerLines offerLine numberLine refusedSetLine reportRefusedLine
+ending-exactly x (Going y) = (λ w. absurd (let z = ap (λ (l : List ℕ). getD l 0 0) (w .1) in omega (arith, z)), λ e. absurd (going-on y e))
+ending-exactly x (Stray i) = (λ w. inl (i, refl), λ e. (ascii "failed stray " ++ (decimal i ++ ascii "\n"), refl))
+ending-exactly x (Refused y) = (λ w. inr (inl (y, refl)), λ e. (ascii "failed refused " ++ (setWords y ++ ascii "\n"), refl))
 ending-exactly x Passed = (λ w. inr (inr refl), λ e. (ascii "passed\n", refl))
-ending-exactly x (Denied m) = (λ w. absurd (let z = ap (λ (l : List ℕ). getD l 1 0) (w .1) in omega (arith, z)), none)
-  where
-    none : (_≡_ {A = ℕ} 0 2) ⊎ ((_≡_ {A = ℕ} 0 3) ⊎ (_≡_ {A = ℕ} 0 4)) → StartsWith (ascii "run ") (answerLines x (Denied m))
-    none (inl e) = absurd (omega (arith, e))
-    none (inr (inl e)) = absurd (omega (arith, e))
-    none (inr (inr e)) = absurd (omega (arith, e))
+ending-exactly x (Denied m) = (λ w. absurd (let z = ap (λ (l : List ℕ). getD l 1 0) (w .1) in omega (arith, z)), λ e. absurd (denied-on m e))
 
 -- ---- every sheet, record and report
 
-module _ (y : ℕ) (s : Sheet) (r : Run) (x : Report) where
-  -- `run passed` is printed exactly if the report is not refused and the run has passed with it
-  pub says-passed : (answerLines y (stepOf s r x .answer) ≡ ascii "run passed\n") ↔ ((reportFault s r x ≡ 0) × Passing s r x)
-  says-passed =
-      let p = passed-exactly y (stepOf s r x .answer) in
-      (λ e. kind-4 s r x .0 (p .0 e), λ w. p .1 (kind-4 s r x .1 w))
+-- the answers of the kinds 2, 3 and 4
+stray-kind : (a : Answer) → said a .kind ≡ 2 → (i : ℕ) × (a ≡ Stray i)
+unfolding said
+stray-kind (Going y) e = absurd (omega (arith, e))
+stray-kind (Stray i) e = (i, refl)
+stray-kind (Refused y) e = absurd (omega (arith, e))
+stray-kind Passed e = absurd (omega (arith, e))
+stray-kind (Denied m) e = absurd (omega (arith, e))
 
-  -- `run failed stray ` is printed exactly if the report is not refused and is an event outside the initials
-  pub says-stray : StartsWith (ascii "run failed stray ") (answerLines y (stepOf s r x .answer)) ↔ ((reportFault s r x ≡ 0) × Straying s r x)
-  says-stray =
-      let p = stray-exactly y (stepOf s r x .answer) in
-      (λ e. kind-2 s r x .0 (p .0 e), λ w. p .1 (kind-2 s r x .1 w))
+refused-kind : (a : Answer) → said a .kind ≡ 3 → (X : ℕ) × (a ≡ Refused X)
+unfolding said
+refused-kind (Going y) e = absurd (omega (arith, e))
+refused-kind (Stray i) e = absurd (omega (arith, e))
+refused-kind (Refused y) e = (y, refl)
+refused-kind Passed e = absurd (omega (arith, e))
+refused-kind (Denied m) e = absurd (omega (arith, e))
 
-  -- `run failed refused ` is printed exactly if the report is not refused and is "blocked" where the run may not stop
-  pub says-refused : StartsWith (ascii "run failed refused ") (answerLines y (stepOf s r x .answer)) ↔ ((reportFault s r x ≡ 0) × Refusing s r x)
-  says-refused =
-      let p = refused-exactly y (stepOf s r x .answer) in
-      (λ e. kind-3 s r x .0 (p .0 e), λ w. p .1 (kind-3 s r x .1 w))
+passed-kind : (a : Answer) → said a .kind ≡ 4 → a ≡ Passed
+unfolding said
+passed-kind (Going y) e = absurd (omega (arith, e))
+passed-kind (Stray i) e = absurd (omega (arith, e))
+passed-kind (Refused y) e = absurd (omega (arith, e))
+passed-kind Passed e = refl
+passed-kind (Denied m) e = absurd (omega (arith, e))
 
-  -- all else that is printed to a report does not begin with `run `
-  pub says-ending : StartsWith (ascii "run ") (answerLines y (stepOf s r x .answer)) ↔ ((reportFault s r x ≡ 0) × (Straying s r x ⊎ (Refusing s r x ⊎ Passing s r x)))
-  says-ending = (λ e. forth (ending-exactly y (stepOf s r x .answer) .0 e), λ w. ending-exactly y (stepOf s r x .answer) .1 (back (w .0) (w .1)))
-    where
-      forth : Ends (stepOf s r x .answer) → (reportFault s r x ≡ 0) × (Straying s r x ⊎ (Refusing s r x ⊎ Passing s r x))
-      forth (inl e) = let w = kind-2 s r x .0 e in (w .0, inl (w .1))
-      forth (inr (inl e)) = let w = kind-3 s r x .0 e in (w .0, inr (inl (w .1)))
-      forth (inr (inr e)) = let w = kind-4 s r x .0 e in (w .0, inr (inr (w .1)))
+module _ (s : Sheet) (r : Run) (x : Report) where
+  -- the step answers with a stray exactly to an event outside the initials that is not refused
+  strays-exactly : ((i : ℕ) × (stepOf s r x .answer ≡ Stray i)) ↔ ((reportFault s r x ≡ 0) × Straying s r x)
+  unfolding said
+  strays-exactly = (λ w. kind-2 s r x .0 (kind-same (w .1)), λ w. stray-kind (stepOf s r x .answer) (kind-2 s r x .1 w))
 
-      back : reportFault s r x ≡ 0 → Straying s r x ⊎ (Refusing s r x ⊎ Passing s r x) → Ends (stepOf s r x .answer)
-      back z (inl w) = inl (kind-2 s r x .1 (z, w))
-      back z (inr (inl w)) = inr (inl (kind-3 s r x .1 (z, w)))
-      back z (inr (inr w)) = inr (inr (kind-4 s r x .1 (z, w)))
+  refuses-exactly : ((X : ℕ) × (stepOf s r x .answer ≡ Refused X)) ↔ ((reportFault s r x ≡ 0) × Refusing s r x)
+  unfolding said
+  refuses-exactly = (λ w. kind-3 s r x .0 (kind-same (w .1)), λ w. refused-kind (stepOf s r x .answer) (kind-3 s r x .1 w))
+
+  passes-exactly : (stepOf s r x .answer ≡ Passed) ↔ ((reportFault s r x ≡ 0) × Passing s r x)
+  unfolding said
+  passes-exactly = (λ e. kind-4 s r x .0 (kind-same e), λ w. passed-kind (stepOf s r x .answer) (kind-4 s r x .1 w))
+
+  module _ (y : ℕ) where
+    -- `run passed` is printed exactly if the report is not refused and the run has passed with it
+    pub says-passed : (answerLines y (stepOf s r x .answer) ≡ ascii "run passed\n") ↔ ((reportFault s r x ≡ 0) × Passing s r x)
+    says-passed =
+        let p = passed-exactly y (stepOf s r x .answer) in
+        (λ e. passes-exactly .0 (p .0 e), λ w. p .1 (passes-exactly .1 w))
+
+    -- `run failed stray ` is printed exactly if the report is not refused and is an event outside the initials
+    pub says-stray : StartsWith (ascii "run failed stray ") (answerLines y (stepOf s r x .answer)) ↔ ((reportFault s r x ≡ 0) × Straying s r x)
+    says-stray =
+        let p = stray-exactly y (stepOf s r x .answer) in
+        (λ e. strays-exactly .0 (p .0 e), λ w. p .1 (strays-exactly .1 w))
+
+    -- `run failed refused ` is printed exactly if the report is not refused and is "blocked", in a run that is not
+    -- trace-only, at a node that may not stop
+    pub says-refused : StartsWith (ascii "run failed refused ") (answerLines y (stepOf s r x .answer)) ↔ ((reportFault s r x ≡ 0) × Refusing s r x)
+    says-refused =
+        let p = refused-exactly y (stepOf s r x .answer) in
+        (λ e. refuses-exactly .0 (p .0 e), λ w. p .1 (refuses-exactly .1 w))
+
+    -- what is printed to a report begins with `run ` exactly if the report is not refused and ends the run in one of
+    -- these three ways
+    pub says-ending : StartsWith (ascii "run ") (answerLines y (stepOf s r x .answer)) ↔ ((reportFault s r x ≡ 0) × (Straying s r x ⊎ (Refusing s r x ⊎ Passing s r x)))
+    says-ending = (λ e. forth (ending-exactly y (stepOf s r x .answer) .0 e), λ w. ending-exactly y (stepOf s r x .answer) .1 (back (w .0) (w .1)))
+      where
+        forth : Ends (stepOf s r x .answer) → (reportFault s r x ≡ 0) × (Straying s r x ⊎ (Refusing s r x ⊎ Passing s r x))
+        forth (inl e) = let w = strays-exactly .0 e in (w .0, inl (w .1))
+        forth (inr (inl e)) = let w = refuses-exactly .0 e in (w .0, inr (inl (w .1)))
+        forth (inr (inr e)) = let w = passes-exactly .0 e in (w .0, inr (inr (w .1)))
+
+        back : reportFault s r x ≡ 0 → Straying s r x ⊎ (Refusing s r x ⊎ Passing s r x) → Ends (stepOf s r x .answer)
+        back z (inl w) = inl (strays-exactly .1 (z, w))
+        back z (inr (inl w)) = inr (inl (refuses-exactly .1 (z, w)))
+        back z (inr (inr w)) = inr (inr (passes-exactly .1 (z, w)))
 
 -- the event of a stray is the one that was reported
 pub stray-line : (y : ℕ) (s : Sheet) (r : Run) (i : ℕ) → reportFault s r (Event i) ≡ 0 → Straying s r (Event i)
@@ -136,12 +179,12 @@ pub offer-other : (x : ℕ) → ¬ StartsWith (ascii "run ") (offerLine x)
 unfolding offerLine
 offer-other x w = let z = ap (λ (l : List ℕ). getD l 0 0) (w .1) in omega (arith, z)
 
--- the line of a refused report does not
+-- the line of a refused report does not begin with `run `
 pub report-other : (m : ℕ) → ¬ StartsWith (ascii "run ") (reportRefusedLine m)
 unfolding reportRefusedLine
 report-other m w = let z = ap (λ (l : List ℕ). getD l 1 0) (w .1) in omega (arith, z)
 
--- the first line of a run does not
+-- the first line of a run does not begin with `run `
 pub head-other : (traceOnly : Bool) (k h n e : ℕ) → ¬ StartsWith (ascii "run ") (headLine traceOnly k h n e)
 unfolding headLine kindWords
 head-other true k h n e w = let z = ap (λ (l : List ℕ). getD l 0 0) (w .1) in omega (arith, z)
@@ -159,7 +202,7 @@ test-other asked n e (Refused x) w = let z = ap (λ (l : List ℕ). getD l 0 0) 
 test-other asked n e Passed w = let z = ap (λ (l : List ℕ). getD l 0 0) (w .1) in omega (arith, z)
 test-other asked n e (Denied m) w = let z = ap (λ (l : List ℕ). getD l 0 0) (w .1) in omega (arith, z)
 
--- whatever an opening prints, it does not
+-- what an opening prints does not begin with `run `
 pub opening-other : (asked : Asked) (n e fault : ℕ) (a : Answer) → ¬ StartsWith (ascii "run ") (openingLines asked n e fault a)
 unfolding openingLines numberLine
 opening-other asked n e fault a = go (eqb fault 0)
@@ -168,7 +211,7 @@ opening-other asked n e fault a = go (eqb fault 0)
     go true w = test-other asked n e a w
     go false w = let z = ap (λ (l : List ℕ). getD l 1 0) (w .1) in omega (arith, z)
 
--- the line where a run has not ended does not
+-- the line where a run has not ended does not begin with `run `
 pub ended-other : (many : Bool) → ¬ StartsWith (ascii "run ") (endedLine many)
 unfolding endedLine
 ended-other true w = let z = ap (λ (l : List ℕ). getD l 0 0) (w .1) in omega (arith, z)

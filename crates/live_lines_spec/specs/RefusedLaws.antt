@@ -1,7 +1,7 @@
 -- Nothing to believe: laws. Why a report is refused in a run of `live`: the record with which the run begins fits the
 -- sheet, and so does every record after it until the run ends; on such a record a report is refused only for naming no
 -- event of the sheet, or one that was not offered, and the line says which.
-use mathlib.Core.Path.{_≡_, refl, sym, ap, _∙_}
+use mathlib.Core.Path.{_≡_, sym, ap, _∙_}
 use mathlib.Core.Logic.{_⊎_, inl, inr, _≢_}
 use mathlib.Core.Bool.{Bool, true, false}
 use mathlib.Core.List.{_++_}
@@ -19,11 +19,9 @@ use Rattle.tests_spec.specs.declared.Run.{Run}
 use Rattle.tests_spec.specs.declared.Report.{Report}
 use Rattle.tests_spec.specs.declared.Report.the-variants.{Event, Blocked}
 use Rattle.tests_spec.specs.declared.Answer.the-variants.{Denied}
-use Rattle.tests_spec.specs.Flags.{flag}
-use Rattle.tests_spec.specs.Numbers.{said}
 use Rattle.tests_spec.specs.Runs.{offerOf, openFault, openOf, reportFault, movedBy, stepOf}
 use Rattle.tests_spec.specs.Reports.{Beyond, NotOffered, WrongRecord, Fitting, Started, Taken, denies, moves, strays, refuses, passes}
-use Rattle.tests_spec.specs.RunLaws.{open-0, report-0, report-15, report-17, answer-of, kind-same, run-of, taken}
+use Rattle.tests_spec.specs.RunLaws.{open-0, report-0, report-15, report-17, answer-of, run-of, taken}
 use Rattle.tests_spec.specs.RunRecords.{opening-starts, step-refused}
 use Rattle.live_lines_spec.specs.Answers.{offerLine, reportWords, reportRefusedLine, answerLines}
 use Rattle.live_lines_spec.specs.EndingLaws.{Ends}
@@ -50,7 +48,7 @@ module _ (s : Sheet) (r : Run) (x : Report) (fit : Fitting s r) where
 
   -- a record that fits the sheet does so after every report that does not end the run
   pub next-fits : ¬ Ends (stepOf s r x .answer) → Fitting s (stepOf s r x .run)
-  unfolding said movedBy
+  unfolding movedBy
   next-fits n = go (taken s r x)
     where
       node : (i : ℕ) → i < s .e → successor (row s (r .node)) i ≢ 255 → successor (row s (r .node)) i < s .n
@@ -68,9 +66,9 @@ module _ (s : Sheet) (r : Run) (x : Report) (fit : Fitting s r) where
       go : Taken s r x → Fitting s (stepOf s r x .run)
       go (denies m p) = rw (run-of p) fit
       go (moves i q z a l p) = rw (run-of p) (fit .0, moved i (node i (a .0) (a .1)) l)
-      go (strays i q z m p) = absurd (n (inl (kind-same (answer-of p))))
-      go (refuses q z t m p) = absurd (n (inr (inl (kind-same (answer-of p)))))
-      go (passes z q p) = absurd (n (inr (inr (kind-same (answer-of p)))))
+      go (strays i q z m p) = absurd (n (inl (i, answer-of p)))
+      go (refuses q z t m p) = absurd (n (inr (inl (offerOf s r, answer-of p))))
+      go (passes z q p) = absurd (n (inr (inr (answer-of p))))
 
   -- on a record that fits the sheet a refused report names no event of the sheet, or one that was not offered, and what
   -- is printed says which, before the offer that stood

@@ -40,7 +40,7 @@ pub fn output_by(call: &Call, open: &Opens, step: &Steps) -> String {
         Answer::Going(offer) => offer,
         _ => return "test refused 14\n".to_string(),
     };
-    let mut text = head_line("reference", &sheet) + &offer_line(offer);
+    let mut text = first_line(&sheet, k, h, traces) + &offer_line(offer);
     for line in lines(&call.typed) {
         let (answer, after) = step(&sheet, &run, heard(line));
         run = after;
@@ -97,6 +97,12 @@ fn heard(line: &[u8]) -> Report {
         .filter(|word| word.len() <= 3 && word.bytes().all(|byte| byte.is_ascii_digit()))
         .and_then(|word| word.parse().ok());
     Report::Event(event.unwrap_or(255))
+}
+
+/// The first line of a run: which test, with which choice number, on a reference of which size.
+fn first_line(sheet: &Sheet, k: u16, h: u16, traces: bool) -> String {
+    let kind = if traces { "trace-only " } else { "" };
+    format!("{kind}test {k} choice {h} {}", head_line("reference", sheet))
 }
 
 fn offer_line(offer: u16) -> String {
