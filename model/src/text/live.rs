@@ -102,7 +102,10 @@ fn heard(line: &[u8]) -> Report {
 /// The first line of a run: which test, with which choice number, on a reference of which size.
 fn first_line(sheet: &Sheet, k: u16, h: u16, traces: bool) -> String {
     let kind = if traces { "trace-only " } else { "" };
-    format!("{kind}test {k} choice {h} {}", head_line("reference", sheet))
+    format!(
+        "{kind}test {k} choice {h} {}",
+        head_line("reference", sheet)
+    )
 }
 
 fn offer_line(offer: u16) -> String {
