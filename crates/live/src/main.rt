@@ -2,9 +2,9 @@
 //   live REF K H [traces]
 // REF names a file with the reference's bytes, of which no more than 4,096 are kept; later bytes count as absent. K and
 // H are numbers in base ten, and `traces` makes the run trace-only. Other counts of words are refused with 14 before
-// the file is opened. It prints a first line, with the test, the choice number, whether it is trace-only and the size of
-// the reference, and the first offer; or one refusal. Then it reads one report a line from standard input, `event e` or
-// `blocked`, and prints the answer to each, until the run ends. A line that is no report is refused with 15, and the
+// the file is opened. It prints a first line, with the test, the choice number, whether it is trace-only and the size
+// of the reference, and the first offer; or one refusal. Then it reads one report a line from standard input, `event e`
+// or `blocked`, and prints the answer to each, until the run ends. A line that is no report is refused with 15, and the
 // offer, which stands, is printed again. A last line without its newline is no line: the input has ended. Where an
 // answer cannot be written, the program says so on standard error and ends.
 use libc::STDERR_FILENO;

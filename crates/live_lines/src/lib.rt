@@ -23,7 +23,8 @@ fn put_kind(out: &mut [u8], trace_only: bool) -> usize
 
 // Puts the first line of a run of the test that is asked for, on a reference of n nodes and e events.
 fn put_head(out: &mut [u8], asked: Asked, n: u16, e: u16) -> usize
-    ensures { λ r. ⌜ Adds (headLine (asked .«trace_only») (asked .k) (asked .h) n e) (now (out .entry)) 0 (now (out .exit)) r ⌝ }
+    ensures { λ r. ⌜ Adds (headLine (asked .«trace_only») (asked .k) (asked .h) n e)
+        (now (out .entry)) 0 (now (out .exit)) r ⌝ }
 {
     let a = put_kind(out, asked.trace_only);
     let b = text::put_numbers(out, a, b"test ", asked.k, b" choice ", asked.h, b" ");
@@ -110,8 +111,8 @@ pub fn next_offer(offered: u16, a: Answer) -> u16
 
 // Puts the first line of a run and its first offer.
 fn put_first(out: &mut [u8], asked: Asked, n: u16, e: u16, set: u16) -> usize
-    ensures { λ r. ⌜ Adds (headLine (asked .«trace_only») (asked .k) (asked .h) n e ++ offerLine set) (now (out .entry)) 0
-        (now (out .exit)) r ⌝ }
+    ensures { λ r. ⌜ Adds (headLine (asked .«trace_only») (asked .k) (asked .h) n e ++ offerLine set)
+        (now (out .entry)) 0 (now (out .exit)) r ⌝ }
 {
     let a = put_head(out, asked, n, e);
     put_offer(out, a, set)

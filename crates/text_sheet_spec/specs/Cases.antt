@@ -78,8 +78,8 @@ pub denied-holds : deniedLine 255 9 ≡ ascii "node 255 refused 9\n"
 unfolding deniedLine decimal decimalIn
 denied-holds = refl
 
--- rows of three events: events 0 and 2 with the acceptances 1 and 4; with 4 alone; with 0, so that it may stop; no event
--- at all; and all three events with the acceptances 1 and 2
+-- rows of three events: events 0 and 2 with the acceptances 1 and 4; with 4 alone; with 0, so that it may stop; no
+-- event at all; and all three events with the acceptances 1 and 2
 unfoldable pub rows : List Row
 rows =
     record { succ = 0 ∷ 255 ∷ 0 ∷ []; sets = 1 ∷ 4 ∷ []; c = 2 }
