@@ -184,6 +184,19 @@ grep -q "^device file $tray/repaired.sheet sha256 $(sha256sum < $tray/repaired.s
     "$scratch/printed" || fails 'a form: the sum of the device is another'
 ends_with 2 'a form of a refused device' ./bench form $example/reference.sheet "$scratch/version"
 grep -q '^device refused 2$' "$scratch/printed" || fails 'a form of a refused device: its refusal is missing'
+# a build is named only by the record of that very program
+copy
+stand_in suite 'printf "tests 1 run 1 all pass\n"'
+stand_in compare 'printf "refines cleared 1\n"'
+sum=$(sha256sum < "$scratch/copy/target/bin/suite")
+lines 'commit 7' 'toolchain 8' "sha256 ${sum%% *}" > "$scratch/copy/target/bin/suite.built"
+lines 'commit 7' 'toolchain 8' "sha256 ${sum%% *}" > "$scratch/copy/target/bin/compare.built"
+ends_with 0 'a form after a program was built anew' \
+    "$scratch/copy/bench" form $example/reference.sheet $example/device.sheet
+tail -n 2 "$scratch/printed" > "$scratch/last"
+mv "$scratch/last" "$scratch/printed"
+held 'a form after a program was built anew' 'program suite commit 7 toolchain 8' \
+    'program compare commit unknown toolchain unknown'
 # a name with a line in it does not make a line
 cp $example/device.sheet "$scratch/x
 tests 6 run 6 all pass"
@@ -230,8 +243,25 @@ ends_with 0 'and then no more' "$scratch/copy/bench" show $example/reference.she
 runs=$((runs + 1))
 [ ! -s "$scratch/said" ] || fails 'a program that is not stale is proved again'
 # what was recorded
-cp "$scratch/copy/target/bin/show.built" "$scratch/printed"
-held 'the record of a build' 'commit unknown' 'toolchain stand-in 1'
+recorded() { # COMMIT: the record of the program that was built
+    cp "$scratch/copy/target/bin/show.built" "$scratch/printed"
+    sum=$(sha256sum < "$scratch/copy/target/bin/show")
+    held 'the record of a build' "commit $1" 'toolchain stand-in 1' "sha256 ${sum%% *}"
+}
+recorded unknown
+if command -v git > /dev/null 2>&1; then
+    (
+        cd "$scratch/copy" && echo target > .gitignore && git init -q && git add . &&
+            git -c user.name=bench -c user.email=bench commit -qm built
+    )
+    commit=$(git -C "$scratch/copy" rev-parse HEAD)
+    touch "$scratch/copy/crates/show/lib.rt"
+    ends_with 0 'a build from a commit' "$scratch/copy/bench" show $example/reference.sheet
+    recorded "$commit"
+    echo changed > "$scratch/copy/crates/show/lib.rt"
+    ends_with 0 'a build from changed sources' "$scratch/copy/bench" show $example/reference.sheet
+    recorded "$commit changed"
+fi
 ends_with 0 'the library' "$scratch/copy/bench" library
 held 'the library' "library $(cd "$scratch/copy" && pwd -P)/target/staticlib/libedge.a" \
     "header $(cd "$scratch/copy" && pwd -P)/include/bench.h"
