@@ -93,13 +93,21 @@ mkfifo "$scratch/typed"
 ./bench live "$scratch/reference" 1 0 < "$scratch/typed" > "$scratch/printed" 2> "$scratch/said" &
 live=$!
 exec 4> "$scratch/typed"
-seen() { # LINES: so many are printed, soon
-    runs=$((runs + 1))
-    for turn in 1 2 3 4 5 6 7 8 9 10 11 12 13 14 15 16 17 18 19 20; do
-        [ "$(wc -l < "$scratch/printed")" -ge "$1" ] && return
+# soon COMMAND..: the command succeeds within a minute
+soon() {
+    turn=0
+    until "$@"; do
+        [ "$turn" -lt 300 ] || return 1
+        turn=$((turn + 1))
         sleep 0.2
     done
-    fails "live printed no line $1 before the next report"
+}
+has_lines() { # COUNT: so many lines are printed
+    [ "$(wc -l < "$scratch/printed")" -ge "$1" ]
+}
+seen() { # COUNT: so many lines are printed, soon
+    runs=$((runs + 1))
+    soon has_lines "$1" || fails "live printed no line $1 before the next report"
 }
 seen 2
 echo 'event 0' >&4
@@ -209,7 +217,7 @@ runs=$((runs + 1))
 copy
 mkdir "$scratch/tools"
 lines '#!/bin/sh' '[ "$1" = version ] && { echo "stand-in 1"; exit; }' \
-    'echo "rt: base proved (1 s)"' 'sleep 2' \
+    'echo "rt: base proved (1 s)"' ": > '$scratch/running'" "until [ -e '$scratch/go' ]; do sleep 0.2; done" \
     'mkdir -p target/bin target/staticlib; echo "#!/bin/sh" > target/bin/show' \
     'echo "echo sheet 1 nodes 1 events" >> target/bin/show; chmod +x target/bin/show; : > target/staticlib/libedge.a' \
     'echo "rt: $2 proved (2 s)"' 'echo "rt: ok, 2 crates proved"' > "$scratch/tools/rt"
@@ -219,8 +227,11 @@ export PATH
 # two at once: each says its own words, and both programs run
 "$scratch/copy/bench" show $example/reference.sheet > "$scratch/first" 2> "$scratch/first.said" &
 first=$!
+soon [ -e "$scratch/running" ]
 "$scratch/copy/bench" show $example/reference.sheet > "$scratch/second" 2> "$scratch/second.said" &
 second=$!
+soon [ -s "$scratch/second.said" ]
+: > "$scratch/go"
 wait "$first" || fails "two at once: the first ended with $?"
 wait "$second" || fails "two at once: the second ended with $?"
 cat "$scratch/first" "$scratch/second" > "$scratch/printed"
@@ -231,11 +242,13 @@ held 'two at once: what they said' 'bench: 1 of 2 proved: base' 'bench: 2 of 2 p
     'bench: proving and building show; the first time this takes some minutes' \
     'bench: waiting for another ./bench that proves in this folder'
 # an edit made while a program is proved makes it stale
+rm -f "$scratch/running" "$scratch/go"
 touch "$scratch/copy/crates/show/lib.rt"
 "$scratch/copy/bench" show $example/reference.sheet > /dev/null 2>&1 &
 first=$!
-sleep 1
+soon [ -e "$scratch/running" ]
 touch "$scratch/copy/crates/show/lib.rt"
+: > "$scratch/go"
 wait "$first"
 ends_with 0 'after an edit during the check' "$scratch/copy/bench" show $example/reference.sheet
 grep -q 'proving and building show' "$scratch/said" || fails 'an edit made while a program is proved is overlooked'
@@ -270,21 +283,19 @@ copy
 lines '#!/bin/sh' '[ "$1" = version ] && exit' "sleep 77 & echo \$! > '$scratch/child'; wait" > "$scratch/tools/rt"
 "$scratch/copy/bench" show $example/reference.sheet > "$scratch/printed" 2> "$scratch/said" &
 first=$!
-for turn in 1 2 3 4 5 6 7 8 9 10; do
-    [ -s "$scratch/child" ] && break
-    sleep 0.5
-done
+soon [ -s "$scratch/child" ]
 kill -TERM "$first"
 wait "$first"
 status=$?
-sleep 1
 runs=$((runs + 1))
 [ "$status" = 130 ] || fails "an interrupt while proving: status $status"
-case $(ps -o stat= -p "$(cat "$scratch/child")" 2> /dev/null) in
-    '' | Z*) ;;
-    *) fails 'an interrupt left something running' ;;
-esac
-[ ! -e "$scratch/copy/target/bench.lock" ] || fails 'an interrupt left its lock'
+is_gone() {
+    case $(ps -o stat= -p "$(cat "$scratch/child")" 2> /dev/null) in '' | Z*) ;; *) return 1 ;; esac
+}
+soon is_gone || fails 'an interrupt left something running'
+[ ! -L "$scratch/copy/target/bench.lock" ] || fails 'an interrupt left its lock'
+# the lock of a process that is no more holds nobody up
+ln -s 999999999 "$scratch/copy/target/bench.lock"
 # a prover that refuses
 lines '#!/bin/sh' 'echo "rt: FAILED: show"; exit 1' > "$scratch/tools/rt"
 ends_with 2 'a program that is not proved' "$scratch/copy/bench" show $example/reference.sheet
@@ -292,9 +303,10 @@ grep -q 'show was not proved' "$scratch/said" || fails 'a program that is not pr
 # a live run is ended too
 mkfifo "$scratch/silent"
 exec 5<> "$scratch/silent"
+: > "$scratch/printed"
 "$root/bench" live "$scratch/reference" 1 0 < "$scratch/silent" > "$scratch/printed" 2> "$scratch/said" &
 first=$!
-sleep 1
+soon has_lines 2
 kill -TERM "$first"
 wait "$first"
 status=$?
