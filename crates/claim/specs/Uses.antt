@@ -1,10 +1,11 @@
--- Nothing to believe: laws. What follows from the claim alone, with no definition opened: each of its fields is used up
--- to its bound, so that a claim that said less, by one test or one event, would not give them.
-use mathlib.Core.Path.{_≡_, sym, ap, _∙_}
+-- Nothing to believe: laws. What follows from the claim alone, of the bench's definitions only the numbers of answers
+-- opened: its fields are used up to their bounds, so that a claim that said less, by one test or one event, would not
+-- give them. (`Claim.violated` and `Claim.counted` are so used by the laws of what `compare` prints.)
+use mathlib.Core.Path.{_≡_, refl, sym, ap, _∙_}
 use mathlib.Core.Logic.{_⊎_, inl, inr, _↔_}
-use mathlib.Core.Bool.{Bool}
+use mathlib.Core.Bool.{Bool, true}
 use mathlib.Core.List.{List}
-use Prim.Native.Nat.{ℕ, _*_, _≤_, _<_}
+use Prim.Native.Nat.{ℕ, _-_, _*_, _≤_, _<_}
 use native.Mathlib.Omega.{arith}
 use lib.ListN.{length, getD, take}
 use Rattle.base.specs.Truth.{lt-or-ge}
@@ -14,10 +15,13 @@ use Rattle.refinement_spec.specs.Refinement.{ViolationIn, RefinesIn}
 use Rattle.verdicts_spec.specs.declared.Verdict.{Verdict}
 use Rattle.verdicts_spec.specs.declared.Verdict.the-variants.{Passes, Fails}
 use Rattle.verdicts_spec.specs.Verdicts.{FailsTest, verdictOf}
-use Rattle.verdicts_spec.specs.Numbers.{judged}
-use Rattle.verdicts_spec.specs.Suites.{verdictNumber, verdictsAfter}
+use Rattle.verdicts_spec.specs.Numbers.{judged, suited}
+use Rattle.verdicts_spec.specs.Suites.{verdictNumber, suiteOf, verdictsAfter}
 use Rattle.comparison_spec.specs.declared.Outcome.{Outcome}
-use Rattle.claim.specs.Claim.{Violated, AllJudged, Claim}
+use Rattle.comparison_spec.specs.declared.Outcome.the-variants.{Refines, Stray, Refusal, Denied}
+use Rattle.comparison_spec.specs.Comparison.{outcomeOf}
+use Rattle.comparison_spec.specs.Numbers.{compared}
+use Rattle.claim.specs.Claim.{LongEnough, Violated, AllJudged, Claim}
 
 -- the two words differ
 passes-fails : ¬ (Passes ≡ Fails)
@@ -62,6 +66,39 @@ module _ {traceOnly : Bool} {P Q : Sheet} (c : Claim traceOnly P Q) where
       go : (verdictOf traceOnly P Q k ≡ Passes) ⊎ (verdictOf traceOnly P Q k ≡ Fails) → getD other k 0 ≡ judged (verdictOf traceOnly P Q k) .kind
       go (inl p) = rw p (a .passed k l .1 p)
       go (inr f) = rw f (a .failed k l .1 (c .fails k (omega (arith, l, c .few)) .0 f))
+
+  -- with no violation of fewer than p q events there is none
+  pub short-decides : ((s : List ℕ) → length s < P .n * Q .n → ¬ ViolationIn traceOnly P Q s) → (t : List ℕ) → ¬ ViolationIn traceOnly P Q t
+  short-decides f t v = let x = c .near t v in f (x .0) (x .1) (x .2)
+
+  -- with traces alone, in no run of the single test p q - 1 can the device fail exactly if it refines the reference
+  pub single-decides : traceOnly ≡ true → (¬ FailsTest traceOnly P Q (P .n * Q .n - 1)) ↔ RefinesIn traceOnly P Q
+  single-decides e =
+      let s = passes-exactly (P .n * Q .n - 1) (omega (arith, c .few)) in
+      (λ n. c .single e .0 (s .1 n), λ r. s .0 (c .single e .1 r))
+
+  -- all tests at once answer that p q were judged, and no refusal
+  pub suite-counts : (out : List ℕ) → P .n * Q .n ≤ length out → suited (suiteOf P Q out) ≡ record { refusal = 0; count = P .n * Q .n }
+  unfolding suited
+  suite-counts out l = rw (c .suite out l .0)
+
+  -- a comparison with lists that are long enough says no refusal, "refines" exactly if the device does
+  pub compared-exactly : (work trace : List ℕ) → LongEnough P Q work trace
+      → (compared (outcomeOf traceOnly P Q work trace) .refusal ≡ 0) × ((compared (outcomeOf traceOnly P Q work trace) .kind ≡ 21) ↔ RefinesIn traceOnly P Q)
+  unfolding compared
+  compared-exactly work trace l = (none (outcomeOf traceOnly P Q work trace) refl, (λ e. c .refined work trace l .0 (says (outcomeOf traceOnly P Q work trace) e refl), λ r. rw (c .refined work trace l .1 r .1)))
+    where
+      none : (o : Outcome) → outcomeOf traceOnly P Q work trace ≡ o → compared o .refusal ≡ 0
+      none (Refines k) e = refl
+      none (Stray d k i) e = refl
+      none (Refusal d k X A) e = refl
+      none (Denied m) e = absurd (c .answers work trace l m e)
+
+      says : (o : Outcome) → compared o .kind ≡ 21 → outcomeOf traceOnly P Q work trace ≡ o → (k : ℕ) × (outcomeOf traceOnly P Q work trace ≡ Refines k)
+      says (Refines k) z e = (k, e)
+      says (Stray d k i) z e = absurd (omega arith)
+      says (Refusal d k X A) z e = absurd (omega arith)
+      says (Denied m) z e = absurd (omega arith)
 
 module _ {traceOnly : Bool} {P Q : Sheet} {o : Outcome} {after : List ℕ} (v : Violated traceOnly P Q o after) where
   -- d is the only number of a test that fails after all before it passed
