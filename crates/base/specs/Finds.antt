@@ -19,6 +19,14 @@ pub record Finds (ok : Bool) (F : Type 0) : Type 0 where
 pub finds-as : {ok : Bool} {F G : Type 0} → Finds ok F → (F → G) → (G → F) → Finds ok G
 finds-as h f g = record { clear = λ t x. h .clear t (g x); fault = λ t. f (h .fault t) }
 
+-- where there is no fault the test passes
+pub finds-none : {ok : Bool} {F : Type 0} → Finds ok F → ¬ F → ok ≡ true
+finds-none {ok} {F} h n = go (dec ok)
+  where
+    go : (ok ≡ true) ⊎ (ok ≡ false) → ok ≡ true
+    go (inl t) = t
+    go (inr t) = absurd (n (h .fault t))
+
 -- tests that find a number that is too great, too small, or not the one
 pub finds-le : (a b : ℕ) → Finds (leb a b) (b < a)
 finds-le a b = record { clear = λ t x. omega (arith, leb-true a b t); fault = leb-false a b }

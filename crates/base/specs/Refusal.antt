@@ -94,6 +94,20 @@ orElse-then k r m n = (go k n, back k)
     back zero p = p .1
     back (suc k) p = absurd (omega (arith, p .0))
 
+-- of two parts in turn, a number that both can give
+pub orElse-either : (k r m : ℕ) → m ≢ 0 → (orElse k r ≡ m) ↔ ((k ≡ m) ⊎ ((k ≡ 0) × (r ≡ m)))
+orElse-either k r m z = (go k, back k)
+  where
+    go : (k : ℕ) → orElse k r ≡ m → (k ≡ m) ⊎ ((k ≡ 0) × (r ≡ m))
+    go zero p = inr (refl, p)
+    go (suc k) p = inl p
+
+    back : (k : ℕ) → (k ≡ m) ⊎ ((k ≡ 0) × (r ≡ m)) → orElse k r ≡ m
+    back zero (inl p) = absurd (z (sym p))
+    back zero (inr p) = p .1
+    back (suc k) (inl p) = p
+    back (suc k) (inr p) = absurd (omega (arith, p .0))
+
 pub orElse-other : {m : ℕ} (k r : ℕ) → k ≢ m → r ≢ m → orElse k r ≢ m
 orElse-other zero r p q = q
 orElse-other (suc k) r p q = p

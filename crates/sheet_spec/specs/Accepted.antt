@@ -14,19 +14,21 @@ use Rattle.base.specs.Range.{all, all←}
 use Rattle.base.specs.Refusal.{unless→, unless←}
 use Rattle.base.specs.Table.{upTo, getD-upTo}
 use Rattle.sheet_spec.specs.declared.Sheet.{Sheet}
-use Rattle.sheet_spec.specs.Kept.{noRow, row, successor, acceptance}
-use Rattle.sheet_spec.specs.Rules.{rangesOk, countOk, countsOk, successorsOk, setsOk, blank, unusedOk, blanksOk, reachedOk}
+use Rattle.sheet_spec.specs.Kept.{noRow, codeAt, row, successor, acceptance}
+use Rattle.sheet_spec.specs.Rules.{rangesOk, codesOk, countOk, countsOk, successorsOk, setsOk, blank, unusedOk, blanksOk, codesBlank, reachedOk}
 use Rattle.sheet_spec.specs.Refusals.{graphFault, bytesFault, sheetFault}
-use Rattle.sheet_spec.specs.Spelling.{eventCount, nodeCount, countAt, startOf, succOf, setsOf, rowAt, unusedRow, rowOf, sheetOf}
+use Rattle.sheet_spec.specs.Spelling.{eventCount, nodeCount, codeOf, codesOf, countAt, startOf, succOf, setsOf, rowAt, unusedRow, rowOf, sheetOf}
 use Rattle.sheet_spec.specs.Places.{Accepts, accepts, whole}
 
 -- every test of a kept sheet passes; a field's number is the refusal's
 pub record Passes (s : Sheet) : Type 0 where
   pub p3 : rangesOk (s .e) (s .n) ≡ true
+  pub p18 : codesOk (s .e) (s .codes) ≡ true
   pub p5 : countsOk s ≡ true
   pub p6 : successorsOk s ≡ true
   pub p7 : setsOk s ≡ true
   pub p7u : blanksOk s ≡ true
+  pub p7c : codesBlank (s .e) (s .codes) ≡ true
   pub p8 : reachedOk s ≡ true
 
 -- a kept sheet that is not refused passes every test
@@ -34,16 +36,29 @@ pub passes : (s : Sheet) → sheetFault s ≡ 0 → Passes s
 unfolding sheetFault
 passes s h =
     let a = unless→ (rangesOk (s .e) (s .n)) 2 _ h in
-    let b = unless→ (countsOk s) 4 _ (a .1) in
+    let g = unless→ (codesOk (s .e) (s .codes)) 17 _ (a .1) in
+    let b = unless→ (countsOk s) 4 _ (g .1) in
     let c = unless→ (successorsOk s) 5 _ (b .1) in
-    let d = unless→ (setsOk s && blanksOk s) 6 _ (c .1) in
+    let d = unless→ (setsOk s && (blanksOk s && codesBlank (s .e) (s .codes))) 6 _ (c .1) in
     let e = unless→ (reachedOk s) 7 0 (d .1) in
-    record { p3 = a .0; p5 = b .0; p6 = c .0; p7 = and-l (setsOk s) (blanksOk s) (d .0); p7u = and-r (setsOk s) (blanksOk s) (d .0); p8 = e .0 }
+    let u = and-r (setsOk s) (blanksOk s && codesBlank (s .e) (s .codes)) (d .0) in
+    record {
+      p3 = a .0;
+      p18 = g .0;
+      p5 = b .0;
+      p6 = c .0;
+      p7 = and-l (setsOk s) (blanksOk s && codesBlank (s .e) (s .codes)) (d .0);
+      p7u = and-l (blanksOk s) (codesBlank (s .e) (s .codes)) u;
+      p7c = and-r (blanksOk s) (codesBlank (s .e) (s .codes)) u;
+      p8 = e .0;
+    }
 
 -- a sheet that passes every test is not refused
 pub passed : (s : Sheet) → Passes s → sheetFault s ≡ 0
 unfolding sheetFault
-passed s p = unless← 3 (p .p3) (unless← 5 (p .p5) (unless← 6 (p .p6) (unless← 7 (and-i (p .p7) (p .p7u)) (unless← 8 (p .p8) refl))))
+passed s p =
+    unless← 3 (p .p3) (unless← 18 (p .p18) (unless← 5 (p .p5) (unless← 6 (p .p6)
+    (unless← 7 (and-i (p .p7) (and-i (p .p7u) (p .p7c))) (unless← 8 (p .p8) refl)))))
 
 -- where the graph is not refused, the tests of successors, sets and reached nodes pass
 pub graph-passes : (s : Sheet) → graphFault s ≡ 0 → (successorsOk s ≡ true) × (setsOk s ≡ true) × (reachedOk s ≡ true)
@@ -122,9 +137,31 @@ module _ (b : List ℕ) (a : Accepts b) where
   unfolding sheetOf
   ranges-read = a .headed .ranges
 
+  codes-read : codesOk (sheetOf b .e) (sheetOf b .codes) ≡ true
+  unfolding sheetOf
+  codes-read = a .coded .distinct
+
+  blank-codes-read : codesBlank (sheetOf b .e) (sheetOf b .codes) ≡ true
+  unfolding codesBlank sheetOf
+  blank-codes-read = all← (λ i. ltb i (eventCount b) || eqb (codeAt (codesOf b) i) 0) 12 (λ i h. go i h (lt-or-ge i (eventCount b)))
+    where
+      go : (i : ℕ) → i < 12 → (i < eventCount b) ⊎ (eventCount b ≤ i) → (ltb i (eventCount b) || eqb (codeAt (codesOf b) i) 0) ≡ true
+      go i h (inl k) = rw (lt-ltb i (eventCount b) k)
+      go i h (inr k) = unfold codeOf in rw (getD-upTo (codeOf b) 12 i 0 h, le-ltb i (eventCount b) k)
+
 -- what reading accepts, a later call accepts
 pub read-accepted : (b : List ℕ) → bytesFault b ≡ 0 → sheetFault (sheetOf b) ≡ 0
 read-accepted b h =
     let a = accepts b h in
     let g = graph-passes (sheetOf b) (a .graphed) in
-    passed (sheetOf b) (record { p3 = ranges-read b a; p5 = counts-read b a; p6 = g .0; p7 = g .1; p7u = blanks-read b a; p8 = g .2 })
+    passed (sheetOf b)
+    (record {
+      p3 = ranges-read b a;
+      p18 = codes-read b a;
+      p5 = counts-read b a;
+      p6 = g .0;
+      p7 = g .1;
+      p7u = blanks-read b a;
+      p7c = blank-codes-read b a;
+      p8 = g .2;
+    })

@@ -31,6 +31,8 @@ zero-sheet = record {
   each = λ v l. rw (getD-replicate {A = Row} 32 v zeros noRow l) zero-row;
   e-zero = refl;
   n-zero = refl;
+  codes = length-replicate {A = ℕ} 12 0;
+  code-zero = λ i l. getD-replicate {A = ℕ} 12 i 0 255 l;
 }
 
 -- the number that is answered is the refusal's, 0 for none

@@ -4,6 +4,7 @@ use mathlib.Core.Path.{_≡_}
 use mathlib.Core.Logic.{_⊎_, inl, inr, _≢_, _↔_}
 use Prim.Native.Nat.{ℕ, _≤_, _<_}
 use native.Mathlib.Omega.{arith}
+use native.Mathlib.Decide.{ℕ-discrete}
 
 -- one rule more is kept, and the last part is another fact
 pub further : {X A B C D : Type 0} → X ↔ (A × B) → (A → B ↔ (C × D)) → X ↔ ((A × C) × D)
@@ -24,3 +25,11 @@ less l (inr h) = inr h
 pub above : {j k m : ℕ} → 0 < j → j ≤ k → Above k m → j ≢ m
 above z l (inl h) p = omega arith
 above z l (inr h) p = omega arith
+
+-- a number that is not found to differ is the one
+pub settled : (a b : ℕ) → ¬ (a ≢ b) → a ≡ b
+settled a b f = go (ℕ-discrete a b)
+  where
+    go : Dec (a ≡ b) → a ≡ b
+    go (yes e) = e
+    go (no n) = absurd (f n)

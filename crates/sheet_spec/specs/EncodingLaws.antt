@@ -1,25 +1,28 @@
--- Nothing to believe: laws. Reading undoes writing, and nothing else: bytes are read as a sheet exactly if they are the
--- bytes of that sheet and a later call accepts it (`read-encode`); bytes are accepted exactly if they are the bytes of
--- an accepted sheet (`accepted-exactly`); bytes with a right head and layout are the bytes of the sheet that they
--- spell, whatever its rules (`encode-spelled`), and that sheet has the machine's form (`sheetOf-form`).
-use mathlib.Core.Path.{_≡_, sym, ap, _∙_}
-use mathlib.Core.Logic.{_↔_}
+-- Nothing to believe: laws. Reading undoes writing, and nothing else: bytes are read as a sheet exactly if a later call
+-- accepts it and they are its bytes in version 2, or in version 1 if its codes are 1 to E (`read-encode`); bytes are
+-- accepted exactly if they are such bytes of an accepted sheet (`accepted-exactly`); bytes with a right head and layout
+-- are the bytes of the sheet that they spell, whatever its rules (`encode-spelled`), and that sheet has the machine's
+-- form (`sheetOf-form`).
+use mathlib.Core.Path.{_≡_, refl, sym, ap, _∙_}
+use mathlib.Core.Logic.{_⊎_, inl, inr, _↔_}
 use mathlib.Core.List.{List, _++_}
-use Prim.Native.Nat.{ℕ, _≤_}
+use Prim.Native.Nat.{ℕ, _+_, _*_, _≤_, _<_}
+use native.Mathlib.Omega.{arith}
 use lib.ListN.{length, drop}
 use Rattle.sheet_spec.specs.declared.Sheet.{Sheet}
 use Rattle.sheet_spec.specs.declared.ReadSheet.{ReadSheet}
 use Rattle.sheet_spec.specs.Refusals.{headFault, layoutFault, bytesFault, sheetFault}
+use Rattle.sheet_spec.specs.Kept.{code}
 use Rattle.sheet_spec.specs.Form.{Bytes, SheetForm}
 use Rattle.sheet_spec.specs.Reading.{answer, readSheet, accepted}
-use Rattle.sheet_spec.specs.Spelling.{lengthField, eventCount, nodeCount, nodesAt, sheetOf}
-use Rattle.sheet_spec.specs.Encoding.{four, encode}
-use Rattle.sheet_spec.specs.Places.{accepted-length}
+use Rattle.sheet_spec.specs.Spelling.{word, lengthField, version, eventCount, nodeCount, nodesAt, sheetOf}
+use Rattle.sheet_spec.specs.Encoding.{four, encode, FirstCodes, Writable}
+use Rattle.sheet_spec.specs.Places.{accepts, code-at-1, code-at-2, accepted-length, accepted-first}
 use Rattle.sheet_spec.specs.Accepted.{read-accepted}
 use Rattle.sheet_spec.specs.Spelled as spelled
 use Rattle.sheet_spec.specs.Spelled.{encode-sheetOf}
 use Rattle.sheet_spec.specs.Formed as formed
-use Rattle.sheet_spec.specs.Written.{sheetOf-encode, encode-accepted}
+use Rattle.sheet_spec.specs.Written.{version-written, sheetOf-encode, encode-accepted}
 use Rattle.sheet_spec.specs.Octets.{bytes-encode}
 
 -- bytes that are not refused are read as the sheet that they spell
@@ -34,52 +37,84 @@ reads→ b s h =
     let f : bytesFault b ≡ 0 = ap (λ (a : ReadSheet). a .refusal) h in
     (f, ap (λ (a : ReadSheet). a .sheet) (sym (reads b f) ∙ h))
 
--- an accepted sheet is read back from its bytes
-pub read-back : (s : Sheet) → SheetForm s → sheetFault s ≡ 0 → readSheet (encode s) ≡ accepted s
-read-back s o h = reads (encode s) (encode-accepted s o h) ∙ ap accepted (sheetOf-encode s o h)
+-- an accepted sheet is read back from its bytes, in any version in which it can be written
+pub read-back : (v : ℕ) (s : Sheet) → Writable v s → SheetForm s → sheetFault s ≡ 0 → readSheet (encode v s) ≡ accepted s
+read-back v s w o h = reads (encode v s) (encode-accepted v s w o h) ∙ ap accepted (sheetOf-encode v s w o h)
 
--- bytes are read as a sheet exactly if they are its bytes and it is not refused
-pub read-encode : (s : Sheet) → SheetForm s → (b : List ℕ) → Bytes b → (readSheet b ≡ accepted s) ↔ ((b ≡ encode s) × (sheetFault s ≡ 0))
+-- "a version 1 sheet counts as having code i + 1 for event i" (02, K1)
+pub version-1-codes : (b : List ℕ) → bytesFault b ≡ 0 → version b ≡ 1 → FirstCodes (sheetOf b)
+unfolding sheetOf
+version-1-codes b h v i l = code-at-1 b (λ p. omega arith) i (omega (arith, l, accepts b h .ranged .e-high)) l
+
+-- a version 2 sheet has for each event the code in its two bytes after N
+pub version-2-codes : (b : List ℕ) → bytesFault b ≡ 0 → version b ≡ 2 → (i : ℕ) → i < eventCount b → code (sheetOf b) i ≡ word b (7 + i * 2)
+unfolding sheetOf
+version-2-codes b h v i l = code-at-2 b v i (omega (arith, l, accepts b h .ranged .e-high)) l
+
+-- accepted bytes are the bytes of the sheet that they spell in a version in which it can be written
+written : (b : List ℕ) → Bytes b → bytesFault b ≡ 0 → (b ≡ encode 2 (sheetOf b)) ⊎ ((b ≡ encode 1 (sheetOf b)) × FirstCodes (sheetOf b))
+written b y h = go (accepts b h .headed .version-is)
+  where
+    go : (version b ≡ 1) ⊎ (version b ≡ 2) → (b ≡ encode 2 (sheetOf b)) ⊎ ((b ≡ encode 1 (sheetOf b)) × FirstCodes (sheetOf b))
+    go (inl v) = inr (sym (ap (λ (x : ℕ). encode x (sheetOf b)) (sym v) ∙ encode-sheetOf b y h), version-1-codes b h v)
+    go (inr v) = inl (sym (ap (λ (x : ℕ). encode x (sheetOf b)) (sym v) ∙ encode-sheetOf b y h))
+
+-- bytes are read as a sheet exactly if it is not refused and they are its bytes in version 2, or in version 1 if its
+-- codes are 1 to E
+pub read-encode : (s : Sheet) → SheetForm s → (b : List ℕ) → Bytes b
+    → (readSheet b ≡ accepted s) ↔ ((sheetFault s ≡ 0) × ((b ≡ encode 2 s) ⊎ ((b ≡ encode 1 s) × FirstCodes s)))
 read-encode s o b y = (to, from)
   where
-    to : readSheet b ≡ accepted s → (b ≡ encode s) × (sheetFault s ≡ 0)
+    to : readSheet b ≡ accepted s → (sheetFault s ≡ 0) × ((b ≡ encode 2 s) ⊎ ((b ≡ encode 1 s) × FirstCodes s))
     to h =
         let r = reads→ b s h in
-        (rw (r .1) at (sym (encode-sheetOf b y (r .0))), rw (r .1) at (read-accepted b (r .0)))
+        (rw (r .1) at (read-accepted b (r .0)), rw (r .1) at (written b y (r .0)))
 
-    from : (b ≡ encode s) × (sheetFault s ≡ 0) → readSheet b ≡ accepted s
-    from h = rw (h .0) (read-back s o (h .1))
+    from : (sheetFault s ≡ 0) × ((b ≡ encode 2 s) ⊎ ((b ≡ encode 1 s) × FirstCodes s)) → readSheet b ≡ accepted s
+    from (h, inl e) = rw e (read-back 2 s (inl refl) o h)
+    from (h, inr (e, f)) = rw e (read-back 1 s (inr (refl, f)) o h)
 
 -- the length field of any bytes is the number that their first four write, the highest first, however many there are
 pub length-spelled : (b : List ℕ) → Bytes b → 7 ≤ length b → four (lengthField b) ++ drop 4 b ≡ b
 length-spelled = spelled.head-spelled
 
--- bytes with a right head and layout are the bytes of the sheet that they spell, whatever its rules
-pub encode-spelled : (b : List ℕ) → Bytes b → headFault b ≡ 0 → layoutFault b (eventCount b) (nodeCount b) nodesAt ≡ 0 → encode (sheetOf b) ≡ b
+-- bytes with a right head and layout are the bytes of the sheet that they spell in their version, whatever its rules
+pub encode-spelled : (b : List ℕ) → Bytes b → headFault b ≡ 0 → layoutFault b (eventCount b) (nodeCount b) (nodesAt b) ≡ 0 → encode (version b) (sheetOf b) ≡ b
 encode-spelled = spelled.encode-spelled
 
 -- the sheet that bytes spell has the machine's form, whatever its rules
 pub sheetOf-form : (b : List ℕ) → Bytes b → SheetForm (sheetOf b)
 sheetOf-form = formed.sheetOf-form
 
--- bytes are accepted exactly if they are the bytes of a sheet of the machine's form that is not refused
-pub accepted-exactly : (b : List ℕ) → Bytes b → (bytesFault b ≡ 0) ↔ ((s : Sheet) × SheetForm s × (b ≡ encode s) × (sheetFault s ≡ 0))
+-- bytes are accepted exactly if they are the bytes, in version 2 or as far as its codes are 1 to E in version 1, of a
+-- sheet of the machine's form that is not refused
+pub accepted-exactly : (b : List ℕ) → Bytes b
+    → (bytesFault b ≡ 0) ↔ ((s : Sheet) × SheetForm s × (sheetFault s ≡ 0) × ((b ≡ encode 2 s) ⊎ ((b ≡ encode 1 s) × FirstCodes s)))
 accepted-exactly b y = (to, from)
   where
-    to : bytesFault b ≡ 0 → (s : Sheet) × SheetForm s × (b ≡ encode s) × (sheetFault s ≡ 0)
-    to h = (sheetOf b, sheetOf-form b y, sym (encode-sheetOf b y h), read-accepted b h)
+    to : bytesFault b ≡ 0 → (s : Sheet) × SheetForm s × (sheetFault s ≡ 0) × ((b ≡ encode 2 s) ⊎ ((b ≡ encode 1 s) × FirstCodes s))
+    to h = (sheetOf b, sheetOf-form b y, read-accepted b h, written b y h)
 
-    from : (s : Sheet) × SheetForm s × (b ≡ encode s) × (sheetFault s ≡ 0) → bytesFault b ≡ 0
-    from (s, o, e, h) = rw e (encode-accepted s o h)
+    from : (s : Sheet) × SheetForm s × (sheetFault s ≡ 0) × ((b ≡ encode 2 s) ⊎ ((b ≡ encode 1 s) × FirstCodes s)) → bytesFault b ≡ 0
+    from (s, o, h, inl e) = rw e (encode-accepted 2 s (inl refl) o h)
+    from (s, o, h, inr (e, f)) = rw e (encode-accepted 1 s (inr (refl, f)) o h)
 
--- an accepted sheet has at most 1,447 bytes
-pub encode-length : (s : Sheet) → SheetForm s → sheetFault s ≡ 0 → length (encode s) ≤ 1447
-encode-length s o h = accepted-length (encode s) (encode-accepted s o h)
+-- an accepted sheet has at most 1,471 bytes, in version 1 at most 1,447
+pub encode-length : (v : ℕ) (s : Sheet) → Writable v s → SheetForm s → sheetFault s ≡ 0 → length (encode v s) ≤ 1471
+encode-length v s w o h = accepted-length (encode v s) (encode-accepted v s w o h)
+
+pub first-length : (s : Sheet) → FirstCodes s → SheetForm s → sheetFault s ≡ 0 → length (encode 1 s) ≤ 1447
+first-length s f o h = accepted-first (encode 1 s) (encode-accepted 1 s (inr (refl, f)) o h) (λ p. omega (arith, version-written 1 s))
 
 -- what an accepted sheet is written as is bytes
-pub encode-bytes : (s : Sheet) → SheetForm s → sheetFault s ≡ 0 → Bytes (encode s)
-encode-bytes s o h = bytes-encode s o (encode-length s o h)
+pub encode-bytes : (v : ℕ) (s : Sheet) → Writable v s → SheetForm s → sheetFault s ≡ 0 → Bytes (encode v s)
+encode-bytes v s w o h = bytes-encode v (small w) s o (encode-length v s w o h)
+  where
+    small : Writable v s → v < 256
+    small (inl e) = omega arith
+    small (inr (e, f)) = omega arith
 
--- accepted sheets with the same bytes are the same sheet
-pub encode-injective : (s t : Sheet) → SheetForm s → SheetForm t → sheetFault s ≡ 0 → sheetFault t ≡ 0 → encode s ≡ encode t → s ≡ t
-encode-injective s t o q g h e = sym (sheetOf-encode s o g) ∙ ap sheetOf e ∙ sheetOf-encode t q h
+-- accepted sheets with the same bytes are the same sheet, also where the versions are not known
+pub encode-injective : (v w : ℕ) (s t : Sheet) → Writable v s → Writable w t → SheetForm s → SheetForm t → sheetFault s ≡ 0 → sheetFault t ≡ 0
+    → encode v s ≡ encode w t → s ≡ t
+encode-injective v w s t f k o q g h e = sym (sheetOf-encode v s f o g) ∙ ap sheetOf e ∙ sheetOf-encode w t k q h

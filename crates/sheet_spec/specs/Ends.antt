@@ -1,15 +1,15 @@
 -- Nothing to believe: steps of proofs. What the walk over the nodes finds is what the encoding says of 4 and 5: nodes
--- that are whole are the bytes of their rows, and rows that are written after the head are whole nodes.
+-- that are whole are the bytes of their rows, and rows that are written after the codes are whole nodes.
 use mathlib.Core.Path.{_≡_, refl, sym, ap, _∙_}
 use mathlib.Core.Logic.{_⊎_, inl, inr, _↔_, Iff·trans, Iff·and, Iff·not}
-use mathlib.Core.Bool.{true, false}
 use mathlib.Core.List.{List, [], _∷_, _++_, append-assoc}
 use Prim.Native.Nat.{ℕ, zero, suc, _+_, _*_, _≤_, _<_}
 use native.Mathlib.Nat.{add-zero}
 use native.Mathlib.Omega.{arith}
 use lib.ListN.{length, getD, take, drop, length-append, length-drop}
 use lib.Seq.{getD-at, getD-drop, length-take-le}
-use Rattle.base.specs.Truth.{dec, lt-or-ge}
+use Rattle.base.specs.Truth.{lt-or-ge}
+use Rattle.base.specs.Finds.{finds-none}
 use Rattle.base.specs.Table.{upTo, length-upTo, getD-upTo}
 use Rattle.sheet_spec.specs.declared.Row.{Row}
 use Rattle.sheet_spec.specs.Kept.{noRow}
@@ -17,14 +17,14 @@ use Rattle.sheet_spec.specs.Rules.{countOk}
 use Rattle.sheet_spec.specs.Form.{Bytes, RowForm}
 use Rattle.sheet_spec.specs.Spelling.{eventCount, nodeCount, nodesAt, countAt, nextAt, startOf, rowAt}
 use Rattle.sheet_spec.specs.Refusals.{layoutFault}
-use Rattle.sheet_spec.specs.Encoding.{encodeSets, encodeRow, encodeRows}
+use Rattle.sheet_spec.specs.Encoding.{encodeWords, encodeRow, encodeRows}
 use Rattle.sheet_spec.specs.Faults.{BadCount, GoodRows, Follow, ShortNode, CutFault, BytesCountFault}
 use Rattle.sheet_spec.specs.RuleLaws.{count-finds}
 use Rattle.sheet_spec.specs.Places.{Node}
 use Rattle.sheet_spec.specs.Slices.{getD-tail, drop-tail, length-tail}
 use Rattle.sheet_spec.specs.Spelled.{row-back}
 use Rattle.sheet_spec.specs.Formed.{row-form}
-use Rattle.sheet_spec.specs.Written.{length-encodeSets}
+use Rattle.sheet_spec.specs.Written.{length-encodeWords}
 use Rattle.sheet_spec.specs.Walked.{Whole, EndsInside, WholeBefore, WalkCut, WalkCount, walk-4, walk-5, walk-0}
 
 -- a C that is not out of range is 1 to 16
@@ -47,16 +47,16 @@ module _ (e : ℕ) (h : e ≤ 12) (r : Row) (o : RowForm r) (n : ¬ BadCount (r 
   row-length : length (encodeRow e r) ≡ e + 1 + r .c * 2
   unfolding encodeRow
   row-length =
-      let p = length-append (take e (r .succ)) (r .c ∷ encodeSets (take (r .c) (r .sets))) in
-      let t = length-encodeSets (take (r .c) (r .sets)) in
+      let p = length-append (take e (r .succ)) (r .c ∷ encodeWords (take (r .c) (r .sets))) in
+      let t = length-encodeWords (take (r .c) (r .sets)) in
       let s = length-take-le (r .c) (r .sets) (omega (arith, o .sets, count-range (r .c) n .1)) in
       omega (arith, p, t, s, row-front)
 
   row-count : (post : List ℕ) → getD (encodeRow e r ++ post) e 0 ≡ r .c
   unfolding encodeRow
   row-count post =
-      ap (λ (l : List ℕ). getD l e 0) (append-assoc (take e (r .succ)) (r .c ∷ encodeSets (take (r .c) (r .sets))) post)
-      ∙ getD-at (take e (r .succ)) (r .c) (encodeSets (take (r .c) (r .sets)) ++ post) 0 e row-front
+      ap (λ (l : List ℕ). getD l e 0) (append-assoc (take e (r .succ)) (r .c ∷ encodeWords (take (r .c) (r .sets))) post)
+      ∙ getD-at (take e (r .succ)) (r .c) (encodeWords (take (r .c) (r .sets)) ++ post) 0 e row-front
 
   -- a row that is written at a place is a whole node, and the rest stands after it
   module _ (b : List ℕ) (x : ℕ) (post : List ℕ) (l : x ≤ length b) (q : drop x b ≡ encodeRow e r ++ post) where
@@ -118,11 +118,7 @@ rows-snoc e (x ∷ rs) r post =
 node-of : (b : List ℕ) (e x : ℕ) → Whole b e x → Node b e x
 node-of b e x w =
     let c = count-range (countAt b e x) (w .1) in
-    record { c-inside = w .0; c-ok = ok (dec (countOk (countAt b e x))); c-low = c .0; c-high = c .1; ends = w .2 }
-  where
-    ok : (countOk (countAt b e x) ≡ true) ⊎ (countOk (countAt b e x) ≡ false) → countOk (countAt b e x) ≡ true
-    ok (inl t) = t
-    ok (inr t) = absurd (w .1 (count-finds (countAt b e x) .fault t))
+    record { c-inside = w .0; c-ok = finds-none (count-finds (countAt b e x)) (w .1); c-low = c .0; c-high = c .1; ends = w .2 }
 
 module _ (b : List ℕ) (y : Bytes b) (e : ℕ) (h : e ≤ 12) where
   -- the rows of the nodes before node v
@@ -135,7 +131,7 @@ module _ (b : List ℕ) (y : Bytes b) (e : ℕ) (h : e ≤ 12) where
       let k : u < v = omega (arith, length-upTo (λ u. rowAt b e (startOf b e u)) v) in
       rw (getD-upTo (λ u. rowAt b e (startOf b e u)) v u noRow k) (row-form b y e (startOf b e u), w u k .1)
 
-  before-bytes : (v : ℕ) → ((u : ℕ) → u < v → Whole b e (startOf b e u)) → encodeRows e (before v) ++ drop (startOf b e v) b ≡ drop 7 b
+  before-bytes : (v : ℕ) → ((u : ℕ) → u < v → Whole b e (startOf b e u)) → encodeRows e (before v) ++ drop (startOf b e v) b ≡ drop (nodesAt b) b
   unfolding upTo startOf encodeRows
   before-bytes zero w = refl
   before-bytes (suc v) w =
@@ -144,7 +140,7 @@ module _ (b : List ℕ) (y : Bytes b) (e : ℕ) (h : e ≤ 12) where
       ∙ before-bytes v (λ u l. w u (omega arith))
 
   -- after whole nodes the bytes have not ended
-  start-inside : 7 ≤ length b → (v : ℕ) → ((u : ℕ) → u < v → Whole b e (startOf b e u)) → startOf b e v ≤ length b
+  start-inside : nodesAt b ≤ length b → (v : ℕ) → ((u : ℕ) → u < v → Whole b e (startOf b e u)) → startOf b e v ≤ length b
   unfolding startOf
   start-inside s zero w = s
   start-inside s (suc v) w = w v (omega arith) .2
@@ -171,7 +167,7 @@ module _ (b : List ℕ) (e x : ℕ) (l : x ≤ length b) (rest : List ℕ) (q : 
   short← (inl k) = inl (omega (arith, left-length))
   short← (inr k) = inr (rw left-count (k .1), omega (arith, k .2, left-length, left-count))
 
-module _ (b : List ℕ) (y : Bytes b) (s : 7 ≤ length b) (h : eventCount b ≤ 12) where
+module _ (b : List ℕ) (y : Bytes b) (s : nodesAt b ≤ length b) (h : eventCount b ≤ 12) where
   abbrev at : ℕ → ℕ
   at v = startOf b (eventCount b) v
 
@@ -182,7 +178,7 @@ module _ (b : List ℕ) (y : Bytes b) (s : 7 ≤ length b) (h : eventCount b ≤
   before-length : (v : ℕ) → length (before b y (eventCount b) h v) ≡ v
   before-length v = length-upTo (λ u. rowAt b (eventCount b) (startOf b (eventCount b) u)) v
 
-  -- rows that follow the head are whole nodes, with the rest after them
+  -- rows that follow the codes are whole nodes, with the rest after them
   followed : (rows : List Row) (rest : List ℕ) → Follow b rows rest → After b (eventCount b) 0 (length rows) rest
   unfolding startOf
   followed rows rest f = after-rows b (eventCount b) h rows 0 rest (f .0) s (f .1)
@@ -246,13 +242,13 @@ module _ (b : List ℕ) (y : Bytes b) (s : 7 ≤ length b) (h : eventCount b ≤
 
   module _ (some : 1 ≤ nodeCount b) where
     -- the layout gives 4 exactly for its fault
-    pub layout-4 : (layoutFault b (eventCount b) (nodeCount b) nodesAt ≡ 4) ↔ CutFault b
+    pub layout-4 : (layoutFault b (eventCount b) (nodeCount b) (nodesAt b) ≡ 4) ↔ CutFault b
     layout-4 = Iff·trans (walk-4 b some) (cut→, cut←)
 
     -- the layout gives 5 exactly for its fault
-    pub layout-5 : (layoutFault b (eventCount b) (nodeCount b) nodesAt ≡ 5) ↔ BytesCountFault b
+    pub layout-5 : (layoutFault b (eventCount b) (nodeCount b) (nodesAt b) ≡ 5) ↔ BytesCountFault b
     layout-5 = Iff·trans (walk-5 b some) (count→, count←)
 
     -- the layout gives no number exactly without these faults
-    pub layout-0 : (layoutFault b (eventCount b) (nodeCount b) nodesAt ≡ 0) ↔ ((¬ CutFault b) × (¬ BytesCountFault b))
+    pub layout-0 : (layoutFault b (eventCount b) (nodeCount b) (nodesAt b) ≡ 0) ↔ ((¬ CutFault b) × (¬ BytesCountFault b))
     layout-0 = Iff·trans (walk-0 b some) (Iff·and (Iff·not (cut→, cut←)) (Iff·not (count→, count←)))

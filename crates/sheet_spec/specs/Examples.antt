@@ -1,4 +1,4 @@
--- Nothing to believe: the sheets of 01's cases, as bytes. Every crate with cases takes them from here.
+-- Nothing to believe: the sheets of 01's and 02's cases, as bytes. Every crate with cases takes them from here.
 use mathlib.Core.List.{List, [], _∷_}
 use Prim.Native.Nat.{ℕ}
 use Rattle.sheet_spec.specs.declared.Sheet.{Sheet}
@@ -15,6 +15,21 @@ exampleReference =
 unfoldable pub exampleDevice : List ℕ
 exampleDevice =
     0 ∷ 0 ∷ 0 ∷ 18 ∷ 1 ∷ 2 ∷ 3 ∷
+    1 ∷ 1 ∷ 1 ∷ 0 ∷ 3 ∷
+    2 ∷ 2 ∷ 1 ∷ 0 ∷ 3 ∷
+    0 ∷ 255 ∷ 1 ∷ 0 ∷ 1 ∷ []
+
+-- the reference of 01's example in version 2, with the codes 257 and 258
+unfoldable pub codedReference : List ℕ
+codedReference =
+    0 ∷ 0 ∷ 0 ∷ 19 ∷ 2 ∷ 2 ∷ 2 ∷ 1 ∷ 1 ∷ 1 ∷ 2 ∷
+    1 ∷ 1 ∷ 2 ∷ 0 ∷ 1 ∷ 0 ∷ 2 ∷
+    0 ∷ 0 ∷ 1 ∷ 0 ∷ 3 ∷ []
+
+-- the device of 01's example in version 2, with the codes 1 and 2, which a version 1 sheet counts as having
+unfoldable pub codedDevice : List ℕ
+codedDevice =
+    0 ∷ 0 ∷ 0 ∷ 22 ∷ 2 ∷ 2 ∷ 3 ∷ 0 ∷ 1 ∷ 0 ∷ 2 ∷
     1 ∷ 1 ∷ 1 ∷ 0 ∷ 3 ∷
     2 ∷ 2 ∷ 1 ∷ 0 ∷ 3 ∷
     0 ∷ 255 ∷ 1 ∷ 0 ∷ 1 ∷ []

@@ -6,7 +6,7 @@ use Prim.Native.Nat.{ℕ, _<_}
 use lib.ListN.{length, getD}
 use Rattle.sheet_spec.specs.declared.Row.{Row}
 use Rattle.sheet_spec.specs.declared.Sheet.{Sheet}
-use Rattle.sheet_spec.specs.Kept.{row}
+use Rattle.sheet_spec.specs.Kept.{row, code}
 
 -- every place holds a byte
 abbrev pub Bytes : List ℕ → Type 0
@@ -20,9 +20,11 @@ pub record RowForm (r : Row) : Type 0 where
   pub set-word : (j : ℕ) → getD (r .sets) j 0 < 65536
   pub c-byte : r .c < 256
 
--- the form of a sheet: 32 rows and two bytes
+-- the form of a sheet: 32 rows, two bytes, and twelve words of 16 bits
 pub record SheetForm (s : Sheet) : Type 0 where
   pub rows : length (s .rows) ≡ 32
   pub each : (v : ℕ) → v < 32 → RowForm (row s v)
   pub e-byte : s .e < 256
   pub n-byte : s .n < 256
+  pub codes : length (s .codes) ≡ 12
+  pub code-word : (i : ℕ) → code s i < 65536

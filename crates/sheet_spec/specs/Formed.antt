@@ -5,13 +5,13 @@ use mathlib.Core.Bool.{Bool, true, false, cond}
 use mathlib.Core.List.{List}
 use Prim.Native.Nat.{ℕ, _+_, _*_, _≤_, _<_}
 use native.Mathlib.Omega.{arith}
-use lib.Dec.{ltb}
+use lib.Dec.{eqb, ltb}
 use lib.ListN.{length, getD, replicate, List·getD-eq-default, length-replicate, getD-replicate}
 use Rattle.base.specs.Truth.{lt-or-ge}
 use Rattle.base.specs.Table.{upTo, length-upTo, getD-upTo}
 use Rattle.sheet_spec.specs.Kept.{noRow}
 use Rattle.sheet_spec.specs.Form.{Bytes, RowForm, SheetForm}
-use Rattle.sheet_spec.specs.Spelling.{eventCount, nodeCount, countAt, startOf, succOf, setsOf, rowAt, unusedRow, rowOf, sheetOf}
+use Rattle.sheet_spec.specs.Spelling.{word, version, eventCount, nodeCount, codeOf, countAt, startOf, succOf, setsOf, rowAt, unusedRow, rowOf, sheetOf}
 
 -- a table of numbers below m
 table-below : (f : ℕ → ℕ) (n m : ℕ) → 0 < m → ((i : ℕ) → i < n → f i < m) → (i : ℕ) → getD (upTo f n) i 0 < m
@@ -68,6 +68,12 @@ module _ (b : List ℕ) (y : Bytes b) where
   unfolding rowOf
   any-row v = either RowForm (ltb v (nodeCount b)) (row-form b y (eventCount b) (startOf b (eventCount b) v)) unused-form
 
+  code-below : (i : ℕ) → i < 12 → codeOf b i < 65536
+  unfolding codeOf
+  code-below i l =
+      either (λ x. x < 65536) (ltb i (eventCount b))
+      (either (λ x. x < 65536) (eqb (version b) 2) (omega (arith, y (7 + i * 2), y (7 + i * 2 + 1))) (omega arith)) (omega arith)
+
   -- the sheet that bytes spell has the machine's form
   pub sheetOf-form : SheetForm (sheetOf b)
   unfolding sheetOf
@@ -76,4 +82,6 @@ module _ (b : List ℕ) (y : Bytes b) where
     each = λ v h. rw (getD-upTo (rowOf b (eventCount b) (nodeCount b)) 32 v noRow h) (any-row v);
     e-byte = y 5;
     n-byte = y 6;
+    codes = length-upTo (codeOf b) 12;
+    code-word = table-below (codeOf b) 12 65536 (omega arith) (λ i l. code-below i l);
   }

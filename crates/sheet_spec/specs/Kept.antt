@@ -1,9 +1,10 @@
--- A kept sheet (01, "A sheet"): its rows, the initials of a node, and the graph that its successors draw.
+-- A kept sheet (01, "A sheet"; 02, K1): its rows, the initials of a node, the graph that its successors draw, and the
+-- catalogue codes of its events.
 use mathlib.Core.Logic.{_≢_}
 use mathlib.Core.Path.{_≡_}
 use mathlib.Core.Bool.{Bool, not, _&&_, cond}
 use mathlib.Core.List.{List, [], _∷_}
-use Prim.Native.Nat.{ℕ, _<_}
+use Prim.Native.Nat.{ℕ, _+_, _<_}
 use lib.Dec.{eqb, ltb}
 use lib.ListN.{getD}
 use Rattle.base.specs.Range.{any}
@@ -17,9 +18,25 @@ use Rattle.sheet_spec.specs.declared.Sheet.{Sheet}
 abbrev pub noRow : Row
 noRow = record { succ = []; sets = []; c = 0 }
 
--- the sheet of these rows, E and N
+-- the code at place i of codes
+abbrev pub codeAt : List ℕ → ℕ → ℕ
+codeAt codes i = getD codes i 0
+
+-- the catalogue code of event i
+abbrev pub code : Sheet → ℕ → ℕ
+code s i = codeAt (s .codes) i
+
+-- the twelve codes of a version 1 sheet with e events: i + 1 for event i, 0 in unused places
+abbrev pub firstCodes : ℕ → List ℕ
+firstCodes e = upTo (λ i. cond (ltb i e) (i + 1) 0) 12
+
+-- the sheet of these rows, E and N, with the codes of version 1
 abbrev pub sheetWith : List Row → ℕ → ℕ → Sheet
-sheetWith rows e n = record { rows = rows; e = e; n = n }
+sheetWith rows e n = record { rows = rows; e = e; n = n; codes = firstCodes e }
+
+-- the sheet with other codes
+abbrev pub recoded : Sheet → List ℕ → Sheet
+recoded s codes = record { rows = s .rows; e = s .e; n = s .n; codes = codes }
 
 -- the row of node v
 abbrev pub row : Sheet → ℕ → Row

@@ -21,6 +21,7 @@ pub mod EncodingLaws
 pub mod RuleLaws
 pub mod RowLaws
 pub mod SoundLaws
+pub mod CodeLaws
 -- steps of their proofs
 pub mod Chains
 pub mod Slices

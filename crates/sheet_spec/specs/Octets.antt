@@ -1,14 +1,16 @@
 -- Nothing to believe: steps of proofs. What is written of a sheet of the machine's form is bytes, each below 256.
+use mathlib.Core.Bool.{Bool, true, false, cond}
 use mathlib.Core.List.{List, [], _∷_, _++_}
 use Prim.Native.Nat.{ℕ, zero, suc, _/_, _%_, _≤_, _<_}
 use native.Mathlib.Omega.{arith}
+use lib.Dec.{eqb}
 use lib.ListN.{length, getD, take, length-append, length-take}
 use lib.Seq.{getD-take}
 use Rattle.sheet_spec.specs.declared.Row.{Row}
 use Rattle.sheet_spec.specs.declared.Sheet.{Sheet}
 use Rattle.sheet_spec.specs.Kept.{noRow}
 use Rattle.sheet_spec.specs.Form.{Bytes, RowForm, SheetForm}
-use Rattle.sheet_spec.specs.Encoding.{two, four, encodeSets, encodeRow, encodeRows, encodeBody, encode}
+use Rattle.sheet_spec.specs.Encoding.{two, four, encodeWords, encodeRow, encodeRows, encodeCodes, encodeBody, encode}
 
 -- every number of a list is below a bound
 abbrev Below : ℕ → List ℕ → Type 0
@@ -31,17 +33,17 @@ two-bytes : (x : ℕ) → x < 65536 → Bytes (two x)
 unfolding two
 two-bytes x h = below-cons 256 (x / 256) (x % 256 ∷ []) (omega arith) (below-cons 256 (x % 256) [] (omega arith) (λ i. omega arith))
 
-sets-bytes : (xs : List ℕ) → Below 65536 xs → Bytes (encodeSets xs)
-unfolding encodeSets
-sets-bytes [] f = λ i. omega arith
-sets-bytes (x ∷ xs) f = below-append 256 (two x) (encodeSets xs) (two-bytes x (f 0)) (sets-bytes xs (λ j. f (suc j)))
+words-bytes : (xs : List ℕ) → Below 65536 xs → Bytes (encodeWords xs)
+unfolding encodeWords
+words-bytes [] f = λ i. omega arith
+words-bytes (x ∷ xs) f = below-append 256 (two x) (encodeWords xs) (two-bytes x (f 0)) (words-bytes xs (λ j. f (suc j)))
 
 row-bytes : (e : ℕ) (r : Row) → RowForm r → Bytes (encodeRow e r)
 unfolding encodeRow
 row-bytes e r o =
-    below-append 256 (take e (r .succ)) (r .c ∷ encodeSets (take (r .c) (r .sets))) (below-take 256 e (r .succ) (omega arith) (o .succ-byte))
-    (below-cons 256 (r .c) (encodeSets (take (r .c) (r .sets))) (o .c-byte)
-    (sets-bytes (take (r .c) (r .sets)) (below-take 65536 (r .c) (r .sets) (omega arith) (o .set-word))))
+    below-append 256 (take e (r .succ)) (r .c ∷ encodeWords (take (r .c) (r .sets))) (below-take 256 e (r .succ) (omega arith) (o .succ-byte))
+    (below-cons 256 (r .c) (encodeWords (take (r .c) (r .sets))) (o .c-byte)
+    (words-bytes (take (r .c) (r .sets)) (below-take 65536 (r .c) (r .sets) (omega arith) (o .set-word))))
 
 rows-bytes : (e : ℕ) (rs : List Row) → ((v : ℕ) → v < length rs → RowForm (getD rs v noRow)) → Bytes (encodeRows e rs)
 unfolding encodeRows
@@ -49,21 +51,31 @@ rows-bytes e [] f = λ i. omega arith
 rows-bytes e (r ∷ rs) f =
     below-append 256 (encodeRow e r) (encodeRows e rs) (row-bytes e r (f 0 (omega arith))) (rows-bytes e rs (λ v h. f (suc v) (omega arith)))
 
-short : (s : Sheet) → length (encode s) ≤ 1447 → length (encodeBody s) ≤ 1447
+codes-bytes : (version : ℕ) (s : Sheet) → SheetForm s → Bytes (encodeCodes version s)
+unfolding encodeCodes
+codes-bytes version s o = go (eqb version 2)
+  where
+    go : (t : Bool) → Bytes (cond t (encodeWords (take (s .e) (s .codes))) [])
+    go true = words-bytes (take (s .e) (s .codes)) (below-take 65536 (s .e) (s .codes) (omega arith) (o .code-word))
+    go false = λ i. omega arith
+
+short : (version : ℕ) (s : Sheet) → length (encode version s) ≤ 1471 → length (encodeBody version s) ≤ 1471
 unfolding encode
-short s l = omega (arith, length-append (four (length (encodeBody s))) (encodeBody s))
+short version s l = omega (arith, length-append (four (length (encodeBody version s))) (encodeBody version s))
 
 -- the bytes of a sheet that is not too long are bytes
-pub bytes-encode : (s : Sheet) → SheetForm s → length (encode s) ≤ 1447 → Bytes (encode s)
+pub bytes-encode : (version : ℕ) → version < 256 → (s : Sheet) → SheetForm s → length (encode version s) ≤ 1471 → Bytes (encode version s)
 unfolding encode encodeBody four
-bytes-encode s o l =
+bytes-encode version h s o l =
     let rs = take (s .n) (s .rows) in
-    let x = length (encodeBody s) in
-    below-append 256 (two (x / 65536) ++ two (x % 65536)) (encodeBody s)
-    (below-append 256 (two (x / 65536)) (two (x % 65536)) (two-bytes (x / 65536) (omega (arith, short s l))) (two-bytes (x % 65536) (omega arith)))
-    (below-cons 256 1 (s .e ∷ (s .n ∷ encodeRows (s .e) rs)) (omega arith)
-    (below-cons 256 (s .e) (s .n ∷ encodeRows (s .e) rs) (o .e-byte)
-    (below-cons 256 (s .n) (encodeRows (s .e) rs) (o .n-byte) (rows-bytes (s .e) rs each))))
+    let body = encodeCodes version s ++ encodeRows (s .e) rs in
+    let x = length (encodeBody version s) in
+    below-append 256 (two (x / 65536) ++ two (x % 65536)) (encodeBody version s)
+    (below-append 256 (two (x / 65536)) (two (x % 65536)) (two-bytes (x / 65536) (omega (arith, short version s l))) (two-bytes (x % 65536) (omega arith)))
+    (below-cons 256 version (s .e ∷ (s .n ∷ body)) h
+    (below-cons 256 (s .e) (s .n ∷ body) (o .e-byte)
+    (below-cons 256 (s .n) body (o .n-byte)
+    (below-append 256 (encodeCodes version s) (encodeRows (s .e) rs) (codes-bytes version s o) (rows-bytes (s .e) rs each)))))
   where
     each : (v : ℕ) → v < length (take (s .n) (s .rows)) → RowForm (getD (take (s .n) (s .rows)) v noRow)
     each v h =

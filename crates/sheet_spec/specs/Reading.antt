@@ -1,5 +1,5 @@
--- What reading a sheet from its bytes answers: the sheet that they spell (Spelling), or a refusal 1 to 8 (Refusals) and
--- 0 in every other place.
+-- What reading a sheet from its bytes answers: the sheet that they spell (Spelling), or a refusal 1 to 8 or 18
+-- (Refusals) and 0 in every other place.
 use mathlib.Core.Path.{_≡_}
 use mathlib.Core.Bool.{cond}
 use mathlib.Core.List.{List}
@@ -15,7 +15,7 @@ use Rattle.sheet_spec.specs.Kept.{row}
 
 -- a sheet with 0 in every place
 abbrev pub zeroSheet : Sheet
-zeroSheet = record { rows = replicate 32 (record { succ = replicate 12 0; sets = replicate 16 0; c = 0 }); e = 0; n = 0 }
+zeroSheet = record { rows = replicate 32 (record { succ = replicate 12 0; sets = replicate 16 0; c = 0 }); e = 0; n = 0; codes = replicate 12 0 }
 
 -- the answer of a reading: a refusal is its number and 0 everywhere else
 unfoldable pub answer : ℕ → Sheet → ReadSheet
@@ -43,3 +43,5 @@ pub record Zero (s : Sheet) : Type 0 where
   pub each : (v : ℕ) → v < 32 → ZeroRow (row s v)
   pub e-zero : s .e ≡ 0
   pub n-zero : s .n ≡ 0
+  pub codes : length (s .codes) ≡ 12
+  pub code-zero : (i : ℕ) → i < 12 → getD (s .codes) i 255 ≡ 0

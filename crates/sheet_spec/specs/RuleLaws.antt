@@ -10,16 +10,16 @@ use lib.Dec.{eqb, ltb, leb}
 use borrow.Author.Tests.{leb-true, ltb-true, lt-ltb, le-ltb, eqb-true, eqb-false, ne-eqb, not-true}
 use Rattle.base.specs.Truth.{dec, clash, and-l, and-r, lt-or-ge}
 use Rattle.base.specs.Range.{all, all→, not-all}
-use Rattle.base.specs.Finds.{Finds, finds-as, finds-le, finds-lt, finds-eq, finds-and, finds-or, finds-all, finds-not}
+use Rattle.base.specs.Finds.{Finds, finds-as, finds-none, finds-le, finds-lt, finds-eq, finds-and, finds-or, finds-all, finds-not}
 use Rattle.events.specs.Bit.{bit, bit≤1, bits-zero, bit-high, setOf, setOf-lt, bit-setOf, Within, within-le}
 use Rattle.events.specs.Sets.{inside, inside→, inside-not, inside-missing}
 use Rattle.walks.specs.Graph.{WellFormed, walk, walk-none}
 use Rattle.walks.specs.Reach.{nearer, nearer-all}
 use Rattle.sheet_spec.specs.declared.Row.{Row}
 use Rattle.sheet_spec.specs.declared.Sheet.{Sheet}
-use Rattle.sheet_spec.specs.Kept.{row, successor, acceptance, initials, Initial, step, graph, Walk}
-use Rattle.sheet_spec.specs.Rules.{between, rangesOk, countOk, countsOk, successorOk, rowSuccessorsOk, successorsOk, ascends, noneInside, setOk, rowSetsOk, setsOk, blank, unusedOk, blanksOk, reachedOk}
-use Rattle.sheet_spec.specs.Faults.{RangeFault, BadCount, CountFault, SuccessorFault, RowSetFault, descends, outside, includes, stops, SetFault, UnusedFault, event, place, node-successor, node-set, node-count, ReachFault}
+use Rattle.sheet_spec.specs.Kept.{codeAt, code, row, successor, acceptance, initials, Initial, step, graph, Walk}
+use Rattle.sheet_spec.specs.Rules.{between, rangesOk, codeNew, codesOk, countOk, countsOk, successorOk, rowSuccessorsOk, successorsOk, ascends, noneInside, setOk, rowSetsOk, setsOk, blank, unusedOk, blanksOk, codesBlank, reachedOk, codesAgree}
+use Rattle.sheet_spec.specs.Faults.{RangeFault, CodeTwice, BadCount, CountFault, SuccessorFault, RowSetFault, descends, outside, includes, stops, SetFault, UnusedFault, event, place, node-successor, node-set, node-count, event-code, ReachFault}
 use Rattle.sheet_spec.specs.Sound.{Ranges}
 
 -- a number that passes the test lies between the two
@@ -41,11 +41,27 @@ ranges-find e n = finds-and (finds-and (finds-le 1 e) (finds-le e 12)) (finds-an
 
 -- E and N are in range: what the later tests rely on
 pub in-range : (e n : ℕ) → ¬ RangeFault e n → Ranges e n
-in-range e n f = go (dec (rangesOk e n))
+in-range e n f = ranges→ e n (finds-none (ranges-find e n) f)
+
+-- 18: the test of the codes finds its fault
+pub codes-find : (e : ℕ) (codes : List ℕ) → Finds (codesOk e codes) (CodeTwice e codes)
+unfolding codesOk codeNew
+codes-find e codes = finds-as (finds-all e (λ j h. finds-all j (λ i k. finds-not (eqb-true (codeAt codes i) (codeAt codes j)) (eqb-false (codeAt codes i) (codeAt codes j))))) forth back
   where
-    go : (rangesOk e n ≡ true) ⊎ (rangesOk e n ≡ false) → Ranges e n
-    go (inl t) = ranges→ e n t
-    go (inr t) = absurd (f (ranges-find e n .fault t))
+    forth : (j : ℕ) × (j < e) × ((i : ℕ) × (i < j) × (codeAt codes i ≡ codeAt codes j)) → CodeTwice e codes
+    forth (j, l, (i, h, p)) = (i, j, omega arith, l, (λ q. omega arith), p)
+
+    back : CodeTwice e codes → (j : ℕ) × (j < e) × ((i : ℕ) × (i < j) × (codeAt codes i ≡ codeAt codes j))
+    back (i, j, k, l, n, p) = go (lt-or-ge i j)
+      where
+        go : (i < j) ⊎ (j ≤ i) → (j : ℕ) × (j < e) × ((i : ℕ) × (i < j) × (codeAt codes i ≡ codeAt codes j))
+        go (inl h) = (j, l, (i, h, p))
+        go (inr h) = (i, k, (j, omega (arith, n), sym p))
+
+-- 19: the test that two lists of codes agree finds an event with another code
+pub agree-finds : (e : ℕ) (codes others : List ℕ) → Finds (codesAgree e codes others) ((i : ℕ) × (i < e) × (codeAt codes i ≢ codeAt others i))
+unfolding codesAgree
+agree-finds e codes others = finds-all e (λ i h. finds-eq (codeAt codes i) (codeAt others i))
 
 -- 5: the test of a C, and that of all nodes, find their faults
 pub count-finds : (c : ℕ) → Finds (countOk c) (BadCount c)
@@ -162,26 +178,41 @@ blank-finds e c r =
     finds-and (finds-all 12 (λ i h. finds-or (finds-lt i e) (finds-eq (successor r i) 255)))
     (finds-all 16 (λ j h. finds-or (finds-lt j c) (finds-eq (acceptance r j) 0)))
 
--- 7, of a kept sheet: the test of all unused places finds its fault
-pub blanks-find : (s : Sheet) → s .n ≤ 32 → Finds (blanksOk s) (UnusedFault s)
+-- 7, of a kept sheet: the test of the unused codes finds its fault
+pub blank-code-finds : (e : ℕ) (codes : List ℕ) → Finds (codesBlank e codes) ((i : ℕ) × (i < 12) × ((e ≤ i) × (codeAt codes i ≢ 0)))
+unfolding codesBlank
+blank-code-finds e codes = finds-all 12 (λ i h. finds-or (finds-lt i e) (finds-eq (codeAt codes i) 0))
+
+-- 7, of a kept sheet: the tests of all unused places find their fault
+pub blanks-find : (s : Sheet) → s .n ≤ 32 → Finds (blanksOk s && codesBlank (s .e) (s .codes)) (UnusedFault s)
 unfolding blanksOk
-blanks-find s small = record { clear = λ t f. clear f (λ v h. all→ (λ v. unusedOk (s .e) (s .n) v (row s v)) 32 v t h); fault = λ t. found (not-all (λ v. unusedOk (s .e) (s .n) v (row s v)) 32 t) }
+blanks-find s small = record { clear = cleared; fault = λ t. found (finds-and rows-find (blank-code-finds (s .e) (s .codes)) .fault t) }
   where
+    rows-find : Finds (all (λ v. unusedOk (s .e) (s .n) v (row s v)) 32) ((v : ℕ) × (v < 32) × (unusedOk (s .e) (s .n) v (row s v) ≡ false))
+    rows-find = finds-all 32 (λ v h. record { clear = λ t f. clash t f; fault = λ t. t })
+
     used : (v : ℕ) → v < s .n → unusedOk (s .e) (s .n) v (row s v) ≡ blank (s .e) (row s v .c) (row s v)
     used v h = unfold unusedOk in rw (lt-ltb v (s .n) h)
 
     free : (v : ℕ) → s .n ≤ v → unusedOk (s .e) (s .n) v (row s v) ≡ (eqb (row s v .c) 0 && blank 0 0 (row s v))
     free v h = unfold unusedOk in rw (le-ltb v (s .n) h)
 
-    clear : UnusedFault s → ((v : ℕ) → v < 32 → unusedOk (s .e) (s .n) v (row s v) ≡ true) → ⊥
-    clear (event v i h l k n) ok = blank-finds (s .e) (row s v .c) (row s v) .clear (sym (used v h) ∙ ok v (omega arith)) (inl (i, k, (l, n)))
-    clear (place v j h l k n) ok = blank-finds (s .e) (row s v .c) (row s v) .clear (sym (used v h) ∙ ok v (omega arith)) (inr (j, k, (l, n)))
-    clear (node-successor v i h l k n) ok = blank-finds 0 0 (row s v) .clear (and-r (eqb (row s v .c) 0) _ (sym (free v h) ∙ ok v l)) (inl (i, k, (omega arith, n)))
-    clear (node-set v j h l k n) ok = blank-finds 0 0 (row s v) .clear (and-r (eqb (row s v .c) 0) _ (sym (free v h) ∙ ok v l)) (inr (j, k, (omega arith, n)))
-    clear (node-count v h l n) ok = n (eqb-true (row s v .c) 0 (and-l (eqb (row s v .c) 0) (blank 0 0 (row s v)) (sym (free v h) ∙ ok v l)))
+    clear : UnusedFault s → ((v : ℕ) → v < 32 → unusedOk (s .e) (s .n) v (row s v) ≡ true) → codesBlank (s .e) (s .codes) ≡ true → ⊥
+    clear (event v i h l k n) ok t = blank-finds (s .e) (row s v .c) (row s v) .clear (sym (used v h) ∙ ok v (omega arith)) (inl (i, k, (l, n)))
+    clear (place v j h l k n) ok t = blank-finds (s .e) (row s v .c) (row s v) .clear (sym (used v h) ∙ ok v (omega arith)) (inr (j, k, (l, n)))
+    clear (node-successor v i h l k n) ok t = blank-finds 0 0 (row s v) .clear (and-r (eqb (row s v .c) 0) _ (sym (free v h) ∙ ok v l)) (inl (i, k, (omega arith, n)))
+    clear (node-set v j h l k n) ok t = blank-finds 0 0 (row s v) .clear (and-r (eqb (row s v .c) 0) _ (sym (free v h) ∙ ok v l)) (inr (j, k, (omega arith, n)))
+    clear (node-count v h l n) ok t = n (eqb-true (row s v .c) 0 (and-l (eqb (row s v .c) 0) (blank 0 0 (row s v)) (sym (free v h) ∙ ok v l)))
+    clear (event-code i h l n) ok t = blank-code-finds (s .e) (s .codes) .clear t (i, l, (h, n))
 
-    found : (v : ℕ) × (v < 32) × (unusedOk (s .e) (s .n) v (row s v) ≡ false) → UnusedFault s
-    found (v, l, t) = go (lt-or-ge v (s .n))
+    cleared : (all (λ v. unusedOk (s .e) (s .n) v (row s v)) 32 && codesBlank (s .e) (s .codes)) ≡ true → ¬ UnusedFault s
+    cleared t f =
+        clear f (λ v h. all→ (λ v. unusedOk (s .e) (s .n) v (row s v)) 32 v (and-l (all (λ v. unusedOk (s .e) (s .n) v (row s v)) 32) _ t) h)
+        (and-r (all (λ v. unusedOk (s .e) (s .n) v (row s v)) 32) _ t)
+
+    found : ((v : ℕ) × (v < 32) × (unusedOk (s .e) (s .n) v (row s v) ≡ false)) ⊎ ((i : ℕ) × (i < 12) × ((s .e ≤ i) × (code s i ≢ 0))) → UnusedFault s
+    found (inr (i, l, x)) = event-code i (x .0) l (x .1)
+    found (inl (v, l, t)) = go (lt-or-ge v (s .n))
       where
         in-used : v < s .n → ((i : ℕ) × (i < 12) × ((s .e ≤ i) × (successor (row s v) i ≢ 255))) ⊎ ((j : ℕ) × (j < 16) × ((row s v .c ≤ j) × (acceptance (row s v) j ≢ 0))) → UnusedFault s
         in-used h (inl (i, k, x)) = event v i h (x .0) k (x .1)

@@ -1,6 +1,7 @@
--- The rules of a sheet (01, "Who can cause a refusal"), each as a test that a program can run. What each test means,
+-- The rules of a sheet (01, "Who can cause a refusal"; 02, K1), and what two must share, each as a test that a program can run. What each test means,
 -- with no test in it, is said in Faults; that the two agree, in RuleLaws. Refusals puts the tests in order.
 use mathlib.Core.Bool.{Bool, not, _&&_, _||_, cond}
+use mathlib.Core.List.{List}
 use Prim.Native.Nat.{ℕ, _-_}
 use lib.Dec.{eqb, ltb, leb}
 use Rattle.base.specs.Range.{all}
@@ -8,7 +9,7 @@ use Rattle.events.specs.Sets.{inside}
 use Rattle.walks.specs.Reach.{nearer}
 use Rattle.sheet_spec.specs.declared.Row.{Row}
 use Rattle.sheet_spec.specs.declared.Sheet.{Sheet}
-use Rattle.sheet_spec.specs.Kept.{row, successor, acceptance, initials, graph}
+use Rattle.sheet_spec.specs.Kept.{codeAt, row, successor, acceptance, initials, graph}
 
 -- a number from low to high
 abbrev pub between : ℕ → ℕ → ℕ → Bool
@@ -17,6 +18,14 @@ between low high x = leb low x && leb x high
 -- 3: E is 1 to 12, N is 1 to 32
 unfoldable pub rangesOk : ℕ → ℕ → Bool
 rangesOk e n = between 1 12 e && between 1 32 n
+
+-- 18: event j has a code that no event before it has
+unfoldable pub codeNew : List ℕ → ℕ → Bool
+codeNew codes j = all (λ i. not (eqb (codeAt codes i) (codeAt codes j))) j
+
+-- 18: no two of the first e events have one code
+unfoldable pub codesOk : ℕ → List ℕ → Bool
+codesOk e codes = all (codeNew codes) e
 
 -- 5: a C is 1 to 16
 unfoldable pub countOk : ℕ → Bool
@@ -70,6 +79,14 @@ unusedOk e n v r = cond (ltb v n) (blank e (r .c) r) (eqb (r .c) 0 && blank 0 0 
 unfoldable pub blanksOk : Sheet → Bool
 blanksOk s = all (λ v. unusedOk (s .e) (s .n) v (row s v)) 32
 
+-- 7, of a kept sheet: from event e on the codes hold 0
+unfoldable pub codesBlank : ℕ → List ℕ → Bool
+codesBlank e codes = all (λ i. ltb i e || eqb (codeAt codes i) 0) 12
+
 -- 8: every node is reached from node 0 (by fewer events than there are nodes; laws say that no more are needed)
 unfoldable pub reachedOk : Sheet → Bool
 reachedOk s = all (nearer (graph s) (s .n)) (s .n)
+
+-- 19: each of the first e events has one code in both lists
+unfoldable pub codesAgree : ℕ → List ℕ → List ℕ → Bool
+codesAgree e codes others = all (λ i. eqb (codeAt codes i) (codeAt others i)) e

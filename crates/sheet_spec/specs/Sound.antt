@@ -1,5 +1,5 @@
--- Nothing to believe: words for laws alone. What a sheet that is not refused is like, as 01 says it ("A sheet").
--- SoundLaws says that it is so.
+-- Nothing to believe: words for laws alone. What a sheet that is not refused is like, as 01 says it ("A sheet") and 02
+-- (K1). SoundLaws says that it is so.
 use mathlib.Core.Path.{_≡_}
 use mathlib.Core.Logic.{_⊎_, _≢_}
 use mathlib.Core.List.{List}
@@ -7,7 +7,7 @@ use Prim.Native.Nat.{ℕ, _^_, _≤_, _<_}
 use Rattle.events.specs.Bit.{bit, Within}
 use Rattle.walks.specs.Graph.{WellFormed}
 use Rattle.sheet_spec.specs.declared.Sheet.{Sheet}
-use Rattle.sheet_spec.specs.Kept.{row, successor, acceptance, graph, Walk}
+use Rattle.sheet_spec.specs.Kept.{code, row, successor, acceptance, graph, Walk}
 
 -- E is 1 to 12 and N is 1 to 32
 pub record Ranges (e n : ℕ) : Type 0 where
@@ -20,6 +20,8 @@ pub record Ranges (e n : ℕ) : Type 0 where
 pub record Sound (s : Sheet) : Type 0 where
   -- E is 1 to 12, N is 1 to 32; node 0 is there
   pub ranges : Ranges (s .e) (s .n)
+  -- no two events have one code
+  pub codes-differ : (i j : ℕ) → i < s .e → j < s .e → i ≢ j → code s i ≢ code s j
   -- a node has 1 to 16 sets
   pub counts : (v : ℕ) → v < s .n → (1 ≤ row s v .c) × (row s v .c ≤ 16)
   -- a successor is none, or a node
@@ -30,6 +32,7 @@ pub record Sound (s : Sheet) : Type 0 where
   pub unused-successor : (v i : ℕ) → s .n ≤ v → v < 32 → i < 12 → successor (row s v) i ≡ 255
   pub unused-set : (v j : ℕ) → s .n ≤ v → v < 32 → j < 16 → acceptance (row s v) j ≡ 0
   pub unused-count : (v : ℕ) → s .n ≤ v → v < 32 → row s v .c ≡ 0
+  pub unused-code : (i : ℕ) → s .e ≤ i → i < 12 → code s i ≡ 0
   -- the sets of a node are strictly ascending
   pub ascending : (v j k : ℕ) → v < s .n → j < k → k < row s v .c → acceptance (row s v) j < acceptance (row s v) k
   -- the sets of a node lie inside its initials, which lead to nodes

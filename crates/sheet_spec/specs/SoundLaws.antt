@@ -13,26 +13,19 @@ use Rattle.base.specs.Range.{all→}
 use Rattle.events.specs.Bit.{bit, narrow}
 use Rattle.walks.specs.Reach.{nearer, nearer-all}
 use Rattle.sheet_spec.specs.declared.Sheet.{Sheet}
-use Rattle.sheet_spec.specs.Kept.{row, successor, acceptance, Initial, graph, Walk}
+use Rattle.sheet_spec.specs.Kept.{code, row, successor, acceptance, Initial, graph, Walk}
 use Rattle.sheet_spec.specs.Rules.{reachedOk}
 use Rattle.sheet_spec.specs.Refusals.{sheetFault}
-use Rattle.sheet_spec.specs.Faults.{BadCount, RowSetFault, descends, outside, includes, stops, UnusedFault, event, place, node-successor, node-set, node-count, Clear7}
+use Rattle.sheet_spec.specs.Faults.{BadCount, RowSetFault, descends, outside, includes, stops, UnusedFault, event, place, node-successor, node-set, node-count, event-code, Clear7}
 use Rattle.sheet_spec.specs.RuleLaws.{in-range, graph-wellFormed, Walk←}
 use Rattle.sheet_spec.specs.Sound.{Ranges, Sound}
 use Rattle.sheet_spec.specs.CheckLaws.{check-0}
+use Rattle.sheet_spec.specs.Chains.{settled}
 use Rattle.sheet_spec.specs.Accepted.{passes}
 
 -- two sheets have at most 1,024 pairs of nodes
 pub nodes-most : {P Q : Sheet} → Sound P → Sound Q → P .n * Q .n ≤ 1024
 nodes-most p q = mul-le-mul (p .ranges .n-high) (q .ranges .n-high)
-
--- a number that is not found to differ is the one
-settled : (a b : ℕ) → ¬ (a ≢ b) → a ≡ b
-settled a b f = go (ℕ-discrete a b)
-  where
-    go : Dec (a ≡ b) → a ≡ b
-    go (yes e) = e
-    go (no n) = absurd (f n)
 
 in-count : (c : ℕ) → ¬ BadCount c → (1 ≤ c) × (c ≤ 16)
 in-count c f = (low (lt-or-ge c 1), high (lt-or-ge 16 c))
@@ -50,7 +43,7 @@ module _ (s : Sheet) (h : sheetFault s ≡ 0) where
   clear = check-0 s .0 h .0
 
   good : Ranges (s .e) (s .n)
-  good = in-range (s .e) (s .n) (clear .0 .0 .0)
+  good = in-range (s .e) (s .n) (clear .0 .0 .0 .0)
 
   no-set-fault : (v : ℕ) → v < s .n → ¬ RowSetFault (s .e) (row s v)
   no-set-fault v l f = clear .1 (inl (v, l, f))
@@ -88,6 +81,7 @@ module _ (s : Sheet) (h : sheetFault s ≡ 0) where
   pub check-sound : Sound s
   check-sound = record {
     ranges = good;
+    codes-differ = λ i j k l n p. clear .0 .0 .0 .1 (i, j, k, l, n, p);
     counts = λ v l. in-count (row s v .c) (λ f. clear .0 .0 .1 (v, l, f));
     successors = leads-on;
     unused-event = λ v i l p q. settled (successor (row s v) i) 255 (λ n. no-unused-fault (event v i l p q n));
@@ -95,6 +89,7 @@ module _ (s : Sheet) (h : sheetFault s ≡ 0) where
     unused-successor = λ v i l p q. settled (successor (row s v) i) 255 (λ n. no-unused-fault (node-successor v i l p q n));
     unused-set = λ v j l p q. settled (acceptance (row s v) j) 0 (λ n. no-unused-fault (node-set v j l p q n));
     unused-count = λ v l p. settled (row s v .c) 0 (λ n. no-unused-fault (node-count v l p n));
+    unused-code = λ i p q. settled (code s i) 0 (λ n. no-unused-fault (event-code i p q n));
     ascending = rises;
     inside = has-successor;
     narrow = λ v j l k. narrow (s .e) (acceptance (row s v) j) (λ i b. has-successor v j i l k b .0);

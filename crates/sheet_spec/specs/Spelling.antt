@@ -1,9 +1,9 @@
--- The sheet that bytes spell (01, "A sheet"), whatever they are: where each part stands, and the rows that are kept. A
--- byte past the end reads as 0.
+-- The sheet that bytes spell (01, "A sheet"; 02, K1), whatever they are: where each part stands, and the rows and codes
+-- that are kept. A byte past the end reads as 0.
 use mathlib.Core.Bool.{cond}
 use mathlib.Core.List.{List}
 use Prim.Native.Nat.{ℕ, zero, suc, _+_, _*_}
-use lib.Dec.{ltb}
+use lib.Dec.{eqb, ltb}
 use lib.ListN.{getD, replicate}
 use Rattle.base.specs.Table.{upTo}
 use Rattle.sheet_spec.specs.declared.Row.{Row}
@@ -33,9 +33,21 @@ eventCount b = byte b 5
 abbrev pub nodeCount : List ℕ → ℕ
 nodeCount b = byte b 6
 
--- the place from which on the nodes stand
-abbrev pub nodesAt : ℕ
-nodesAt = 7
+-- the place after N: the codes stand there in version 2, the nodes in version 1
+abbrev pub afterHead : ℕ
+afterHead = 7
+
+-- the place from which on the nodes stand: version 2 has two bytes for each event before them
+unfoldable pub nodesAt : List ℕ → ℕ
+nodesAt b = cond (eqb (version b) 2) (afterHead + eventCount b * 2) afterHead
+
+-- the code of event i: in version 2 its two bytes, in version 1 i + 1; 0 where it is unused
+unfoldable pub codeOf : List ℕ → ℕ → ℕ
+codeOf b i = cond (ltb i (eventCount b)) (cond (eqb (version b) 2) (word b (afterHead + i * 2)) (i + 1)) 0
+
+-- the twelve codes that are kept
+abbrev pub codesOf : List ℕ → List ℕ
+codesOf b = upTo (codeOf b) 12
 
 -- the C of the node that begins at a place, after its e successors
 abbrev pub countAt : List ℕ → ℕ → ℕ → ℕ
@@ -47,7 +59,7 @@ nextAt b e at = at + e + 1 + countAt b e at * 2
 
 -- where node v begins
 unfoldable pub startOf : List ℕ → ℕ → ℕ → ℕ
-startOf b e zero = nodesAt
+startOf b e zero = nodesAt b
 startOf b e (suc v) = nextAt b e (startOf b e v)
 
 -- event i of the node that begins at a place: its successor, 255 where it is unused
@@ -72,4 +84,4 @@ rowOf b e n v = cond (ltb v n) (rowAt b e (startOf b e v)) unusedRow
 
 -- the sheet that the bytes spell
 unfoldable pub sheetOf : List ℕ → Sheet
-sheetOf b = record { rows = upTo (rowOf b (eventCount b) (nodeCount b)) 32; e = eventCount b; n = nodeCount b }
+sheetOf b = record { rows = upTo (rowOf b (eventCount b) (nodeCount b)) 32; e = eventCount b; n = nodeCount b; codes = codesOf b }

@@ -154,23 +154,23 @@ module _ (b : List ℕ) where
   count-or-fits (u, l, w, h, bad) f = f .0 u l .1 bad
 
   module _ (some : 1 ≤ nodeCount b) where
-    why : Reason (layoutFault b (eventCount b) (nodeCount b) nodesAt)
+    why : Reason (layoutFault b (eventCount b) (nodeCount b) (nodesAt b))
     unfolding startOf
     why = reason some (nodeCount b) 0 (omega arith) (λ u l. absurd (omega arith))
 
-    pub walk-4 : (layoutFault b (eventCount b) (nodeCount b) nodesAt ≡ 4) ↔ WalkCut b
+    pub walk-4 : (layoutFault b (eventCount b) (nodeCount b) (nodesAt b) ≡ 4) ↔ WalkCut b
     walk-4 = only-first why (λ p. omega arith) (λ p. omega arith) cut-or-count cut-or-fits
 
-    pub walk-5 : (layoutFault b (eventCount b) (nodeCount b) nodesAt ≡ 5) ↔ WalkCount b
+    pub walk-5 : (layoutFault b (eventCount b) (nodeCount b) (nodesAt b) ≡ 5) ↔ WalkCount b
     walk-5 = only-first (rotate why) (λ p. omega arith) (λ p. omega arith) count-or-fits (λ x y. cut-or-count y x)
 
-    pub walk-0 : (layoutFault b (eventCount b) (nodeCount b) nodesAt ≡ 0) ↔ ((¬ WalkCut b) × (¬ WalkCount b))
+    pub walk-0 : (layoutFault b (eventCount b) (nodeCount b) (nodesAt b) ≡ 0) ↔ ((¬ WalkCut b) × (¬ WalkCount b))
     walk-0 = ((λ p. let f = only .0 p in ((λ c. cut-or-fits c f), λ c. count-or-fits c f)), λ n. none n why)
       where
-        only : (layoutFault b (eventCount b) (nodeCount b) nodesAt ≡ 0) ↔ LaidOut
+        only : (layoutFault b (eventCount b) (nodeCount b) (nodesAt b) ≡ 0) ↔ LaidOut
         only = only-first (rotate (rotate why)) (λ p. omega arith) (λ p. omega arith) (λ x y. cut-or-fits y x) (λ x y. count-or-fits y x)
 
-        none : (¬ WalkCut b) × (¬ WalkCount b) → Reason (layoutFault b (eventCount b) (nodeCount b) nodesAt) → layoutFault b (eventCount b) (nodeCount b) nodesAt ≡ 0
+        none : (¬ WalkCut b) × (¬ WalkCount b) → Reason (layoutFault b (eventCount b) (nodeCount b) (nodesAt b)) → layoutFault b (eventCount b) (nodeCount b) (nodesAt b) ≡ 0
         none n (inl x) = absurd (n .0 (x .1))
         none n (inr (inl x)) = absurd (n .1 (x .1))
         none n (inr (inr x)) = x .0

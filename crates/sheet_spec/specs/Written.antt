@@ -1,8 +1,8 @@
--- Nothing to believe: steps of proofs. The bytes of a sheet that a later call accepts are read as that sheet: node by
--- node, what is left of the bytes says what is read there.
+-- Nothing to believe: steps of proofs. The bytes of a sheet that a later call accepts, in a version in which it can be
+-- written, are read as that sheet: node by node, what is left of the bytes says what is read there.
 use mathlib.Core.Path.{_≡_, refl, sym, _∙_}
 use mathlib.Core.Logic.{_⊎_, inl, inr}
-use mathlib.Core.Bool.{Bool, true, _&&_, _||_}
+use mathlib.Core.Bool.{Bool, true, false, _&&_, _||_}
 use mathlib.Core.List.{List, [], _∷_, _++_, append-assoc}
 use Prim.Native.Nat.{ℕ, zero, suc, _+_, _*_, _/_, _%_, _≤_, _<_}
 use native.Mathlib.Nat.{add-zero}
@@ -17,12 +17,12 @@ use Rattle.base.specs.Refusal.{orElse, unless←}
 use Rattle.base.specs.Table.{upTo}
 use Rattle.sheet_spec.specs.declared.Row.{Row}
 use Rattle.sheet_spec.specs.declared.Sheet.{Sheet}
-use Rattle.sheet_spec.specs.Kept.{noRow, row, successor, acceptance}
-use Rattle.sheet_spec.specs.Rules.{rangesOk, countOk, countsOk, blank, unusedOk, blanksOk}
-use Rattle.sheet_spec.specs.Refusals.{headFault, layoutFault, bytesFault, sheetFault}
+use Rattle.sheet_spec.specs.Kept.{noRow, code, row, successor, acceptance}
+use Rattle.sheet_spec.specs.Rules.{rangesOk, codesOk, countOk, countsOk, blank, unusedOk, blanksOk, codesBlank}
+use Rattle.sheet_spec.specs.Refusals.{headFault, codesFault, layoutFault, bytesFault, sheetFault}
 use Rattle.sheet_spec.specs.Form.{SheetForm}
-use Rattle.sheet_spec.specs.Spelling.{byte, word, lengthField, version, eventCount, nodeCount, nodesAt, countAt, nextAt, startOf, succOf, setsOf, rowAt, unusedRow, rowOf, sheetOf}
-use Rattle.sheet_spec.specs.Encoding.{two, four, encodeSets, encodeRow, encodeRows, encodeBody, encode}
+use Rattle.sheet_spec.specs.Spelling.{byte, word, lengthField, version, eventCount, nodeCount, nodesAt, codeOf, codesOf, countAt, nextAt, startOf, succOf, setsOf, rowAt, unusedRow, rowOf, sheetOf}
+use Rattle.sheet_spec.specs.Encoding.{two, four, encodeWords, encodeRow, encodeRows, encodeCodes, encodeBody, encode, Writable}
 use Rattle.sheet_spec.specs.RuleLaws.{between→, ranges→}
 use Rattle.sheet_spec.specs.Sound.{Ranges}
 use Rattle.sheet_spec.specs.Accepted.{Passes, passes, graph-passed}
@@ -64,57 +64,57 @@ record RowFits (e : ℕ) (r : Row) : Type 0 where
   c-high : r .c ≤ 16
   blanks : blank e (r .c) r ≡ true
 
--- C sets take 2 C bytes
-pub length-encodeSets : (xs : List ℕ) → length (encodeSets xs) ≡ length xs * 2
-unfolding encodeSets two
-length-encodeSets [] = refl
-length-encodeSets (x ∷ xs) = omega (arith, length-encodeSets xs)
+-- numbers of two bytes take twice as many bytes
+pub length-encodeWords : (xs : List ℕ) → length (encodeWords xs) ≡ length xs * 2
+unfolding encodeWords two
+length-encodeWords [] = refl
+length-encodeWords (x ∷ xs) = omega (arith, length-encodeWords xs)
 
--- where sets are written, each is read
-sets-read : (b xs post : List ℕ) (at : ℕ) → drop at b ≡ encodeSets xs ++ post → (j : ℕ) → j < length xs → word b (at + j * 2) ≡ getD xs j 0
-unfolding encodeSets two
-sets-read b [] post at h j k = absurd (omega arith)
-sets-read b (x ∷ xs) post at h zero k =
+-- where numbers of two bytes are written, each is read
+words-read : (b xs post : List ℕ) (at : ℕ) → drop at b ≡ encodeWords xs ++ post → (j : ℕ) → j < length xs → word b (at + j * 2) ≡ getD xs j 0
+unfolding encodeWords two
+words-read b [] post at h j k = absurd (omega arith)
+words-read b (x ∷ xs) post at h zero k =
     let p : byte b (at + 0 * 2) ≡ x / 256 = getD-tail b _ at 0 0 h in
     let q : byte b (at + 0 * 2 + 1) ≡ x % 256 = rw add-zero (getD-tail b _ at 1 0 h) in
     omega arith
-sets-read b (x ∷ xs) post at h (suc j) k =
+words-read b (x ∷ xs) post at h (suc j) k =
     let e : at + suc j * 2 ≡ at + 2 + j * 2 = omega arith in
-    rw e (sets-read b xs post (at + 2) (drop-tail b (x / 256 ∷ (x % 256 ∷ [])) (encodeSets xs ++ post) at 2 h refl) j (omega arith))
+    rw e (words-read b xs post (at + 2) (drop-tail b (x / 256 ∷ (x % 256 ∷ [])) (encodeWords xs ++ post) at 2 h refl) j (omega arith))
 
 -- a node that is written at a place
 module _ (b : List ℕ) (e at : ℕ) (r : Row) (post : List ℕ) (k : e ≤ 12) (f : RowFits e r) (h : drop at b ≡ encodeRow e r ++ post) where
   front : length (take e (r .succ)) ≡ e
   front = length-take-le e (r .succ) (omega (arith, f .succs))
 
-  opened : drop at b ≡ take e (r .succ) ++ (r .c ∷ (encodeSets (take (r .c) (r .sets)) ++ post))
+  opened : drop at b ≡ take e (r .succ) ++ (r .c ∷ (encodeWords (take (r .c) (r .sets)) ++ post))
   unfolding encodeRow
-  opened = h ∙ append-assoc (take e (r .succ)) (r .c ∷ encodeSets (take (r .c) (r .sets))) post
+  opened = h ∙ append-assoc (take e (r .succ)) (r .c ∷ encodeWords (take (r .c) (r .sets))) post
 
   succ-read : (i : ℕ) → i < e → byte b (at + i) ≡ getD (r .succ) i 0
   succ-read i l =
       getD-tail b _ at i 0 opened
-      ∙ List·getD-append (take e (r .succ)) (r .c ∷ (encodeSets (take (r .c) (r .sets)) ++ post)) 0 i (omega (arith, front)) ∙ getD-take e (r .succ) i 0 l
+      ∙ List·getD-append (take e (r .succ)) (r .c ∷ (encodeWords (take (r .c) (r .sets)) ++ post)) 0 i (omega (arith, front)) ∙ getD-take e (r .succ) i 0 l
 
   c-read : countAt b e at ≡ r .c
-  c-read = getD-tail b _ at e 0 opened ∙ getD-at (take e (r .succ)) (r .c) (encodeSets (take (r .c) (r .sets)) ++ post) 0 e front
+  c-read = getD-tail b _ at e 0 opened ∙ getD-at (take e (r .succ)) (r .c) (encodeWords (take (r .c) (r .sets)) ++ post) 0 e front
 
-  sets-left : drop (at + e + 1) b ≡ encodeSets (take (r .c) (r .sets)) ++ post
-  sets-left = drop-tail b (r .c ∷ []) (encodeSets (take (r .c) (r .sets)) ++ post) (at + e) 1
-      (drop-tail b (take e (r .succ)) (r .c ∷ (encodeSets (take (r .c) (r .sets)) ++ post)) at e opened front) refl
+  sets-left : drop (at + e + 1) b ≡ encodeWords (take (r .c) (r .sets)) ++ post
+  sets-left = drop-tail b (r .c ∷ []) (encodeWords (take (r .c) (r .sets)) ++ post) (at + e) 1
+      (drop-tail b (take e (r .succ)) (r .c ∷ (encodeWords (take (r .c) (r .sets)) ++ post)) at e opened front) refl
 
   set-count : length (take (r .c) (r .sets)) ≡ r .c
   set-count = length-take-le (r .c) (r .sets) (omega (arith, f .sets, f .c-high))
 
   set-read : (j : ℕ) → j < r .c → word b (at + e + 1 + j * 2) ≡ getD (r .sets) j 0
-  set-read j l = sets-read b (take (r .c) (r .sets)) post (at + e + 1) sets-left j (omega (arith, set-count)) ∙ getD-take (r .c) (r .sets) j 0 l
+  set-read j l = words-read b (take (r .c) (r .sets)) post (at + e + 1) sets-left j (omega (arith, set-count)) ∙ getD-take (r .c) (r .sets) j 0 l
 
   -- the next node is written after the node
   after-row : drop (nextAt b e at) b ≡ post
   unfolding nextAt
   after-row =
-      let l : length (encodeSets (take (r .c) (r .sets))) ≡ r .c * 2 = omega (arith, length-encodeSets (take (r .c) (r .sets)), set-count) in
-      rw c-read (drop-tail b (encodeSets (take (r .c) (r .sets))) post (at + e + 1) (r .c * 2) sets-left l)
+      let l : length (encodeWords (take (r .c) (r .sets))) ≡ r .c * 2 = omega (arith, length-encodeWords (take (r .c) (r .sets)), set-count) in
+      rw c-read (drop-tail b (encodeWords (take (r .c) (r .sets))) post (at + e + 1) (r .c * 2) sets-left l)
 
   succs-same : upTo (succOf b at e) 12 ≡ r .succ
   unfolding succOf successor
@@ -142,9 +142,9 @@ module _ (b : List ℕ) (e at : ℕ) (r : Row) (post : List ℕ) (k : e ≤ 12) 
   unfolding nextAt
   row-ends l =
       let p = length-tail b _ at opened l in
-      let q = length-append (take e (r .succ)) (r .c ∷ (encodeSets (take (r .c) (r .sets)) ++ post)) in
-      let s = length-append (encodeSets (take (r .c) (r .sets))) post in
-      let t = length-encodeSets (take (r .c) (r .sets)) in
+      let q = length-append (take e (r .succ)) (r .c ∷ (encodeWords (take (r .c) (r .sets)) ++ post)) in
+      let s = length-append (encodeWords (take (r .c) (r .sets))) post in
+      let t = length-encodeWords (take (r .c) (r .sets)) in
       (omega (arith, p, q, front), omega (arith, p, q, s, t, front, set-count, c-read))
 
 -- every row of a list fits
@@ -163,7 +163,7 @@ module _ (b : List ℕ) (e : ℕ) (k : e ≤ 12) where
       let m = layout-read rs (nextAt b e at) (after-row b e at r (encodeRows e rs) k g h) (w .1) (λ j i. f (suc j) (omega arith)) in
       unless← 4 (lt-ltb (at + e) (length b) (w .0)) (unless← 5 c (unless← 4 (le-leb (nextAt b e at) (length b) (w .1)) m))
 
-  module _ (rs : List Row) (h : drop nodesAt b ≡ encodeRows e rs) (f : AllFit e rs) where
+  module _ (rs : List Row) (h : drop (nodesAt b) b ≡ encodeRows e rs) (f : AllFit e rs) where
     next-row : (v : ℕ) → v < length rs → drop (startOf b e v) b ≡ encodeRows e (drop v rs)
         → drop (startOf b e v) b ≡ encodeRow e (getD rs v noRow) ++ encodeRows e (drop (suc v) rs)
     unfolding encodeRows
@@ -190,22 +190,81 @@ unused-is r p q t =
     (eqb-true (r .c) 0 (and-l (eqb (r .c) 0) (blank 0 0 r) t))
 
 -- the bytes before the nodes
-module _ (s : Sheet) where
-  long : 7 ≤ length (encode s)
+module _ (v : ℕ) (s : Sheet) where
+  long : 7 ≤ length (encode v s)
   unfolding encode encodeBody four two
   long = omega arith
 
-  length-written : lengthField (encode s) + 4 ≡ length (encode s)
+  length-written : lengthField (encode v s) + 4 ≡ length (encode v s)
   unfolding encode encodeBody four two lengthField
   length-written = omega arith
 
-  version-written : eqb (version (encode s)) 1 ≡ true
+  pub version-written : version (encode v s) ≡ v
   unfolding encode encodeBody four two
   version-written = refl
 
-  ranges-written : rangesOk (s .e) (s .n) ≡ true → rangesOk (eventCount (encode s)) (nodeCount (encode s)) ≡ true
+  events-written : eventCount (encode v s) ≡ s .e
   unfolding encode encodeBody four two
-  ranges-written t = t
+  events-written = refl
+
+  nodes-written : nodeCount (encode v s) ≡ s .n
+  unfolding encode encodeBody four two
+  nodes-written = refl
+
+  -- after the head stand the codes and the nodes
+  rest-written : drop 7 (encode v s) ≡ encodeCodes v s ++ encodeRows (s .e) (take (s .n) (s .rows))
+  unfolding encode encodeBody four two
+  rest-written = refl
+
+-- a version in which a sheet can be written is 1 or 2
+version-is : (v : ℕ) (s : Sheet) → Writable v s → (eqb v 1 || eqb v 2) ≡ true
+version-is v s (inl e) = rw e
+version-is v s (inr (e, f)) = rw e
+
+-- version 1 is not version 2
+other : {v : ℕ} → v ≡ 1 → eqb v 2 ≡ false
+other e = rw e
+
+-- the codes between the head and the nodes
+module _ (v : ℕ) (s : Sheet) (o : SheetForm s) (h : s .e ≤ 12) where
+  code-count : length (take (s .e) (s .codes)) ≡ s .e
+  code-count = length-take-le (s .e) (s .codes) (omega (arith, o .codes))
+
+  -- what is written in version 2, and in version 1
+  codes-2 : v ≡ 2 → drop 7 (encode v s) ≡ encodeWords (take (s .e) (s .codes)) ++ encodeRows (s .e) (take (s .n) (s .rows))
+  unfolding encodeCodes
+  codes-2 e = rest-written v s ∙ rw (eq-eqb v 2 e)
+
+  codes-1 : v ≡ 1 → drop 7 (encode v s) ≡ encodeRows (s .e) (take (s .n) (s .rows))
+  unfolding encodeCodes
+  codes-1 e = rest-written v s ∙ rw (other e)
+
+  nodes-2 : v ≡ 2 → nodesAt (encode v s) ≡ 7 + s .e * 2
+  unfolding nodesAt
+  nodes-2 e = rw (version-written v s, events-written v s, eq-eqb v 2 e)
+
+  nodes-1 : v ≡ 1 → nodesAt (encode v s) ≡ 7
+  unfolding nodesAt
+  nodes-1 e = rw (version-written v s, other e)
+
+  -- the nodes stand after the codes
+  nodes-left : Writable v s → (nodesAt (encode v s) ≤ length (encode v s)) × (drop (nodesAt (encode v s)) (encode v s) ≡ encodeRows (s .e) (take (s .n) (s .rows)))
+  nodes-left (inl e) =
+      let c = encodeWords (take (s .e) (s .codes)) in
+      let r = encodeRows (s .e) (take (s .n) (s .rows)) in
+      let l : length c ≡ s .e * 2 = omega (arith, length-encodeWords (take (s .e) (s .codes)), code-count) in
+      rw (nodes-2 e)
+      (omega (arith, length-tail (encode v s) (c ++ r) 7 (codes-2 e) (long v s), length-append c r, l), drop-tail (encode v s) c r 7 (s .e * 2) (codes-2 e) l)
+  nodes-left (inr (e, f)) = rw (nodes-1 e) (long v s, codes-1 e)
+
+  -- each code is read as it is kept
+  code-written : Writable v s → (i : ℕ) → i < s .e → codeOf (encode v s) i ≡ code s i
+  unfolding codeOf
+  code-written (inl e) i l =
+      rw (events-written v s, lt-ltb i (s .e) l, version-written v s, eq-eqb v 2 e)
+      (words-read (encode v s) (take (s .e) (s .codes)) (encodeRows (s .e) (take (s .n) (s .rows))) 7 (codes-2 e) i (omega (arith, code-count))
+      ∙ getD-take (s .e) (s .codes) i 0 l)
+  code-written (inr (e, f)) i l = rw (events-written v s, lt-ltb i (s .e) l, version-written v s, other e) (sym (f i l))
 
 module _ (s : Sheet) (o : SheetForm s) (p : Passes s) where
   small : Ranges (s .e) (s .n)
@@ -238,45 +297,72 @@ module _ (s : Sheet) (o : SheetForm s) (p : Passes s) where
   used-fit : AllFit (s .e) (take (s .n) (s .rows))
   used-fit j h = let l : j < s .n = omega (arith, used-length) in rw (getD-take (s .n) (s .rows) j noRow l) (fits j l)
 
-  head-written : headFault (encode s) ≡ 0
-  unfolding headFault
-  head-written =
-      unless← 1 (and-i (le-leb 7 (length (encode s)) (long s)) (eq-eqb (lengthField (encode s) + 4) (length (encode s)) (length-written s)))
-      (unless← 2 (version-written s) (unless← 3 (ranges-written s (p .p3)) refl))
+  -- from here on the sheet is written in a version v
+  module _ (v : ℕ) (w : Writable v s) where
+    head-written : headFault (encode v s) ≡ 0
+    unfolding headFault
+    head-written =
+        unless← 1 (and-i (le-leb 7 (length (encode v s)) (long v s)) (eq-eqb (lengthField (encode v s) + 4) (length (encode v s)) (length-written v s)))
+        (unless← {t = eqb (version (encode v s)) 1 || eqb (version (encode v s)) 2} 2 (rw (version-written v s) (version-is v s w))
+        (unless← {t = rangesOk (eventCount (encode v s)) (nodeCount (encode v s))} 3 (rw (events-written v s, nodes-written v s) (p .p3)) refl))
 
-  layout-written : layoutFault (encode s) (eventCount (encode s)) (nodeCount (encode s)) nodesAt ≡ 0
-  unfolding encode encodeBody four two
-  layout-written =
-      rw used-length at (layout-read (encode s) (s .e) (small .e-high) (take (s .n) (s .rows)) nodesAt refl (long s) used-fit)
+    codes-written : codesOf (encode v s) ≡ s .codes
+    unfolding codesBlank
+    codes-written = upTo-is (codeOf (encode v s)) (s .codes) 12 0 (o .codes) (λ i m. go i m (lt-or-ge i (s .e)))
+      where
+        free : (i : ℕ) → i < 12 → s .e ≤ i → code s i ≡ 0
+        free i m h = at (or-e (ltb i (s .e)) (eqb (code s i) 0) (all→ (λ i. ltb i (s .e) || eqb (code s i) 0) 12 i (p .p7c) m))
+          where
+            at : (ltb i (s .e) ≡ true) ⊎ (eqb (code s i) 0 ≡ true) → code s i ≡ 0
+            at (inl q) = absurd (clash q (le-ltb i (s .e) h))
+            at (inr q) = eqb-true (code s i) 0 q
 
-  row-written : (v : ℕ) → v < s .n → rowAt (encode s) (s .e) (startOf (encode s) (s .e) v) ≡ row s v
-  unfolding encode encodeBody four two
-  row-written v h =
-      rows-read (encode s) (s .e) (small .e-high) (take (s .n) (s .rows)) refl used-fit v (omega (arith, used-length)) ∙ getD-take (s .n) (s .rows) v noRow h
+        go : (i : ℕ) → i < 12 → (i < s .e) ⊎ (s .e ≤ i) → codeOf (encode v s) i ≡ code s i
+        go i m (inl h) = code-written v s o (small .e-high) w i h
+        go i m (inr h) = unfold codeOf in rw (events-written v s, le-ltb i (s .e) h) (sym (free i m h))
 
-  rows-written : upTo (rowOf (encode s) (s .e) (s .n)) 32 ≡ s .rows
-  unfolding rowOf
-  rows-written = upTo-is (rowOf (encode s) (s .e) (s .n)) (s .rows) 32 noRow (o .rows) (λ v m. go v m (lt-or-ge v (s .n)))
-    where
-      go : (v : ℕ) → v < 32 → (v < s .n) ⊎ (s .n ≤ v) → rowOf (encode s) (s .e) (s .n) v ≡ row s v
-      go v m (inl h) = rw (lt-ltb v (s .n) h) (row-written v h)
-      go v m (inr h) = rw (le-ltb v (s .n) h) (sym (unused v m h))
+    codes-whole : codesFault (encode v s) ≡ 0
+    unfolding codesFault
+    codes-whole =
+        unless← 4 (le-leb (nodesAt (encode v s)) (length (encode v s)) (nodes-left v s o (small .e-high) w .0))
+        (unless← {t = codesOk (eventCount (encode v s)) (codesOf (encode v s))} 18 (rw (events-written v s, codes-written) (p .p18)) refl)
+
+    layout-written : layoutFault (encode v s) (eventCount (encode v s)) (nodeCount (encode v s)) (nodesAt (encode v s)) ≡ 0
+    layout-written =
+        let l = nodes-left v s o (small .e-high) w in
+        rw (events-written v s, nodes-written v s)
+        (rw used-length at (layout-read (encode v s) (s .e) (small .e-high) (take (s .n) (s .rows)) (nodesAt (encode v s)) (l .1) (l .0) used-fit))
+
+    row-written : (u : ℕ) → u < s .n → rowAt (encode v s) (s .e) (startOf (encode v s) (s .e) u) ≡ row s u
+    row-written u h =
+        rows-read (encode v s) (s .e) (small .e-high) (take (s .n) (s .rows)) (nodes-left v s o (small .e-high) w .1) used-fit u (omega (arith, used-length))
+        ∙ getD-take (s .n) (s .rows) u noRow h
+
+    rows-written : upTo (rowOf (encode v s) (s .e) (s .n)) 32 ≡ s .rows
+    unfolding rowOf
+    rows-written = upTo-is (rowOf (encode v s) (s .e) (s .n)) (s .rows) 32 noRow (o .rows) (λ u m. go u m (lt-or-ge u (s .n)))
+      where
+        go : (u : ℕ) → u < 32 → (u < s .n) ⊎ (s .n ≤ u) → rowOf (encode v s) (s .e) (s .n) u ≡ row s u
+        go u m (inl h) = rw (lt-ltb u (s .n) h) (row-written u h)
+        go u m (inr h) = rw (le-ltb u (s .n) h) (sym (unused u m h))
 
 -- two sheets with the same fields are one sheet
-sheet-path : (x y : Sheet) → x .rows ≡ y .rows → x .e ≡ y .e → x .n ≡ y .n → x ≡ y
-sheet-path x y p q r = λ i. record { rows = p i; e = q i; n = r i }
+sheet-path : (x y : Sheet) → x .rows ≡ y .rows → x .e ≡ y .e → x .n ≡ y .n → x .codes ≡ y .codes → x ≡ y
+sheet-path x y p q r t = λ i. record { rows = p i; e = q i; n = r i; codes = t i }
 
 -- the bytes of an accepted sheet spell that sheet
-pub sheetOf-encode : (s : Sheet) → SheetForm s → sheetFault s ≡ 0 → sheetOf (encode s) ≡ s
-unfolding sheetOf encode encodeBody four two
-sheetOf-encode s o h = sheet-path (sheetOf (encode s)) s (rows-written s o (passes s h)) refl refl
+pub sheetOf-encode : (v : ℕ) (s : Sheet) → Writable v s → SheetForm s → sheetFault s ≡ 0 → sheetOf (encode v s) ≡ s
+unfolding sheetOf
+sheetOf-encode v s w o h =
+    sheet-path (sheetOf (encode v s)) s (rw (events-written v s, nodes-written v s) (rows-written s o (passes s h) v w)) (events-written v s) (nodes-written v s)
+    (codes-written s o (passes s h) v w)
 
 -- reading accepts the bytes of an accepted sheet
-pub encode-accepted : (s : Sheet) → SheetForm s → sheetFault s ≡ 0 → bytesFault (encode s) ≡ 0
+pub encode-accepted : (v : ℕ) (s : Sheet) → Writable v s → SheetForm s → sheetFault s ≡ 0 → bytesFault (encode v s) ≡ 0
 unfolding bytesFault
-encode-accepted s o h =
+encode-accepted v s w o h =
     let p = passes s h in
-    orElse← (head-written s o p) (orElse← (layout-written s o p) (rw (sheetOf-encode s o h) (graph-passed s p)))
+    orElse← (head-written s o p v w) (orElse← (codes-whole s o p v w) (orElse← (layout-written s o p v w) (rw (sheetOf-encode v s w o h) (graph-passed s p))))
   where
     orElse← : {k r : ℕ} → k ≡ 0 → r ≡ 0 → orElse k r ≡ 0
     orElse← a b = rw (a, b)

@@ -11,12 +11,14 @@ pub struct Row {
     pub c: u8,
 }
 
-// A kept sheet: a row for each of 32 nodes, the number of events (01's E) and the number of nodes in use (01's N).
+// A kept sheet: a row for each of 32 nodes, the number of events (01's E), the number of nodes in use (01's N), and the
+// catalogue code of each event (02, K1). Unused codes hold 0.
 #[repr(C)]
 pub struct Sheet {
     pub rows: [Row; 32],
     pub e: u8,
     pub n: u8,
+    pub codes: [u16; 12],
 }
 
 // What reading answers: the number of the refusal, 0 for none, and the sheet, all 0 where it is refused.
