@@ -23,10 +23,10 @@ use Rattle.sheet_spec.specs.declared.Row.{Row}
 use Rattle.sheet_spec.specs.declared.Sheet.{Sheet}
 use Rattle.sheet_spec.specs.declared.ReadSheet.{ReadSheet}
 use Rattle.sheet_spec.specs.Kept.{successor, acceptance, acceptances, initials, mayStop, step}
-use Rattle.sheet_spec.specs.Rules.{rangesOk, countOk, countsOk, successorsOk, rowSuccessorsOk, successorOk, setsOk, rowSetsOk, setOk, ascends, noneInside, blank, unusedOk, blanksOk, reachedOk}
-use Rattle.sheet_spec.specs.Refusals.{headFault, layoutFault, graphFault, bytesFault, sheetFault}
+use Rattle.sheet_spec.specs.Rules.{rangesOk, countOk, countsOk, successorsOk, rowSuccessorsOk, successorOk, setsOk, rowSetsOk, setOk, ascends, noneInside, blank, unusedOk, blanksOk, reachedOk, codeNew, codesAgree, codesBlank, codesOk}
+use Rattle.sheet_spec.specs.Refusals.{headFault, layoutFault, graphFault, bytesFault, sheetFault, codesFault, sharedFault}
 use Rattle.sheet_spec.specs.Reading.{readSheet, answer}
-use Rattle.sheet_spec.specs.Spelling.{lengthField, nextAt, startOf, succOf, setsOf, rowAt, rowOf, sheetOf}
+use Rattle.sheet_spec.specs.Spelling.{lengthField, nextAt, startOf, succOf, setsOf, rowAt, rowOf, sheetOf, codeOf, nodesAt}
 use Rattle.probes_spec.specs.Probes.{hits, isProbe, probes}
 use Rattle.probes_spec.specs.Listing.{nodeProbes, listFault, listedNumbers, listedOf, listAfter}
 use Rattle.probes_spec.specs.FirstMissed.{missing, orNext, firstMissing, firstMissed}
@@ -333,5 +333,5 @@ table =
 
 -- every row answers what 01 and 02 say
 pub cases-hold : map (λ (c : Case × List ℕ). numbersOf (c .0)) table ≡ map (λ (c : Case × List ℕ). c .1) table
-unfolding setBytes accepting rowNumbers listNumbers filled keptNode joined kept unread nodeProbes listFault listedNumbers listedOf listAfter numbersOf table lists lent workAfter readNumbers numbers judgedNumbers recordNumbers answersOf comparedNumbers work trace sheet exampleReference exampleDevice onlyZero onlyOne mayLoop mustLoop stopped readSheet answer bytesFault headFault lengthField layoutFault nextAt startOf succOf setsOf rowAt rowOf sheetOf graphFault rangesOk countOk countsOk successorsOk rowSuccessorsOk successorOk setsOk rowSetsOk setOk ascends noneInside blank unusedOk blanksOk reachedOk sheetFault successor acceptance acceptances initials mayStop step bit has inside meets insert setOf walk nearer leads meetsIn distance later choice leastFrom leastTrace cleared code pairNext product onCodes pairDistance pairTrace pairCleared all any first count upTo hits isProbe gather select probes missing orNext firstMissing firstMissed strays hasStray firstStray covers hasRefusal violates violating allEvents outside probesAt chosen flag flagOf offerOf newRun recordOk openFault openOf endedRun eventFault reportFault movedBy answerOf stepOf failsFrom verdictFault verdictOf nearest said judged pairCount nearestTrace clearedOf lastRow refusalNamed named comparisonOf compareFault outcomeOf traceAfter compared
+unfolding setBytes accepting rowNumbers listNumbers filled keptNode joined kept unread nodeProbes listFault listedNumbers listedOf listAfter numbersOf table lists lent workAfter readNumbers numbers judgedNumbers recordNumbers answersOf comparedNumbers work trace sheet exampleReference exampleDevice onlyZero onlyOne mayLoop mustLoop stopped readSheet answer bytesFault headFault lengthField layoutFault nextAt startOf succOf setsOf rowAt rowOf sheetOf graphFault rangesOk countOk countsOk successorsOk rowSuccessorsOk successorOk setsOk rowSetsOk setOk ascends noneInside blank unusedOk blanksOk reachedOk sheetFault successor acceptance acceptances initials mayStop step bit has inside meets insert setOf walk nearer leads meetsIn distance later choice leastFrom leastTrace cleared code pairNext product onCodes pairDistance pairTrace pairCleared all any first count upTo hits isProbe gather select probes missing orNext firstMissing firstMissed strays hasStray firstStray covers hasRefusal violates violating allEvents outside probesAt chosen flag flagOf offerOf newRun recordOk openFault openOf endedRun eventFault reportFault movedBy answerOf stepOf failsFrom verdictFault verdictOf nearest said judged pairCount nearestTrace clearedOf lastRow refusalNamed named comparisonOf compareFault outcomeOf traceAfter compared codesFault nodesAt codeOf codesOk codeNew codesBlank sharedFault codesAgree
 cases-hold = refl

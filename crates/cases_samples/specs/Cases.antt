@@ -10,10 +10,10 @@ use Rattle.events.specs.Bit.{bit, setOf}
 use Rattle.events.specs.Sets.{has, inside}
 use Rattle.walks.specs.Reach.{nearer, leads}
 use Rattle.sheet_spec.specs.Kept.{successor, acceptance, initials, step}
-use Rattle.sheet_spec.specs.Rules.{rangesOk, countOk, countsOk, successorOk, rowSuccessorsOk, successorsOk, ascends, noneInside, setOk, rowSetsOk, setsOk, blank, unusedOk, blanksOk, reachedOk}
-use Rattle.sheet_spec.specs.Refusals.{headFault, layoutFault, graphFault, bytesFault, sheetFault}
+use Rattle.sheet_spec.specs.Rules.{rangesOk, countOk, countsOk, successorOk, rowSuccessorsOk, successorsOk, ascends, noneInside, setOk, rowSetsOk, setsOk, blank, unusedOk, blanksOk, reachedOk, codeNew, codesBlank, codesOk}
+use Rattle.sheet_spec.specs.Refusals.{headFault, layoutFault, graphFault, bytesFault, sheetFault, codesFault}
 use Rattle.sheet_spec.specs.Reading.{answer, readSheet}
-use Rattle.sheet_spec.specs.Spelling.{lengthField, nextAt, startOf, succOf, setsOf, rowAt, rowOf, sheetOf}
+use Rattle.sheet_spec.specs.Spelling.{lengthField, nextAt, startOf, succOf, setsOf, rowAt, rowOf, sheetOf, codeOf, nodesAt}
 use Rattle.sheet_spec.specs.Examples.{exampleReference, exampleDevice, onlyZero, onlyOne, mayLoop, mustLoop, stopped}
 use Rattle.cases_samples.specs.Samples.{leadsToEnd, smallBytes, sixteenPairs, sixteenOthers, fourTriples, leadsBack, loopsOnBoth, sampleBytes, sampleOf, withNewNode, withCount, withRow, changedTo}
 
@@ -29,5 +29,5 @@ changedFaults w = map (λ m. sheetFault (changedTo (sampleOf w) m)) (0 ∷ 3 ∷
 pub samples-hold :
     (faults ≡ 0 ∷ 0 ∷ 0 ∷ 0 ∷ 0 ∷ 0 ∷ 0 ∷ 0 ∷ 0 ∷ 0 ∷ 3 ∷ 3 ∷ [])
     × (changedFaults 1 ≡ 0 ∷ 3 ∷ 5 ∷ 6 ∷ 7 ∷ 8 ∷ [])
-unfolding faults changedFaults changedTo withNewNode withCount withRow sampleOf sampleBytes smallBytes leadsToEnd sixteenPairs sixteenOthers fourTriples leadsBack loopsOnBoth exampleReference exampleDevice onlyZero onlyOne mayLoop mustLoop stopped readSheet answer bytesFault headFault lengthField layoutFault nextAt startOf succOf setsOf rowAt rowOf sheetOf graphFault rangesOk countOk countsOk successorOk rowSuccessorsOk successorsOk ascends noneInside setOk rowSetsOk setsOk blank unusedOk blanksOk reachedOk sheetFault successor acceptance initials step bit setOf has inside nearer leads all any upTo
+unfolding faults changedFaults changedTo withNewNode withCount withRow sampleOf sampleBytes smallBytes leadsToEnd sixteenPairs sixteenOthers fourTriples leadsBack loopsOnBoth exampleReference exampleDevice onlyZero onlyOne mayLoop mustLoop stopped readSheet answer bytesFault headFault lengthField layoutFault nextAt startOf succOf setsOf rowAt rowOf sheetOf graphFault rangesOk countOk countsOk successorOk rowSuccessorsOk successorsOk ascends noneInside setOk rowSetsOk setsOk blank unusedOk blanksOk reachedOk sheetFault successor acceptance initials step bit setOf has inside nearer leads all any upTo codesFault nodesAt codeOf codesOk codeNew codesBlank
 samples-hold = (refl, refl)

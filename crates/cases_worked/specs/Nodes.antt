@@ -11,10 +11,10 @@ use Rattle.events.specs.Sets.{has, inside, meets}
 use Rattle.walks.specs.Graph.{walk}
 use Rattle.walks.specs.Reach.{nearer, leads}
 use Rattle.sheet_spec.specs.Kept.{successor, acceptance, acceptances, initials, mayStop, step}
-use Rattle.sheet_spec.specs.Rules.{rangesOk, countOk, countsOk, successorOk, rowSuccessorsOk, successorsOk, ascends, noneInside, setOk, rowSetsOk, setsOk, blank, unusedOk, blanksOk, reachedOk}
-use Rattle.sheet_spec.specs.Refusals.{headFault, layoutFault, graphFault, bytesFault, sheetFault}
+use Rattle.sheet_spec.specs.Rules.{rangesOk, countOk, countsOk, successorOk, rowSuccessorsOk, successorsOk, ascends, noneInside, setOk, rowSetsOk, setsOk, blank, unusedOk, blanksOk, reachedOk, codeNew, codesBlank, codesOk}
+use Rattle.sheet_spec.specs.Refusals.{headFault, layoutFault, graphFault, bytesFault, sheetFault, codesFault}
 use Rattle.sheet_spec.specs.Reading.{answer, readSheet}
-use Rattle.sheet_spec.specs.Spelling.{lengthField, nextAt, startOf, succOf, setsOf, rowAt, rowOf, sheetOf}
+use Rattle.sheet_spec.specs.Spelling.{lengthField, nextAt, startOf, succOf, setsOf, rowAt, rowOf, sheetOf, codeOf, nodesAt}
 use Rattle.probes_spec.specs.Probes.{hits, isProbe, probes}
 use Rattle.probes_spec.specs.Listing.{nodeProbes, listFault}
 use Rattle.text_spec.specs.Lines.{ascii, decimalIn, decimal, eventList}
@@ -27,13 +27,13 @@ use Rattle.sheet_spec.specs.Examples.{exampleReference, sheet}
 -- 01's example reference has two nodes; there is no node 2
 pub reference-lines : map (nodeText (sheet exampleReference)) (0 ∷ 1 ∷ 2 ∷ [])
     ≡ (ascii "node 0 probes 3 ( 0 1 )\n" ∷ ascii "node 1 probes 1 ( 0 ) 2 ( 1 )\n" ∷ ascii "node 2 refused 9\n" ∷ [])
-unfolding exampleReference sheet nodeText optionalText optionalLine optional nodeLine probesLine mayStopLine deniedLine setList placeWords probeSpace joined nodeProbes listFault setWords members eventsIn eventList decimal decimalIn readSheet answer bytesFault headFault lengthField layoutFault nextAt startOf succOf setsOf rowAt rowOf sheetOf graphFault rangesOk countOk countsOk successorOk rowSuccessorsOk successorsOk ascends noneInside setOk rowSetsOk setsOk blank unusedOk blanksOk reachedOk sheetFault successor acceptance acceptances initials mayStop step bit setOf has inside meets nearer leads walk all any upTo hits isProbe gather select probes
+unfolding exampleReference sheet nodeText optionalText optionalLine optional nodeLine probesLine mayStopLine deniedLine setList placeWords probeSpace joined nodeProbes listFault setWords members eventsIn eventList decimal decimalIn readSheet answer bytesFault headFault lengthField layoutFault nextAt startOf succOf setsOf rowAt rowOf sheetOf graphFault rangesOk countOk countsOk successorOk rowSuccessorsOk successorsOk ascends noneInside setOk rowSetsOk setsOk blank unusedOk blanksOk reachedOk sheetFault successor acceptance acceptances initials mayStop step bit setOf has inside meets nearer leads walk all any upTo hits isProbe gather select probes codesFault nodesAt codeOf codesOk codeNew codesBlank
 reference-lines = refl
 
 -- three nodes, of which the last may stop
 pub three-lines : map (nodeText (sheet threeNodes)) (0 ∷ 1 ∷ 2 ∷ [])
     ≡ (ascii "node 0 probes 3 ( 0 1 )\n" ∷ ascii "node 1 probes 1 ( 0 )\n" ∷ ascii "node 2 may stop\n" ∷ [])
-unfolding threeNodes sheet nodeText optionalText optionalLine optional nodeLine probesLine mayStopLine deniedLine setList placeWords probeSpace joined nodeProbes listFault setWords members eventsIn eventList decimal decimalIn readSheet answer bytesFault headFault lengthField layoutFault nextAt startOf succOf setsOf rowAt rowOf sheetOf graphFault rangesOk countOk countsOk successorOk rowSuccessorsOk successorsOk ascends noneInside setOk rowSetsOk setsOk blank unusedOk blanksOk reachedOk sheetFault successor acceptance acceptances initials mayStop step bit setOf has inside meets nearer leads walk all any upTo hits isProbe gather select probes
+unfolding threeNodes sheet nodeText optionalText optionalLine optional nodeLine probesLine mayStopLine deniedLine setList placeWords probeSpace joined nodeProbes listFault setWords members eventsIn eventList decimal decimalIn readSheet answer bytesFault headFault lengthField layoutFault nextAt startOf succOf setsOf rowAt rowOf sheetOf graphFault rangesOk countOk countsOk successorOk rowSuccessorsOk successorsOk ascends noneInside setOk rowSetsOk setsOk blank unusedOk blanksOk reachedOk sheetFault successor acceptance acceptances initials mayStop step bit setOf has inside meets nearer leads walk all any upTo hits isProbe gather select probes codesFault nodesAt codeOf codesOk codeNew codesBlank
 three-lines = refl
 
 -- two nodes with two events: at node 0 nothing demands event 1, node 1 may stop and has event 0
@@ -43,10 +43,10 @@ twoNodes = 0 ∷ 0 ∷ 0 ∷ 13 ∷ 1 ∷ 2 ∷ 2 ∷ 1 ∷ 0 ∷ 1 ∷ 0 ∷ 1 
 -- a line of optional events follows that of the probes, or that the node may stop
 pub optional-lines : map (nodeText (sheet twoNodes)) (0 ∷ 1 ∷ [])
     ≡ (ascii "node 0 probes 1 ( 0 )\nnode 0 optional 1\n" ∷ ascii "node 1 may stop\nnode 1 optional 0\n" ∷ [])
-unfolding twoNodes sheet nodeText optionalText optionalLine optional nodeLine probesLine mayStopLine deniedLine setList placeWords probeSpace joined nodeProbes listFault setWords members eventsIn eventList decimal decimalIn readSheet answer bytesFault headFault lengthField layoutFault nextAt startOf succOf setsOf rowAt rowOf sheetOf graphFault rangesOk countOk countsOk successorOk rowSuccessorsOk successorsOk ascends noneInside setOk rowSetsOk setsOk blank unusedOk blanksOk reachedOk sheetFault successor acceptance acceptances initials mayStop step bit setOf has inside meets nearer leads walk all any upTo hits isProbe gather select probes
+unfolding twoNodes sheet nodeText optionalText optionalLine optional nodeLine probesLine mayStopLine deniedLine setList placeWords probeSpace joined nodeProbes listFault setWords members eventsIn eventList decimal decimalIn readSheet answer bytesFault headFault lengthField layoutFault nextAt startOf succOf setsOf rowAt rowOf sheetOf graphFault rangesOk countOk countsOk successorOk rowSuccessorsOk successorsOk ascends noneInside setOk rowSetsOk setsOk blank unusedOk blanksOk reachedOk sheetFault successor acceptance acceptances initials mayStop step bit setOf has inside meets nearer leads walk all any upTo hits isProbe gather select probes codesFault nodesAt codeOf codesOk codeNew codesBlank
 optional-lines = refl
 
 -- the sheet of a refused reading, all 0: each node is refused with its number
 pub refused-lines : map (nodeText (sheet [])) (0 ∷ 255 ∷ []) ≡ (ascii "node 0 refused 3\n" ∷ ascii "node 255 refused 3\n" ∷ [])
-unfolding sheet nodeText nodeLine deniedLine probeSpace listFault decimal decimalIn readSheet answer bytesFault headFault lengthField sheetFault rangesOk
+unfolding sheet nodeText nodeLine deniedLine probeSpace listFault decimal decimalIn readSheet answer bytesFault headFault lengthField sheetFault rangesOk codesOk codeNew codesBlank
 refused-lines = refl

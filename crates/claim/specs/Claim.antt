@@ -1,9 +1,9 @@
 -- The claim: demand 3 of the mission, with demand 2 beside it, over every two accepted sheets P (the reference, of p
--- nodes) and Q (the device, of q nodes) with equal event counts. `traceOnly` is true for the trace-only reading: strays
--- alone, trace-only tests, traces alone. What the bench answers is named as its contracts equate it (`verdictOf` of the
--- verdict, `suiteOf` and `verdictsAfter` of all verdicts, `outcomeOf` and `traceAfter` of the comparison); what that
--- means is in the mission's words (Trace, Does, Refuses, Violation, Refines of Refinement; FailsTest, a run that ends
--- failed, of Verdicts; Describes, what 01 says of an answer, of Meaning).
+-- nodes) and Q (the device, of q nodes) that agree: equal event counts and equal codes. `traceOnly` is true for the
+-- trace-only reading: strays alone, trace-only tests, traces alone. What the bench answers is named as its contracts
+-- equate it (`verdictOf` of the verdict, `suiteOf` and `verdictsAfter` of all verdicts, `outcomeOf` and `traceAfter` of
+-- the comparison); what that means is in the mission's words (Trace, Does, Refuses, Violation, Refines of Refinement;
+-- FailsTest, a run that ends failed, of Verdicts; Describes, what 01 says of an answer, of Meaning).
 use mathlib.Core.Path.{_≡_}
 use mathlib.Core.Logic.{_⊎_, _≢_, _↔_}
 use mathlib.Core.Bool.{Bool, true}
@@ -14,7 +14,7 @@ use Rattle.events.specs.Bit.{Apart}
 use Rattle.walks.specs.Order.{Lex}
 use Rattle.sheet_spec.specs.declared.Sheet.{Sheet}
 use Rattle.sheet_spec.specs.Kept.{row, acceptance}
-use Rattle.sheet_spec.specs.Refusals.{sheetFault}
+use Rattle.sheet_spec.specs.Refusals.{sheetFault, Agree}
 use Rattle.sheet_spec.specs.Reading.{readSheet, accepted}
 use Rattle.refinement_spec.specs.Refinement.{After, Does, Refuses, ViolationIn, RefinesIn}
 use Rattle.verdicts_spec.specs.declared.Verdict.the-variants.{Passes, Fails}
@@ -107,6 +107,6 @@ pub record Claim (traceOnly : Bool) (P Q : Sheet) : Type 0 where
   -- the trace-only reading: the single test p q - 1 decides
   pub single : traceOnly ≡ true → (verdictOf traceOnly P Q (P .n * Q .n - 1) ≡ Passes) ↔ RefinesIn traceOnly P Q
 
--- demand 3, whole: for every two accepted sheets with equal event counts, in both readings
+-- demand 3, whole: for every two accepted sheets that agree, in both readings
 abbrev pub Demand3 : Type 0
-Demand3 = (traceOnly : Bool) (P Q : Sheet) → Accepted P → Accepted Q → P .e ≡ Q .e → Claim traceOnly P Q
+Demand3 = (traceOnly : Bool) (P Q : Sheet) → Accepted P → Accepted Q → Agree P Q → Claim traceOnly P Q

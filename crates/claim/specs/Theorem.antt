@@ -1,4 +1,4 @@
--- Nothing to believe: laws. The theorem: the claim holds of every two accepted sheets with equal event counts.
+-- Nothing to believe: laws. The theorem: the claim holds of every two accepted sheets that agree in codes.
 use mathlib.Core.Path.{_≡_, refl, sym, ap, _∙_}
 use mathlib.Core.Logic.{_⊎_, inl, inr, _≢_, _↔_}
 use mathlib.Core.Bool.{Bool, true, false, true≢false}
@@ -11,7 +11,7 @@ use Rattle.base.specs.Front.{atFront-taken}
 use Rattle.events.specs.Bit.{bit, Apart}
 use Rattle.sheet_spec.specs.declared.Sheet.{Sheet}
 use Rattle.sheet_spec.specs.Kept.{row, acceptance, acceptances}
-use Rattle.sheet_spec.specs.Refusals.{sheetFault}
+use Rattle.sheet_spec.specs.Refusals.{sheetFault, Agree}
 use Rattle.sheet_spec.specs.RowLaws.{acceptances-length, acceptances-at}
 use Rattle.sheet_spec.specs.Accepted.{read-accepted}
 use Rattle.sheet_spec.specs.EncodingLaws.{reads→}
@@ -44,7 +44,10 @@ pub accepted-unrefused : (s : Sheet) → Accepted s → sheetFault s ≡ 0
 accepted-unrefused s (inl h) = h
 accepted-unrefused s (inr (b, e)) = let r = reads→ b s e in rw (r .1) at (read-accepted b (r .0))
 
-module _ (P Q : Sheet) (accP : sheetFault P ≡ 0) (accQ : sheetFault Q ≡ 0) (same : P .e ≡ Q .e) (traceOnly : Bool) where
+module _ (P Q : Sheet) (accP : sheetFault P ≡ 0) (accQ : sheetFault Q ≡ 0) (agree : Agree P Q) (traceOnly : Bool) where
+  same : P .e ≡ Q .e
+  same = agree .0
+
   op : Sound P
   op = check-sound P accP
 
@@ -60,25 +63,25 @@ module _ (P Q : Sheet) (accP : sheetFault P ≡ 0) (accQ : sheetFault Q ≡ 0) (
   judges k small = go (dec (failsFrom traceOnly P Q k 0 0))
     where
       go : (failsFrom traceOnly P Q k 0 0 ≡ true) ⊎ (failsFrom traceOnly P Q k 0 0 ≡ false) → (verdictOf traceOnly P Q k ≡ Passes) ⊎ (verdictOf traceOnly P Q k ≡ Fails)
-      go (inl f) = inr (verdict-means P Q accP accQ same traceOnly k small .1 (fails-means P Q accP accQ same traceOnly k small .0 f))
-      go (inr f) = inl (verdict-passes P Q accP accQ same traceOnly k small .1 (λ x. clash (fails-means P Q accP accQ same traceOnly k small .1 x) f))
+      go (inl f) = inr (verdict-means P Q accP accQ agree traceOnly k small .1 (fails-means P Q accP accQ same traceOnly k small .0 f))
+      go (inr f) = inl (verdict-passes P Q accP accQ agree traceOnly k small .1 (λ x. clash (fails-means P Q accP accQ same traceOnly k small .1 x) f))
 
   -- with a list that is long enough all tests are judged, and each place says what its verdict says
   suite : (out : List ℕ) → P .n * Q .n ≤ length out → (suiteOf P Q out ≡ Judged (P .n * Q .n)) × AllJudged traceOnly P Q (verdictsAfter traceOnly P Q out)
   unfolding testCount
   suite out l = (
-    given-suite P Q out (suite-fits P Q out accP accQ same l),
+    given-suite P Q out (suite-fits P Q out accP accQ agree l),
     record {
-      passed = place-passes P Q accP accQ same out l traceOnly;
-      failed = place-means P Q accP accQ same out l traceOnly;
-      complete = suite-complete P Q accP accQ same out l traceOnly;
+      passed = place-passes P Q accP accQ agree out l traceOnly;
+      failed = place-means P Q accP accQ agree out l traceOnly;
+      complete = suite-complete P Q accP accQ agree out l traceOnly;
     },
   )
 
   -- with lists that are long enough the comparison answers
   fits : (work trace : List ℕ) → LongEnough P Q work trace → compareFault P Q work trace ≡ 0
   unfolding pairCount
-  fits work trace l = compare-fits P Q work trace accP accQ same (l .0) (l .1)
+  fits work trace l = compare-fits P Q work trace accP accQ agree (l .0) (l .1)
 
   -- two lists are long enough exactly if neither 12 nor 13 applies
   pub long-enough : (work trace : List ℕ) → LongEnough P Q work trace ↔ (compareFault P Q work trace ≡ 0)
@@ -122,8 +125,8 @@ module _ (P Q : Sheet) (accP : sheetFault P ≡ 0) (accQ : sheetFault Q ≡ 0) (
   unfolding nearest
   first n =
       let f = first-failing P Q accP accQ same traceOnly n in (
-        verdict-means P Q accP accQ same traceOnly (nearest traceOnly P Q) (omega (arith, few, f .0)) .1 (fails-means P Q accP accQ same traceOnly (nearest traceOnly P Q) (omega (arith, few, f .0)) .0 (f .1)),
-        λ k l. verdict-passes P Q accP accQ same traceOnly k (omega (arith, few, f .0)) .1 (λ x. clash (fails-means P Q accP accQ same traceOnly k (omega (arith, few, f .0)) .1 x) (f .2 k l)),
+        verdict-means P Q accP accQ agree traceOnly (nearest traceOnly P Q) (omega (arith, few, f .0)) .1 (fails-means P Q accP accQ same traceOnly (nearest traceOnly P Q) (omega (arith, few, f .0)) .0 (f .1)),
+        λ k l. verdict-passes P Q accP accQ agree traceOnly k (omega (arith, few, f .0)) .1 (λ x. clash (fails-means P Q accP accQ same traceOnly k (omega (arith, few, f .0)) .1 x) (f .2 k l)),
       )
 
   -- with traces alone a violation is a stray
@@ -196,26 +199,26 @@ module _ (P Q : Sheet) (accP : sheetFault P ≡ 0) (accQ : sheetFault Q ≡ 0) (
 
       go : (b : Bool) → b ≡ true → (verdictOf b P Q (P .n * Q .n - 1) ≡ Passes) ↔ RefinesIn b P Q
       go true e = (
-        (λ p. single-test P Q accP accQ same .0 (not-i (λ f. verdict-passes P Q accP accQ same true (P .n * Q .n - 1) small .0 p (fails-means P Q accP accQ same true (P .n * Q .n - 1) small .0 f)))),
-        λ r. verdict-passes P Q accP accQ same true (P .n * Q .n - 1) small .1 (λ x. clash (fails-means P Q accP accQ same true (P .n * Q .n - 1) small .1 x) (single-test P Q accP accQ same .1 r)),
+        (λ p. single-test P Q accP accQ same .0 (not-i (λ f. verdict-passes P Q accP accQ agree true (P .n * Q .n - 1) small .0 p (fails-means P Q accP accQ same true (P .n * Q .n - 1) small .0 f)))),
+        λ r. verdict-passes P Q accP accQ agree true (P .n * Q .n - 1) small .1 (λ x. clash (fails-means P Q accP accQ same true (P .n * Q .n - 1) small .1 x) (single-test P Q accP accQ same .1 r)),
       )
       go false e = absurd (true≢false (sym e))
 
 -- demand 3, whole, and demand 2 beside it
 pub claim : Demand3
-claim traceOnly P Q a b same =
+claim traceOnly P Q a b agree =
     let p = accepted-unrefused P a in
     let q = accepted-unrefused Q b in
     record {
-      near = violation-near (check-sound P p) (check-sound Q q) same traceOnly;
-      judges = judges P Q p q same traceOnly;
-      few = few P Q p q same traceOnly;
-      complete = verdicts-complete P Q p q same traceOnly;
-      suite = suite P Q p q same traceOnly;
-      answers = λ work trace l m. described-given P Q p q same traceOnly (outcomeOf traceOnly P Q work trace) (traceOf traceOnly P Q) m (described P Q p q same traceOnly work trace l);
-      refined = says-refines P Q p q same traceOnly;
-      violated = λ work trace l n. described-violated P Q p q same traceOnly n (traceAfter traceOnly P Q work trace) (trace-front P Q p q same traceOnly work trace l n) (outcomeOf traceOnly P Q work trace) (traceOf traceOnly P Q) (described P Q p q same traceOnly work trace l);
-      fails = λ k l. verdict-means P Q p q same traceOnly k l;
-      counted = λ work trace l c e. described-refines P Q p q same traceOnly (outcomeOf traceOnly P Q work trace) (traceOf traceOnly P Q) c (described P Q p q same traceOnly work trace l) e .1;
-      single = single P Q p q same traceOnly;
+      near = violation-near (check-sound P p) (check-sound Q q) (agree .0) traceOnly;
+      judges = judges P Q p q agree traceOnly;
+      few = few P Q p q agree traceOnly;
+      complete = verdicts-complete P Q p q agree traceOnly;
+      suite = suite P Q p q agree traceOnly;
+      answers = λ work trace l m. described-given P Q p q agree traceOnly (outcomeOf traceOnly P Q work trace) (traceOf traceOnly P Q) m (described P Q p q agree traceOnly work trace l);
+      refined = says-refines P Q p q agree traceOnly;
+      violated = λ work trace l n. described-violated P Q p q agree traceOnly n (traceAfter traceOnly P Q work trace) (trace-front P Q p q agree traceOnly work trace l n) (outcomeOf traceOnly P Q work trace) (traceOf traceOnly P Q) (described P Q p q agree traceOnly work trace l);
+      fails = λ k l. verdict-means P Q p q agree traceOnly k l;
+      counted = λ work trace l c e. described-refines P Q p q agree traceOnly (outcomeOf traceOnly P Q work trace) (traceOf traceOnly P Q) c (described P Q p q agree traceOnly work trace l) e .1;
+      single = single P Q p q agree traceOnly;
     }

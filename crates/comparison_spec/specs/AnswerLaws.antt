@@ -13,6 +13,7 @@ use Rattle.sheet_spec.specs.declared.Sheet.{Sheet}
 use Rattle.sheet_spec.specs.Refusals.{sheetFault}
 use Rattle.sheet_spec.specs.Sound.{Sound}
 use Rattle.sheet_spec.specs.SoundLaws.{check-sound}
+use Rattle.sheet_spec.specs.CodeLaws.{agree-self}
 use Rattle.comparison_spec.specs.declared.Outcome.{Outcome}
 use Rattle.comparison_spec.specs.declared.Outcome.the-variants.{Refines}
 use Rattle.comparison_spec.specs.Comparison.{pairCount, nearest, nearestTrace, clearedOf, compareFault, outcomeOf, traceAfter, traceOf}
@@ -24,7 +25,7 @@ use Rattle.comparison_spec.specs.CallLaws.{compare-0, compare-fits, give
 -- a sheet that is not refused, compared with itself with lists that are long enough, refines
 pub outcome-self : (traceOnly : Bool) (s : Sheet) → sheetFault s ≡ 0 → (work trace : List ℕ) → 2 * pairCount s s ≤ length work → pairCount s s - 1 ≤ length trace
     → outcomeOf traceOnly s s work trace ≡ Refines (clearedOf traceOnly s s)
-outcome-self traceOnly s h work trace l k = given-outcome s s work trace traceOnly (compare-fits s s work trace h h refl l k) ∙ comparison-self (check-sound s h) traceOnly
+outcome-self traceOnly s h work trace l k = given-outcome s s work trace traceOnly (compare-fits s s work trace h h (agree-self s) l k) ∙ comparison-self (check-sound s h) traceOnly
 
 module _ (traceOnly : Bool) (P Q : Sheet) (accP : sheetFault P ≡ 0) (accQ : sheetFault Q ≡ 0) (same : P .e ≡ Q .e) (work trace : List ℕ) (z : compareFault P Q work trace ≡ 0) where
   op : Sound P

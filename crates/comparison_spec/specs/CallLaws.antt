@@ -12,9 +12,10 @@ use Rattle.base.specs.Finds.{finds-le}
 use Rattle.base.specs.Front.{atFront, atFront-length, atFront-before, atFront-behind}
 use Rattle.base.specs.Refusal.{unless, unless-hit, unless-pass, unless-none, unless-other}
 use Rattle.sheet_spec.specs.declared.Sheet.{Sheet}
-use Rattle.sheet_spec.specs.Refusals.{sheetFault, BothAccepted, Own, NotOwn}
+use Rattle.sheet_spec.specs.Refusals.{sheetFault, BothAccepted, Agree, CodesDiffer, Own, NotOwn}
 use Rattle.sheet_spec.specs.Chains.{further, finally}
-use Rattle.sheet_spec.specs.PairFaults.{pair-reference, pair-device, pair-sheet, pair-11, pair-rest}
+use Rattle.sheet_spec.specs.CheckLaws.{own-other}
+use Rattle.sheet_spec.specs.PairFaults.{pair-reference, pair-device, pair-sheet, pair-11, pair-19, pair-rest}
 use Rattle.comparison_spec.specs.declared.Outcome.the-variants.{Denied}
 use Rattle.comparison_spec.specs.Comparison.{pairCount, workWords, nearest, nearestTrace, comparisonOf, compareFault, outcomeOf, traceAfter, workAfter}
 
@@ -23,67 +24,74 @@ module _ (P Q : Sheet) (work trace : List ℕ) where
   abbrev after12 : ℕ
   after12 = unless (leb (pairCount P Q - 1) (length trace)) 13 0
 
-  -- what is tested after the refusal 11
-  abbrev after11 : ℕ
-  after11 = unless (leb (workWords P Q) (length work)) 12 after12
+  -- what is tested after what the two sheets must share
+  abbrev afterShared : ℕ
+  afterShared = unless (leb (workWords P Q) (length work)) 12 after12
 
   -- the reference's own refusal comes first, then the device's
   pub compare-reference : sheetFault P ≢ 0 → compareFault P Q work trace ≡ sheetFault P
   unfolding compareFault
-  compare-reference = pair-reference P Q after11
+  compare-reference = pair-reference P Q afterShared
 
   pub compare-device : sheetFault P ≡ 0 → sheetFault Q ≢ 0 → compareFault P Q work trace ≡ sheetFault Q
   unfolding compareFault
-  compare-device = pair-device P Q after11
+  compare-device = pair-device P Q afterShared
 
   -- a sheet's own number is given exactly for that sheet, the reference before the device
   pub compare-sheet : (m : ℕ) → Own m → (compareFault P Q work trace ≡ m) ↔ ((sheetFault P ≡ m) ⊎ ((sheetFault P ≡ 0) × (sheetFault Q ≡ m)))
   unfolding compareFault
-  compare-sheet m (z, l) =
-      pair-sheet P Q after11 m (z, l)
-      (unless-other (leb (workWords P Q) (length work)) (λ p. omega arith) (unless-other (leb (pairCount P Q - 1) (length trace)) (λ p. omega arith) (λ p. omega arith)))
+  compare-sheet m o =
+      pair-sheet P Q afterShared m o
+      (unless-other (leb (workWords P Q) (length work)) (own-other o (omega arith, λ p. omega arith))
+      (unless-other (leb (pairCount P Q - 1) (length trace)) (own-other o (omega arith, λ p. omega arith)) (λ p. omega (arith, o .0))))
 
   -- 11: of sheets that are not refused, E differs
   pub compare-11 : (compareFault P Q work trace ≡ 11) ↔ (BothAccepted P Q × (P .e ≢ Q .e))
   unfolding compareFault
   compare-11 =
-      pair-11 P Q after11
+      pair-11 P Q afterShared
       (unless-other (leb (workWords P Q) (length work)) (λ p. omega arith) (unless-other (leb (pairCount P Q - 1) (length trace)) (λ p. omega arith) (λ p. omega arith)))
 
-  -- 12: of sheets that are not refused, E does not differ, and the work list is too short
-  pub compare-12 : (compareFault P Q work trace ≡ 12) ↔ ((BothAccepted P Q × (¬ (P .e ≢ Q .e))) × (length work < 2 * pairCount P Q))
+  -- 19: of sheets that are not refused and have one E, some event has another code
+  pub compare-19 : (compareFault P Q work trace ≡ 19) ↔ (BothAccepted P Q × ((P .e ≡ Q .e) × CodesDiffer P Q))
+  unfolding compareFault
+  compare-19 =
+      pair-19 P Q afterShared
+      (unless-other (leb (workWords P Q) (length work)) (λ p. omega arith) (unless-other (leb (pairCount P Q - 1) (length trace)) (λ p. omega arith) (λ p. omega arith)))
+
+  -- 12: of sheets that are not refused and agree, the work list is too short
+  pub compare-12 : (compareFault P Q work trace ≡ 12) ↔ ((BothAccepted P Q × Agree P Q) × (length work < 2 * pairCount P Q))
   unfolding compareFault
   compare-12 =
-      finally (pair-rest P Q after11 12 (inl (omega arith)) (λ p. omega arith))
+      finally (pair-rest P Q afterShared 12 (inl (omega arith, λ p. omega arith)) (λ p. omega arith) (λ p. omega arith))
       (λ f. unless-hit 12 after12 (finds-le (workWords P Q) (length work)) (unless-other (leb (pairCount P Q - 1) (length trace)) (λ p. omega arith) (λ p. omega arith)))
 
-  -- a number above 12, or none, comes from what is tested after 12, of sheets that may be paired and a work list that
-  -- is long enough
-  past-12 : (m : ℕ) → (12 < m) ⊎ (m ≡ 0) → (compareFault P Q work trace ≡ m) ↔ (((BothAccepted P Q × (¬ (P .e ≢ Q .e))) × (¬ (length work < workWords P Q))) × (after12 ≡ m))
+  -- 13, or none, comes from what is tested after 12, of sheets that may be paired and a work list that is long enough
+  past-12 : (m : ℕ) → (m ≡ 13) ⊎ (m ≡ 0) → (compareFault P Q work trace ≡ m) ↔ (((BothAccepted P Q × Agree P Q) × (¬ (length work < workWords P Q))) × (after12 ≡ m))
   unfolding compareFault
   past-12 m h =
-      further (pair-rest P Q after11 m (wide h) (not-it 11 (omega arith) (omega arith) h))
-      (λ f. unless-pass 12 after12 m (finds-le (workWords P Q) (length work)) (not-it 12 (omega arith) (omega arith) h))
+      further (pair-rest P Q afterShared m (wide h) (not-it 11 (λ p. omega arith) (λ p. omega arith) h) (not-it 19 (λ p. omega arith) (λ p. omega arith) h))
+      (λ f. unless-pass 12 after12 m (finds-le (workWords P Q) (length work)) (not-it 12 (λ p. omega arith) (λ p. omega arith) h))
     where
-      wide : (12 < m) ⊎ (m ≡ 0) → NotOwn m ⊎ (m ≡ 0)
-      wide (inl p) = inl (omega arith)
+      wide : (m ≡ 13) ⊎ (m ≡ 0) → NotOwn m ⊎ (m ≡ 0)
+      wide (inl p) = inl (omega arith, λ q. omega arith)
       wide (inr p) = inr p
 
-      not-it : (k : ℕ) → 0 < k → k ≤ 12 → (12 < m) ⊎ (m ≡ 0) → k ≢ m
-      not-it k z l (inl p) e = omega arith
-      not-it k z l (inr p) e = omega arith
+      not-it : (k : ℕ) → k ≢ 13 → k ≢ 0 → (m ≡ 13) ⊎ (m ≡ 0) → k ≢ m
+      not-it k a b (inl p) e = a (e ∙ p)
+      not-it k a b (inr p) e = b (e ∙ p)
 
-  -- 13: of sheets that are not refused, with one E, the work list is long enough and the trace list too short
-  pub compare-13 : (compareFault P Q work trace ≡ 13) ↔ (((BothAccepted P Q × (¬ (P .e ≢ Q .e))) × (¬ (length work < 2 * pairCount P Q))) × (length trace < pairCount P Q - 1))
-  compare-13 = finally (past-12 13 (inl (omega arith))) (λ f. unless-hit 13 0 (finds-le (pairCount P Q - 1) (length trace)) (λ p. omega arith))
+  -- 13: of sheets that are not refused and agree, the work list is long enough and the trace list too short
+  pub compare-13 : (compareFault P Q work trace ≡ 13) ↔ (((BothAccepted P Q × Agree P Q) × (¬ (length work < 2 * pairCount P Q))) × (length trace < pairCount P Q - 1))
+  compare-13 = finally (past-12 13 (inl refl)) (λ f. unless-hit 13 0 (finds-le (pairCount P Q - 1) (length trace)) (λ p. omega arith))
 
-  -- no refusal: of sheets that are not refused, with one E, both lists are long enough
-  pub compare-0 : (compareFault P Q work trace ≡ 0) ↔ (((BothAccepted P Q × (¬ (P .e ≢ Q .e))) × (¬ (length work < 2 * pairCount P Q))) × (¬ (length trace < pairCount P Q - 1)))
+  -- no refusal: of sheets that are not refused and agree, both lists are long enough
+  pub compare-0 : (compareFault P Q work trace ≡ 0) ↔ (((BothAccepted P Q × Agree P Q) × (¬ (length work < 2 * pairCount P Q))) × (¬ (length trace < pairCount P Q - 1)))
   compare-0 = finally (past-12 0 (inr refl)) (λ f. unless-none 13 (finds-le (pairCount P Q - 1) (length trace)) (λ p. omega arith))
 
-  -- two sheets that are not refused, with equal event counts and lists that are long enough, get no refusal
-  pub compare-fits : sheetFault P ≡ 0 → sheetFault Q ≡ 0 → P .e ≡ Q .e → 2 * pairCount P Q ≤ length work → pairCount P Q - 1 ≤ length trace → compareFault P Q work trace ≡ 0
-  compare-fits p q e w t = compare-0 .1 ((((p, q), λ n. n e), λ l. omega arith), λ l. omega arith)
+  -- two sheets that are not refused and agree, with lists that are long enough, get no refusal
+  pub compare-fits : sheetFault P ≡ 0 → sheetFault Q ≡ 0 → Agree P Q → 2 * pairCount P Q ≤ length work → pairCount P Q - 1 ≤ length trace → compareFault P Q work trace ≡ 0
+  compare-fits p q a w t = compare-0 .1 ((((p, q), a), λ l. omega arith), λ l. omega arith)
 
   module _ (traceOnly : Bool) where
     -- a refusal answers its number and alters nothing

@@ -69,8 +69,8 @@ comparisonOf traceOnly P Q =
     (named (nearest traceOnly P Q) (clearedOf traceOnly P Q) (P .e) (lastRow traceOnly P Q P) (lastRow traceOnly P Q Q))
     (Refines (clearedOf traceOnly P Q))
 
--- the refusal of a comparison: the reference's own, the device's own; 11: E differs; 12: a work list below 2 p q words;
--- 13: a trace list below p q - 1 bytes
+-- the refusal of a comparison: the reference's own, the device's own; 11: E differs; 19: a code differs; 12: a work
+-- list below 2 p q words; 13: a trace list below p q - 1 bytes
 unfoldable pub compareFault : Sheet → Sheet → List ℕ → List ℕ → ℕ
 compareFault P Q work trace =
     pairFault P Q

@@ -8,3 +8,4 @@ pub mod OutcomeLaws
 pub mod CallLaws
 pub mod AnswerLaws
 pub mod NumberLaws
+pub mod Recoded

@@ -6,7 +6,6 @@ use mathlib.Core.Bool.{Bool, true, false}
 use mathlib.Core.List.{List}
 use Prim.Native.Nat.{ℕ}
 use native.Mathlib.Omega.{arith}
-use native.Mathlib.Decide.{ℕ-discrete}
 use lib.Dec.{eqb}
 use borrow.Author.Tests.{eqb-true, eqb-false}
 use Rattle.base.specs.Truth.{dec}
@@ -38,11 +37,7 @@ module _ (traceOnly : Bool) (P Q : Sheet) (work trace : List ℕ) where
     oq = check-sound Q (compare-0 P Q work trace .0 z .0 .0 .0 .1)
 
     same : P .e ≡ Q .e
-    same = go (ℕ-discrete (P .e) (Q .e))
-      where
-        go : Dec (P .e ≡ Q .e) → P .e ≡ Q .e
-        go (yes e) = e
-        go (no n) = absurd (compare-0 P Q work trace .0 z .0 .0 .1 n)
+    same = compare-0 P Q work trace .0 z .0 .0 .1 .0
 
     -- the answer of a call that is not refused: it refines, or names a stray, or names a refusal
     abbrev Reason : Type 0

@@ -17,7 +17,7 @@ use Rattle.base.specs.Refusal.{unless, unless-hit, unless-pass, unless-none, un
 use Rattle.sheet_spec.specs.declared.Sheet.{Sheet}
 use Rattle.sheet_spec.specs.Kept.{row, acceptance, acceptances, mayStop}
 use Rattle.sheet_spec.specs.Refusals.{sheetFault, Own}
-use Rattle.sheet_spec.specs.CheckLaws.{check-other}
+use Rattle.sheet_spec.specs.CheckLaws.{check-other, own-other}
 use Rattle.sheet_spec.specs.RowLaws.{mayStop-means, acceptances-length, acceptances-at}
 use Rattle.sheet_spec.specs.Sound.{Sound}
 use Rattle.sheet_spec.specs.SoundLaws.{check-sound}
@@ -44,15 +44,16 @@ module _ (s : Sheet) (v : ℕ) (out : List ℕ) where
   -- the sheet's own number is given exactly for it
   pub list-own : (m : ℕ) → Own m → (listFault s v out ≡ m) ↔ (sheetFault s ≡ m)
   unfolding listFault
-  list-own m (z, l) =
-      orElse-first (sheetFault s) _ m (λ e. omega arith)
-      (unless-other (ltb v (s .n)) (λ e. omega arith) (unless-other (leb (length (nodeProbes s v)) (length out)) (λ e. omega arith) (λ e. omega arith)))
+  list-own m o =
+      orElse-first (sheetFault s) _ m (λ e. omega (arith, o .0))
+      (unless-other (ltb v (s .n)) (own-other o (omega arith, λ p. omega arith))
+      (unless-other (leb (length (nodeProbes s v)) (length out)) (own-other o (omega arith, λ p. omega arith)) (λ e. omega (arith, o .0))))
 
   -- 9: of a sheet that is not refused, a node that is not below N
   pub list-9 : (listFault s v out ≡ 9) ↔ ((sheetFault s ≡ 0) × (s .n ≤ v))
   unfolding listFault
   list-9 =
-      let a = orElse-then (sheetFault s) (unless (ltb v (s .n)) 9 (unless (leb (length (nodeProbes s v)) (length out)) 10 0)) 9 (inl (check-other s 9 (omega arith))) in
+      let a = orElse-then (sheetFault s) (unless (ltb v (s .n)) 9 (unless (leb (length (nodeProbes s v)) (length out)) 10 0)) 9 (inl (check-other s 9 (omega arith, λ p. omega arith))) in
       let b = unless-hit 9 (unless (leb (length (nodeProbes s v)) (length out)) 10 0) (finds-lt v (s .n)) (unless-other (leb (length (nodeProbes s v)) (length out)) (omega arith) (omega arith)) in
       ((λ x. (a .0 x .0, b .0 (a .0 x .1))), λ y. a .1 (y .0, b .1 (y .1)))
 
@@ -67,7 +68,7 @@ module _ (s : Sheet) (v : ℕ) (out : List ℕ) where
   pub list-10 : (listFault s v out ≡ 10) ↔ ((sheetFault s ≡ 0) × (v < s .n) × (length out < length (nodeProbes s v)))
   unfolding listFault
   list-10 =
-      let a = orElse-then (sheetFault s) (unless (ltb v (s .n)) 9 (unless (leb (length (nodeProbes s v)) (length out)) 10 0)) 10 (inl (check-other s 10 (omega arith))) in
+      let a = orElse-then (sheetFault s) (unless (ltb v (s .n)) 9 (unless (leb (length (nodeProbes s v)) (length out)) 10 0)) 10 (inl (check-other s 10 (omega arith, λ p. omega arith))) in
       let b = unless-pass 9 (unless (leb (length (nodeProbes s v)) (length out)) 10 0) 10 (finds-lt v (s .n)) (omega arith) in
       let c = unless-hit 10 0 (finds-le (length (nodeProbes s v)) (length out)) (omega arith) in
       ((λ x. let w = b .0 (a .0 x .1) in (a .0 x .0, not-beyond (w .0), c .0 (w .1))), λ y. a .1 (y .0, b .1 ((λ l. omega (arith, l, y .1)), c .1 (y .2))))

@@ -53,3 +53,7 @@ FirstCodes s = (i : ℕ) → i < s .e → code s i ≡ i + 1
 -- a sheet can be written in this version: any in version 2, one whose codes are 1 to E in version 1
 abbrev pub Writable : ℕ → Sheet → Type 0
 Writable version s = (version ≡ 2) ⊎ ((version ≡ 1) × FirstCodes s)
+
+-- these are the bytes of a sheet: in version 2, or in version 1 if its codes are 1 to E
+abbrev pub BytesOf : List ℕ → Sheet → Type 0
+BytesOf b s = (b ≡ encode 2 s) ⊎ ((b ≡ encode 1 s) × FirstCodes s)

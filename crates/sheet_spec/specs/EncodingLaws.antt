@@ -16,7 +16,7 @@ use Rattle.sheet_spec.specs.Kept.{code}
 use Rattle.sheet_spec.specs.Form.{Bytes, SheetForm}
 use Rattle.sheet_spec.specs.Reading.{answer, readSheet, accepted}
 use Rattle.sheet_spec.specs.Spelling.{word, lengthField, version, eventCount, nodeCount, nodesAt, sheetOf}
-use Rattle.sheet_spec.specs.Encoding.{four, encode, FirstCodes, Writable}
+use Rattle.sheet_spec.specs.Encoding.{four, encode, FirstCodes, Writable, BytesOf}
 use Rattle.sheet_spec.specs.Places.{accepts, code-at-1, code-at-2, accepted-length, accepted-first}
 use Rattle.sheet_spec.specs.Accepted.{read-accepted}
 use Rattle.sheet_spec.specs.Spelled as spelled
@@ -52,27 +52,31 @@ unfolding sheetOf
 version-2-codes b h v i l = code-at-2 b v i (omega (arith, l, accepts b h .ranged .e-high)) l
 
 -- accepted bytes are the bytes of the sheet that they spell in a version in which it can be written
-written : (b : List ℕ) → Bytes b → bytesFault b ≡ 0 → (b ≡ encode 2 (sheetOf b)) ⊎ ((b ≡ encode 1 (sheetOf b)) × FirstCodes (sheetOf b))
+written : (b : List ℕ) → Bytes b → bytesFault b ≡ 0 → BytesOf b (sheetOf b)
 written b y h = go (accepts b h .headed .version-is)
   where
-    go : (version b ≡ 1) ⊎ (version b ≡ 2) → (b ≡ encode 2 (sheetOf b)) ⊎ ((b ≡ encode 1 (sheetOf b)) × FirstCodes (sheetOf b))
+    go : (version b ≡ 1) ⊎ (version b ≡ 2) → BytesOf b (sheetOf b)
     go (inl v) = inr (sym (ap (λ (x : ℕ). encode x (sheetOf b)) (sym v) ∙ encode-sheetOf b y h), version-1-codes b h v)
     go (inr v) = inl (sym (ap (λ (x : ℕ). encode x (sheetOf b)) (sym v) ∙ encode-sheetOf b y h))
+
+-- the bytes of an accepted sheet are read as it
+pub reads-as : (b : List ℕ) (s : Sheet) → BytesOf b s → SheetForm s → sheetFault s ≡ 0 → readSheet b ≡ accepted s
+reads-as b s (inl e) o h = rw e (read-back 2 s (inl refl) o h)
+reads-as b s (inr (e, f)) o h = rw e (read-back 1 s (inr (refl, f)) o h)
 
 -- bytes are read as a sheet exactly if it is not refused and they are its bytes in version 2, or in version 1 if its
 -- codes are 1 to E
 pub read-encode : (s : Sheet) → SheetForm s → (b : List ℕ) → Bytes b
-    → (readSheet b ≡ accepted s) ↔ ((sheetFault s ≡ 0) × ((b ≡ encode 2 s) ⊎ ((b ≡ encode 1 s) × FirstCodes s)))
+    → (readSheet b ≡ accepted s) ↔ ((sheetFault s ≡ 0) × BytesOf b s)
 read-encode s o b y = (to, from)
   where
-    to : readSheet b ≡ accepted s → (sheetFault s ≡ 0) × ((b ≡ encode 2 s) ⊎ ((b ≡ encode 1 s) × FirstCodes s))
+    to : readSheet b ≡ accepted s → (sheetFault s ≡ 0) × BytesOf b s
     to h =
         let r = reads→ b s h in
         (rw (r .1) at (read-accepted b (r .0)), rw (r .1) at (written b y (r .0)))
 
-    from : (sheetFault s ≡ 0) × ((b ≡ encode 2 s) ⊎ ((b ≡ encode 1 s) × FirstCodes s)) → readSheet b ≡ accepted s
-    from (h, inl e) = rw e (read-back 2 s (inl refl) o h)
-    from (h, inr (e, f)) = rw e (read-back 1 s (inr (refl, f)) o h)
+    from : (sheetFault s ≡ 0) × BytesOf b s → readSheet b ≡ accepted s
+    from (h, w) = reads-as b s w o h
 
 -- the length field of any bytes is the number that their first four write, the highest first, however many there are
 pub length-spelled : (b : List ℕ) → Bytes b → 7 ≤ length b → four (lengthField b) ++ drop 4 b ≡ b
@@ -89,15 +93,14 @@ sheetOf-form = formed.sheetOf-form
 -- bytes are accepted exactly if they are the bytes, in version 2 or as far as its codes are 1 to E in version 1, of a
 -- sheet of the machine's form that is not refused
 pub accepted-exactly : (b : List ℕ) → Bytes b
-    → (bytesFault b ≡ 0) ↔ ((s : Sheet) × SheetForm s × (sheetFault s ≡ 0) × ((b ≡ encode 2 s) ⊎ ((b ≡ encode 1 s) × FirstCodes s)))
+    → (bytesFault b ≡ 0) ↔ ((s : Sheet) × SheetForm s × (sheetFault s ≡ 0) × BytesOf b s)
 accepted-exactly b y = (to, from)
   where
-    to : bytesFault b ≡ 0 → (s : Sheet) × SheetForm s × (sheetFault s ≡ 0) × ((b ≡ encode 2 s) ⊎ ((b ≡ encode 1 s) × FirstCodes s))
+    to : bytesFault b ≡ 0 → (s : Sheet) × SheetForm s × (sheetFault s ≡ 0) × BytesOf b s
     to h = (sheetOf b, sheetOf-form b y, read-accepted b h, written b y h)
 
-    from : (s : Sheet) × SheetForm s × (sheetFault s ≡ 0) × ((b ≡ encode 2 s) ⊎ ((b ≡ encode 1 s) × FirstCodes s)) → bytesFault b ≡ 0
-    from (s, o, h, inl e) = rw e (encode-accepted 2 s (inl refl) o h)
-    from (s, o, h, inr (e, f)) = rw e (encode-accepted 1 s (inr (refl, f)) o h)
+    from : (s : Sheet) × SheetForm s × (sheetFault s ≡ 0) × BytesOf b s → bytesFault b ≡ 0
+    from (s, o, h, w) = reads→ b s (reads-as b s w o h) .0
 
 -- an accepted sheet has at most 1,471 bytes, in version 1 at most 1,447
 pub encode-length : (v : ℕ) (s : Sheet) → Writable v s → SheetForm s → sheetFault s ≡ 0 → length (encode v s) ≤ 1471
@@ -105,6 +108,9 @@ encode-length v s w o h = accepted-length (encode v s) (encode-accepted v s w o 
 
 pub first-length : (s : Sheet) → FirstCodes s → SheetForm s → sheetFault s ≡ 0 → length (encode 1 s) ≤ 1447
 first-length s f o h = accepted-first (encode 1 s) (encode-accepted 1 s (inr (refl, f)) o h) (λ p. omega (arith, version-written 1 s))
+
+pub bytes-length : (b : List ℕ) (s : Sheet) → BytesOf b s → SheetForm s → sheetFault s ≡ 0 → length b ≤ 1471
+bytes-length b s w o h = accepted-length b (reads→ b s (reads-as b s w o h) .0)
 
 -- what an accepted sheet is written as is bytes
 pub encode-bytes : (v : ℕ) (s : Sheet) → Writable v s → SheetForm s → sheetFault s ≡ 0 → Bytes (encode v s)

@@ -6,4 +6,5 @@ pub mod Offers
 pub mod RunLaws
 pub mod RunRecords
 pub mod NumberLaws
+pub mod Recoded
 pub mod Cases

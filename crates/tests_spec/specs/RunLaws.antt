@@ -16,7 +16,7 @@ use Rattle.sheet_spec.specs.declared.Sheet.{Sheet}
 use Rattle.sheet_spec.specs.Kept.{row, initials, Initial, mayStop}
 use Rattle.sheet_spec.specs.Refusals.{sheetFault, Own, NotOwn}
 use Rattle.sheet_spec.specs.RuleLaws.{initials→, initials←}
-use Rattle.sheet_spec.specs.CheckLaws.{check-other}
+use Rattle.sheet_spec.specs.CheckLaws.{check-other, own-other}
 use Rattle.sheet_spec.specs.Chains.{further, finally}
 use Rattle.sheet_spec.specs.SoundLaws.{check-sound}
 use Rattle.tests_spec.specs.declared.Run.{Run}
@@ -35,14 +35,15 @@ module _ (s : Sheet) (k : ℕ) where
   -- a sheet that is refused is refused with its own number
   pub open-sheet : (m : ℕ) → Own m → (openFault s k ≡ m) ↔ (sheetFault s ≡ m)
   unfolding openFault
-  open-sheet m (z, l) =
-      orElse-first (sheetFault s) (unless (leb k 1023) 14 0) m (λ e. omega arith) (unless-other (leb k 1023) (λ e. omega arith) (λ e. omega arith))
+  open-sheet m o =
+      orElse-first (sheetFault s) (unless (leb k 1023) 14 0) m (λ e. omega (arith, o .0))
+      (unless-other (leb k 1023) (own-other o (omega arith, λ p. omega arith)) (λ e. omega (arith, o .0)))
 
   -- 14: an opening with k above 1,023
   pub open-14 : (openFault s k ≡ 14) ↔ ((sheetFault s ≡ 0) × (1023 < k))
   unfolding openFault
   open-14 =
-      finally (orElse-then (sheetFault s) (unless (leb k 1023) 14 0) 14 (inl (check-other s 14 (omega arith))))
+      finally (orElse-then (sheetFault s) (unless (leb k 1023) 14 0) 14 (inl (check-other s 14 (omega arith, λ p. omega arith))))
       (λ h. unless-hit 14 0 (finds-le k 1023) (λ e. omega arith))
 
   -- no refusal of an opening: the sheet is accepted and k is not above 1,023
@@ -136,16 +137,17 @@ module _ (s : Sheet) (r : Run) (x : Report) where
   -- a sheet that is refused is refused with its own number
   pub report-sheet : (m : ℕ) → Own m → (reportFault s r x ≡ m) ↔ (sheetFault s ≡ m)
   unfolding reportFault
-  report-sheet m (z, l) =
-      orElse-first (sheetFault s) _ m (λ e. omega arith)
-      (unless-other (not (flag (r .ended))) (λ e. omega arith)
-      (unless-other (recordOk s r) (λ e. omega arith) (event-numbers s r x m (λ e. omega arith) (λ e. omega arith) (λ e. omega arith))))
+  report-sheet m o =
+      orElse-first (sheetFault s) _ m (λ e. omega (arith, o .0))
+      (unless-other (not (flag (r .ended))) (own-other o (omega arith, λ p. omega arith))
+      (unless-other (recordOk s r) (own-other o (omega arith, λ p. omega arith))
+      (event-numbers s r x m (λ e. omega (arith, o .0)) (λ e. own-other o (omega arith, λ p. omega arith) (sym e)) (λ e. own-other o (omega arith, λ p. omega arith) (sym e)))))
 
   -- 16: a report on a run that has ended
   pub report-16 : (reportFault s r x ≡ 16) ↔ ((sheetFault s ≡ 0) × (flag (r .ended) ≡ true))
   unfolding after-sheet
   report-16 =
-      finally (pass-sheet 16 (inl (omega arith)))
+      finally (pass-sheet 16 (inl (omega arith, λ p. omega arith)))
       (λ h. unless-hit 16 _ (ended-finds (flag (r .ended)))
       (unless-other (recordOk s r) (λ e. omega arith) (event-numbers s r x 16 (λ e. omega arith) (λ e. omega arith) (λ e. omega arith))))
 
@@ -153,18 +155,18 @@ module _ (s : Sheet) (r : Run) (x : Report) where
   pub report-9 : (reportFault s r x ≡ 9) ↔ (Shown s r × WrongRecord s r)
   unfolding after16
   report-9 =
-      finally (pass-16 9 (inl (omega arith)) (λ e. omega arith))
+      finally (pass-16 9 (inl (omega arith, λ p. omega arith)) (λ e. omega arith))
       (λ h. unless-hit 9 _ (record-finds s r) (event-numbers s r x 9 (λ e. omega arith) (λ e. omega arith) (λ e. omega arith)))
 
   -- 15: a report of an event that the sheet has not
   pub report-15 : (reportFault s r x ≡ 15) ↔ (Fitting s r × Beyond s x)
   unfolding after9
-  report-15 = finally (pass-9 15 (inl (omega arith)) (λ e. omega arith) (λ e. omega arith)) (λ h. event-15 s r x)
+  report-15 = finally (pass-9 15 (inl (omega arith, λ p. omega arith)) (λ e. omega arith) (λ e. omega arith)) (λ h. event-15 s r x)
 
   -- 17: a report of an event that is not offered
   pub report-17 : (reportFault s r x ≡ 17) ↔ ((Fitting s r × (¬ Beyond s x)) × NotOffered s r x)
   unfolding after9
-  report-17 = further (pass-9 17 (inl (omega arith)) (λ e. omega arith) (λ e. omega arith)) (λ h. event-17 s r x)
+  report-17 = further (pass-9 17 (inl (omega arith, λ p. omega arith)) (λ e. omega arith) (λ e. omega arith)) (λ h. event-17 s r x)
 
   -- no refusal of a report: the record fits the sheet, which is accepted, and the event is one of the sheet's and
   -- offered

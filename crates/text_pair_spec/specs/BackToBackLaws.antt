@@ -1,6 +1,6 @@
 -- Nothing to believe: laws. An input is two accepted sheets back to back exactly if both of its parts are read without
 -- refusal, and its text is then their two lines and the findings. The cut at 4,096 bytes plays no part there: two
--- accepted sheets have at most 2,894.
+-- accepted sheets have at most 2,942.
 use mathlib.Core.Path.{_≡_, sym, ap, _∙_}
 use mathlib.Core.Logic.{_⊎_, inl, inr, _≢_, _↔_}
 use mathlib.Core.List.{List, _++_}
@@ -13,9 +13,9 @@ use Rattle.sheet_spec.specs.declared.Sheet.{Sheet}
 use Rattle.sheet_spec.specs.declared.ReadSheet.{ReadSheet}
 use Rattle.sheet_spec.specs.Form.{Bytes}
 use Rattle.sheet_spec.specs.Reading.{readSheet, accepted}
-use Rattle.sheet_spec.specs.Encoding.{encode}
+use Rattle.sheet_spec.specs.Encoding.{BytesOf}
 use Rattle.sheet_spec.specs.AnswerLaws.{read-refusal}
-use Rattle.sheet_spec.specs.EncodingLaws.{reads→, read-back, accepted-exactly, encode-length}
+use Rattle.sheet_spec.specs.EncodingLaws.{reads→, reads-as, accepted-exactly, bytes-length}
 use Rattle.text_spec.specs.Lines.{ascii, numberLine, sheetLine}
 use Rattle.text_spec.specs.Input.{cutInput}
 use Rattle.text_spec.specs.InputLaws.{cut-short}
@@ -54,19 +54,15 @@ cut-all : (input : List ℕ) → length (cutInput input) < 4096 → length input
 unfolding cutInput
 cut-all input l = omega (arith, length-take 4096 input)
 
--- two accepted sheets have at most 2,894 bytes
-pub two-length : (P Q : Sheet) → AcceptedSheet P → AcceptedSheet Q → length (encode P ++ encode Q) ≤ 2894
-two-length P Q a b = omega (arith, length-append (encode P) (encode Q), encode-length P (a .0) (a .1), encode-length Q (b .0) (b .1))
+-- two accepted sheets have at most 2,942 bytes
+pub two-length : (a b : List ℕ) (P Q : Sheet) → BytesOf a P → BytesOf b Q → AcceptedSheet P → AcceptedSheet Q → length (a ++ b) ≤ 2942
+two-length a b P Q v w p q = omega (arith, length-append a b, bytes-length a P v (p .0) (p .1), bytes-length b Q w (q .0) (q .1))
 
 -- bytes that are read without refusal are those of an accepted sheet
-spelled : (b : List ℕ) → Bytes b → readSheet b .refusal ≡ 0 → (s : Sheet) × AcceptedSheet s × (b ≡ encode s)
+spelled : (b : List ℕ) → Bytes b → readSheet b .refusal ≡ 0 → (s : Sheet) × AcceptedSheet s × BytesOf b s
 spelled b y h =
     let x = accepted-exactly b y .0 (sym (read-refusal b) ∙ h) in
-    (x .0, (x .1, x .3), x .2)
-
--- the bytes of an accepted sheet are read as it
-reads-as : (s : Sheet) → AcceptedSheet s → readSheet (encode s) ≡ accepted s
-reads-as s a = read-back s (a .0) (a .1)
+    (x .0, (x .1, x .2), x .3)
 
 -- the parts of an answer that accepts
 refusal-of : {a : ReadSheet} {s : Sheet} → a ≡ accepted s → a .refusal ≡ 0
@@ -79,8 +75,10 @@ module _ (input : List ℕ) where
   -- an input that begins with an accepted sheet has it as its reference, and the rest is read as its device
   pub begins-read : (P : Sheet) (rest : List ℕ) → Begins input P rest → (reference input ≡ accepted P) × (device input ≡ readSheet rest)
   begins-read P rest b =
-      let s = split-accepted (encode P) rest (reads→ (encode P) P (reads-as P (b .reference-accepted)) .0) in
-      (rw (b .bytes, s .0) (reads-as P (b .reference-accepted)), rw (b .bytes, s .1))
+      let a = b .reference-accepted in
+      let x = reads-as (b .first) P (b .first-bytes) (a .0) (a .1) in
+      let s = split-accepted (b .first) rest (reads→ (b .first) P x .0) in
+      (rw (b .bytes, s .0) x, rw (b .bytes, s .1))
 
   -- the reference is accepted exactly if the bytes that count begin with an accepted sheet
   pub reference-accepted : Bytes input → (reference input .refusal ≡ 0) ↔ ((P : Sheet) × (rest : List ℕ) × Begins input P rest)
@@ -89,21 +87,30 @@ module _ (input : List ℕ) where
       to : reference input .refusal ≡ 0 → (P : Sheet) × (rest : List ℕ) × Begins input P rest
       to h =
           let x = spelled (firstSheet (cutInput input)) (first-bytes input y) h in
-          (x .0, secondSheet (cutInput input), record { reference-accepted = x .1; bytes = rw (← x .2) (sym (split-whole (cutInput input))) })
+          (x .0, secondSheet (cutInput input), record { reference-accepted = x .1; first = firstSheet (cutInput input); first-bytes = x .2; bytes = sym (split-whole (cutInput input)) })
 
       from : (P : Sheet) × (rest : List ℕ) × Begins input P rest → reference input .refusal ≡ 0
       from (P, rest, b) = refusal-of (begins-read P rest b .0)
 
   -- two accepted sheets back to back are not cut
   pub pair-uncut : (P Q : Sheet) → BackToBack input P Q → cutInput input ≡ input
-  pair-uncut P Q b = cut-short input (omega (arith, ap length (b .bytes), two-length P Q (b .reference-accepted) (b .device-accepted)))
+  pair-uncut P Q b =
+      cut-short input (omega (arith, ap length (b .bytes), two-length (b .first) (b .second) P Q (b .first-bytes) (b .second-bytes) (b .reference-accepted) (b .device-accepted)))
 
   -- if what counts of an input is two accepted sheets, then the input has no other byte
   pub cut-pair : (P Q : Sheet) → BackToBack (cutInput input) P Q → BackToBack input P Q
-  cut-pair P Q b = record { reference-accepted = b .reference-accepted; device-accepted = b .device-accepted; bytes = sym whole ∙ b .bytes }
+  cut-pair P Q b = record {
+    reference-accepted = b .reference-accepted;
+    device-accepted = b .device-accepted;
+    first = b .first;
+    first-bytes = b .first-bytes;
+    second = b .second;
+    second-bytes = b .second-bytes;
+    bytes = sym whole ∙ b .bytes;
+  }
     where
       few : length (cutInput input) < 4096
-      few = omega (arith, ap length (b .bytes), two-length P Q (b .reference-accepted) (b .device-accepted))
+      few = omega (arith, ap length (b .bytes), two-length (b .first) (b .second) P Q (b .first-bytes) (b .second-bytes) (b .reference-accepted) (b .device-accepted))
 
       whole : cutInput input ≡ input
       whole = cut-short input (omega (arith, few, cut-all input few))
@@ -111,8 +118,8 @@ module _ (input : List ℕ) where
   -- the two sheets of an input that is two accepted sheets are read as these
   pub pair-read : (P Q : Sheet) → BackToBack input P Q → (reference input ≡ accepted P) × (device input ≡ accepted Q)
   pair-read P Q b =
-      let r = begins-read P (encode Q) (record { reference-accepted = b .reference-accepted; bytes = pair-uncut P Q b ∙ b .bytes }) in
-      (r .0, r .1 ∙ reads-as Q (b .device-accepted))
+      let r = begins-read P (b .second) (record { reference-accepted = b .reference-accepted; first = b .first; first-bytes = b .first-bytes; bytes = pair-uncut P Q b ∙ b .bytes }) in
+      (r .0, r .1 ∙ reads-as (b .second) Q (b .second-bytes) (b .device-accepted .0) (b .device-accepted .1))
 
   -- an input is two accepted sheets back to back, and no other byte, exactly if both of its parts are read without
   -- refusal
@@ -122,8 +129,20 @@ module _ (input : List ℕ) where
       to : (reference input .refusal ≡ 0) × (device input .refusal ≡ 0) → (P : Sheet) × (Q : Sheet) × BackToBack input P Q
       to (h, k) =
           let p = spelled (firstSheet (cutInput input)) (first-bytes input y) h in
-          let q = spelled (secondSheet (cutInput input)) (second-bytes input y) k in
-          (p .0, q .0, cut-pair (p .0) (q .0) (record { reference-accepted = p .1; device-accepted = q .1; bytes = rw (← p .2, ← q .2) (sym (split-whole (cutInput input))) }))
+          let q = spelled (secondSheet (cutInput input)) (second-bytes input y) k in (
+            p .0,
+            q .0,
+            cut-pair (p .0) (q .0)
+                (record {
+                  reference-accepted = p .1;
+                  device-accepted = q .1;
+                  first = firstSheet (cutInput input);
+                  first-bytes = p .2;
+                  second = secondSheet (cutInput input);
+                  second-bytes = q .2;
+                  bytes = sym (split-whole (cutInput input));
+                }),
+          )
 
       from : (P : Sheet) × (Q : Sheet) × BackToBack input P Q → (reference input .refusal ≡ 0) × (device input .refusal ≡ 0)
       from (P, Q, b) = let r = pair-read P Q b in (refusal-of (r .0), refusal-of (r .1))

@@ -8,10 +8,10 @@ use Rattle.events.specs.Bit.{bit, setOf}
 use Rattle.events.specs.Sets.{has, inside}
 use Rattle.walks.specs.Reach.{nearer, leads}
 use Rattle.sheet_spec.specs.Kept.{successor, acceptance, initials, step}
-use Rattle.sheet_spec.specs.Rules.{rangesOk, countOk, successorOk, rowSuccessorsOk, successorsOk, ascends, noneInside, setOk, rowSetsOk, setsOk, reachedOk}
+use Rattle.sheet_spec.specs.Rules.{rangesOk, countOk, successorOk, rowSuccessorsOk, successorsOk, ascends, noneInside, setOk, rowSetsOk, setsOk, reachedOk, codeNew, codesOk}
 use Rattle.sheet_spec.specs.Reading.{answer, readSheet}
-use Rattle.sheet_spec.specs.Spelling.{lengthField, nextAt, startOf, succOf, setsOf, rowAt, rowOf, sheetOf}
-use Rattle.sheet_spec.specs.Refusals.{headFault, layoutFault, graphFault, bytesFault}
+use Rattle.sheet_spec.specs.Spelling.{lengthField, nextAt, startOf, succOf, setsOf, rowAt, rowOf, sheetOf, codeOf, nodesAt}
+use Rattle.sheet_spec.specs.Refusals.{headFault, layoutFault, graphFault, bytesFault, codesFault}
 use Rattle.sheet_spec.specs.Examples.{exampleReference, exampleDevice}
 use Rattle.text_spec.specs.Lines.{ascii, decimalIn, decimal, numberLine, sheetLine}
 use Rattle.text_spec.specs.Input.{cutInput}
@@ -36,5 +36,5 @@ texts =
 
 -- one equation has the texts of all inputs
 pub texts-hold : map (pairText nodeCounts) inputs ≡ texts
-unfolding inputs texts nodeCounts exampleReference exampleDevice pairText cutInput inputLines firstSheet secondSheet firstEnd lengthField sheetsLines deviceLines numberLine sheetLine decimal decimalIn readSheet answer bytesFault headFault layoutFault nextAt startOf succOf setsOf rowAt rowOf sheetOf graphFault rangesOk countOk successorOk rowSuccessorsOk successorsOk ascends noneInside setOk rowSetsOk setsOk reachedOk successor acceptance initials step bit setOf has inside nearer leads all any upTo
+unfolding inputs texts nodeCounts exampleReference exampleDevice pairText cutInput inputLines firstSheet secondSheet firstEnd lengthField sheetsLines deviceLines numberLine sheetLine decimal decimalIn readSheet answer bytesFault headFault layoutFault nextAt startOf succOf setsOf rowAt rowOf sheetOf graphFault rangesOk countOk successorOk rowSuccessorsOk successorsOk ascends noneInside setOk rowSetsOk setsOk reachedOk successor acceptance initials step bit setOf has inside nearer leads all any upTo codesFault nodesAt codeOf codesOk codeNew
 texts-hold = refl

@@ -55,8 +55,8 @@ line-length who b h =
     sheet-length who (readSheet b .sheet .n) (readSheet b .sheet .e) (omega (arith, s .n-high)) (omega (arith, s .e-high))
 
 -- the length of the line of a refused sheet
-refused-length : (who b : List ℕ) → length (numberLine who (readSheet b .refusal)) ≤ length who + 2
-refused-length who b = omega (arith, number-length who 0 (readSheet b .refusal) (omega (arith, read-refusal b, read-numbers b)))
+refused-length : (who b : List ℕ) → length (numberLine who (readSheet b .refusal)) ≤ length who + 3
+refused-length who b = omega (arith, number-length who 1 (readSheet b .refusal) (omega (arith, read-refusal b, read-numbers b)))
 
 -- findings that have at most m bytes after every two accepted sheets
 module _ (findings : Findings) (m : ℕ) (few : (P Q : Sheet) → sheetFault P ≡ 0 → sheetFault Q ≡ 0 → length (findings P Q) ≤ m) where

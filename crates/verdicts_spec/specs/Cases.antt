@@ -11,10 +11,10 @@ use Rattle.events.specs.Bit.{bit, setOf}
 use Rattle.events.specs.Sets.{has, inside, meets}
 use Rattle.walks.specs.Reach.{nearer, leads}
 use Rattle.sheet_spec.specs.Kept.{successor, acceptance, acceptances, initials, mayStop, step}
-use Rattle.sheet_spec.specs.Rules.{rangesOk, countOk, countsOk, successorsOk, rowSuccessorsOk, successorOk, setsOk, rowSetsOk, setOk, ascends, noneInside, blank, unusedOk, blanksOk, reachedOk}
-use Rattle.sheet_spec.specs.Refusals.{headFault, layoutFault, graphFault, bytesFault, sheetFault}
+use Rattle.sheet_spec.specs.Rules.{rangesOk, countOk, countsOk, successorsOk, rowSuccessorsOk, successorOk, setsOk, rowSetsOk, setOk, ascends, noneInside, blank, unusedOk, blanksOk, reachedOk, codeNew, codesAgree, codesBlank, codesOk}
+use Rattle.sheet_spec.specs.Refusals.{headFault, layoutFault, graphFault, bytesFault, sheetFault, codesFault, sharedFault}
 use Rattle.sheet_spec.specs.Reading.{readSheet, answer}
-use Rattle.sheet_spec.specs.Spelling.{lengthField, nextAt, startOf, succOf, setsOf, rowAt, rowOf, sheetOf}
+use Rattle.sheet_spec.specs.Spelling.{lengthField, nextAt, startOf, succOf, setsOf, rowAt, rowOf, sheetOf, codeOf, nodesAt}
 use Rattle.sheet_spec.specs.Examples.{exampleReference, exampleDevice, stopped, sheet}
 use Rattle.refinement_spec.specs.ViolatingPairs.{strays, hasStray, covers, hasRefusal, violates, violating}
 use Rattle.verdicts_spec.specs.Verdicts.{failsFrom, verdictFault, verdictOf}
@@ -35,5 +35,5 @@ pub example-suite :
     × (suiteNumbers false exampleReference 5 ≡ 0 ∷ 4 ∷ 11 ∷ 11 ∷ 11 ∷ 11 ∷ 9 ∷ [])
     × (suiteNumbers false exampleDevice 5 ≡ 10 ∷ 0 ∷ 9 ∷ 9 ∷ 9 ∷ 9 ∷ 9 ∷ [])
     × (suiteNumbers false stopped 1 ≡ 11 ∷ 0 ∷ 9 ∷ [])
-unfolding suiteNumbers testCount verdictNumber suiteFault suiteOf verdictsAfter suited sheet exampleReference exampleDevice stopped readSheet answer bytesFault headFault lengthField layoutFault nextAt startOf succOf setsOf rowAt rowOf sheetOf graphFault rangesOk countOk countsOk successorsOk rowSuccessorsOk successorOk setsOk rowSetsOk setOk ascends noneInside blank unusedOk blanksOk reachedOk sheetFault successor acceptance acceptances initials mayStop step bit has inside meets setOf nearer leads all any upTo strays hasStray covers hasRefusal violates violating failsFrom verdictFault verdictOf judged
+unfolding suiteNumbers testCount verdictNumber suiteFault suiteOf verdictsAfter suited sheet exampleReference exampleDevice stopped readSheet answer bytesFault headFault lengthField layoutFault nextAt startOf succOf setsOf rowAt rowOf sheetOf graphFault rangesOk countOk countsOk successorsOk rowSuccessorsOk successorOk setsOk rowSetsOk setOk ascends noneInside blank unusedOk blanksOk reachedOk sheetFault successor acceptance acceptances initials mayStop step bit has inside meets setOf nearer leads all any upTo strays hasStray covers hasRefusal violates violating failsFrom verdictFault verdictOf judged codesFault nodesAt codeOf codesOk codeNew codesBlank sharedFault codesAgree
 example-suite = (refl, refl, refl, refl, refl, refl)

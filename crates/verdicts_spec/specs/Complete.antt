@@ -8,7 +8,7 @@ use Prim.Native.Nat.{ℕ, _≤_, _<_}
 use native.Mathlib.Omega.{arith}
 use lib.ListN.{length, getD}
 use Rattle.sheet_spec.specs.declared.Sheet.{Sheet}
-use Rattle.sheet_spec.specs.Refusals.{sheetFault}
+use Rattle.sheet_spec.specs.Refusals.{sheetFault, Agree}
 use Rattle.sheet_spec.specs.SoundLaws.{nodes-most, check-sound}
 use Rattle.refinement_spec.specs.Refinement.{RefinesIn}
 use Rattle.verdicts_spec.specs.declared.Verdict.{Verdict}
@@ -39,7 +39,7 @@ number-fails v = (forth v, λ e. ap (λ (w : Verdict). judged w .kind) e)
     forth Fails e = refl
     forth (NoVerdict m) e = absurd (omega arith)
 
-module _ (P Q : Sheet) (accP : sheetFault P ≡ 0) (accQ : sheetFault Q ≡ 0) (same : P .e ≡ Q .e) where
+module _ (P Q : Sheet) (accP : sheetFault P ≡ 0) (accQ : sheetFault Q ≡ 0) (agree : Agree P Q) where
   -- there are at most 1,024 tests, so every test has a number that a test may have
   pub tests-few : testCount P Q ≤ 1024
   unfolding testCount
@@ -47,15 +47,15 @@ module _ (P Q : Sheet) (accP : sheetFault P ≡ 0) (accQ : sheetFault Q ≡ 0) (
 
   -- 14, or any other refusal, is never given for a test of the suite
   pub none-refused : (k : ℕ) → k < testCount P Q → verdictFault P Q k ≡ 0
-  none-refused k l = verdict-0 P Q k .1 (((accP, accQ), λ n. n same), λ h. omega (arith, h, tests-few))
+  none-refused k l = verdict-0 P Q k .1 (((accP, accQ), agree), λ h. omega (arith, h, tests-few))
 
   pub none-denied : (traceOnly : Bool) (k : ℕ) → k < testCount P Q → (m : ℕ) → verdictOf traceOnly P Q k ≢ NoVerdict m
-  none-denied traceOnly k l = verdict-undenied P Q accP accQ same traceOnly k (omega (arith, tests-few))
+  none-denied traceOnly k l = verdict-undenied P Q accP accQ agree traceOnly k (omega (arith, tests-few))
 
   module _ (out : List ℕ) (room : testCount P Q ≤ length out) (traceOnly : Bool) where
     at : (k : ℕ) → k < testCount P Q → getD (verdictsAfter traceOnly P Q out) k 0 ≡ judged (verdictOf traceOnly P Q k) .kind
     unfolding verdictNumber
-    at = verdict-place P Q out (suite-fits P Q out accP accQ same room) traceOnly
+    at = verdict-place P Q out (suite-fits P Q out accP accQ agree room) traceOnly
 
     -- place k holds 11 exactly if the verdict on test k is "passes", and 12 exactly if it is "fails"
     pub place-passes : (k : ℕ) → k < testCount P Q → (getD (verdictsAfter traceOnly P Q out) k 0 ≡ passesNumber) ↔ (verdictOf traceOnly P Q k ≡ Passes)
@@ -78,12 +78,12 @@ module _ (P Q : Sheet) (accP : sheetFault P ≡ 0) (accQ : sheetFault Q ≡ 0) (
     pub place-means : (k : ℕ) → k < testCount P Q → (getD (verdictsAfter traceOnly P Q out) k 0 ≡ failsNumber) ↔ FailsTest traceOnly P Q k
     place-means k l =
         let v = place-fails k l in
-        let w = verdict-means P Q accP accQ same traceOnly k (omega (arith, tests-few)) in
+        let w = verdict-means P Q accP accQ agree traceOnly k (omega (arith, tests-few)) in
         (λ e. w .0 (v .0 e), λ f. v .1 (w .1 f))
 
     -- all places below p q hold 11 exactly if the device refines the reference
     pub suite-complete : ((k : ℕ) → k < testCount P Q → getD (verdictsAfter traceOnly P Q out) k 0 ≡ passesNumber) ↔ RefinesIn traceOnly P Q
     unfolding testCount
     suite-complete =
-        let w = verdicts-complete P Q accP accQ same traceOnly in
+        let w = verdicts-complete P Q accP accQ agree traceOnly in
         (λ f. w .0 (λ k l. place-passes k l .0 (f k l)), λ r k l. place-passes k l .1 (w .1 r k l))

@@ -9,5 +9,6 @@ pub mod NumberLaws
 pub mod TestLaws
 pub mod SuiteLaws
 pub mod Complete
+pub mod Recoded
 pub mod Reported
 pub mod Cases

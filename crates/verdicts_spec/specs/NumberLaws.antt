@@ -4,7 +4,7 @@ use mathlib.Core.Logic.{_⊎_, inl, inr, _≢_, _↔_}
 use mathlib.Core.Bool.{Bool, true, false}
 use Prim.Native.Nat.{ℕ, _≤_}
 use native.Mathlib.Omega.{arith}
-use native.Mathlib.Decide.{ℕ-discrete}
+use Rattle.sheet_spec.specs.Refusals.{Agree}
 use lib.Dec.{eqb}
 use borrow.Author.Tests.{eqb-true, eqb-false}
 use Rattle.base.specs.Truth.{dec, clash}
@@ -20,12 +20,8 @@ module _ (traceOnly : Bool) (P Q : Sheet) (k : ℕ) where
   denied-judged n = rw (verdict-denied P Q k traceOnly n)
 
   module _ (z : verdictFault P Q k ≡ 0) where
-    same : P .e ≡ Q .e
-    same = go (ℕ-discrete (P .e) (Q .e))
-      where
-        go : Dec (P .e ≡ Q .e) → P .e ≡ Q .e
-        go (yes e) = e
-        go (no n) = absurd (verdict-0 P Q k .0 z .0 .1 n)
+    agree : Agree P Q
+    agree = verdict-0 P Q k .0 z .0 .1
 
     small : k ≤ 1023
     small = omega (arith, verdict-0 P Q k .0 z .1)
@@ -33,19 +29,19 @@ module _ (traceOnly : Bool) (P Q : Sheet) (k : ℕ) where
     -- without a refusal the kind is 11 where no run of the test against the device can end failed
     pub passing-judged : (¬ FailsTest traceOnly P Q k) → judged (verdictOf traceOnly P Q k) ≡ record { refusal = 0; kind = 11 }
     unfolding judged
-    passing-judged n = let v = verdict-0 P Q k .0 z in rw (verdict-passes P Q (v .0 .0 .0) (v .0 .0 .1) same traceOnly k small .1 n)
+    passing-judged n = let v = verdict-0 P Q k .0 z in rw (verdict-passes P Q (v .0 .0 .0) (v .0 .0 .1) agree traceOnly k small .1 n)
 
     -- without a refusal the kind is 12 where some run of the test against the device can end failed
     pub failing-judged : FailsTest traceOnly P Q k → judged (verdictOf traceOnly P Q k) ≡ record { refusal = 0; kind = 12 }
     unfolding judged
-    failing-judged f = let v = verdict-0 P Q k .0 z in rw (verdict-means P Q (v .0 .0 .0) (v .0 .0 .1) same traceOnly k small .1 f)
+    failing-judged f = let v = verdict-0 P Q k .0 z in rw (verdict-means P Q (v .0 .0 .0) (v .0 .0 .1) agree traceOnly k small .1 f)
 
     -- some run can end failed, or none can
     either : FailsTest traceOnly P Q k ⊎ (¬ FailsTest traceOnly P Q k)
     either = go (dec (failsFrom traceOnly P Q k 0 0))
       where
         means : (failsFrom traceOnly P Q k 0 0 ≡ true) ↔ FailsTest traceOnly P Q k
-        means = let v = verdict-0 P Q k .0 z in fails-means P Q (v .0 .0 .0) (v .0 .0 .1) same traceOnly k small
+        means = let v = verdict-0 P Q k .0 z in fails-means P Q (v .0 .0 .0) (v .0 .0 .1) (agree .0) traceOnly k small
 
         go : (failsFrom traceOnly P Q k 0 0 ≡ true) ⊎ (failsFrom traceOnly P Q k 0 0 ≡ false) → FailsTest traceOnly P Q k ⊎ (¬ FailsTest traceOnly P Q k)
         go (inl t) = inl (means .0 t)

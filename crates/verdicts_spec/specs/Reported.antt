@@ -8,10 +8,10 @@ use Rattle.events.specs.Bit.{bit, setOf}
 use Rattle.events.specs.Sets.{inside, meets}
 use Rattle.walks.specs.Reach.{nearer, leads}
 use Rattle.sheet_spec.specs.Kept.{row, successor, acceptance, initials, step}
-use Rattle.sheet_spec.specs.Rules.{rangesOk, countOk, successorsOk, rowSuccessorsOk, successorOk, setsOk, rowSetsOk, setOk, ascends, noneInside, reachedOk}
+use Rattle.sheet_spec.specs.Rules.{rangesOk, countOk, successorsOk, rowSuccessorsOk, successorOk, setsOk, rowSetsOk, setOk, ascends, noneInside, reachedOk, codeNew, codesOk}
 use Rattle.sheet_spec.specs.Reading.{readSheet, answer}
-use Rattle.sheet_spec.specs.Refusals.{headFault, layoutFault, graphFault, bytesFault}
-use Rattle.sheet_spec.specs.Spelling.{lengthField, nextAt, startOf, succOf, setsOf, rowAt, rowOf, sheetOf}
+use Rattle.sheet_spec.specs.Refusals.{headFault, layoutFault, graphFault, bytesFault, codesFault}
+use Rattle.sheet_spec.specs.Spelling.{lengthField, nextAt, startOf, succOf, setsOf, rowAt, rowOf, sheetOf, codeOf, nodesAt}
 use Rattle.sheet_spec.specs.Examples.{exampleDevice, sheet}
 use Rattle.tests_spec.specs.declared.Report.the-variants.{Event, Blocked}
 use Rattle.verdicts_spec.specs.Verdicts.{CanReport}
@@ -20,7 +20,7 @@ use Rattle.verdicts_spec.specs.Verdicts.{CanReport}
 -- event 1; and there it cannot block where event 0 is offered
 pub unreported :
     (¬ CanReport (sheet exampleDevice) 0 2 (Event 0)) × (¬ CanReport (sheet exampleDevice) 2 3 (Event 1)) × (¬ CanReport (sheet exampleDevice) 2 1 Blocked)
-unfolding CanReport sheet exampleDevice readSheet answer bytesFault headFault lengthField layoutFault nextAt startOf succOf setsOf rowAt rowOf sheetOf graphFault rangesOk countOk successorsOk rowSuccessorsOk successorOk setsOk rowSetsOk setOk ascends noneInside reachedOk successor acceptance initials step bit inside meets setOf nearer leads all any upTo
+unfolding CanReport sheet exampleDevice readSheet answer bytesFault headFault lengthField layoutFault nextAt startOf succOf setsOf rowAt rowOf sheetOf graphFault rangesOk countOk successorsOk rowSuccessorsOk successorOk setsOk rowSetsOk setOk ascends noneInside reachedOk successor acceptance initials step bit inside meets setOf nearer leads all any upTo codesFault nodesAt codeOf codesOk codeNew
 unreported = (
   λ (x : CanReport (sheet exampleDevice) 0 2 (Event 0)). zero-one (x .0),
   λ (x : CanReport (sheet exampleDevice) 2 3 (Event 1)). x .1 .1 refl,

@@ -15,52 +15,62 @@ use Rattle.base.specs.Refusal.{unless, unless-hit, unless-none, unless-other}
 use Rattle.base.specs.Table.{upTo, length-upTo, getD-upTo}
 use Rattle.base.specs.Front.{atFront, atFront-length, atFront-before, atFront-behind}
 use Rattle.sheet_spec.specs.declared.Sheet.{Sheet}
-use Rattle.sheet_spec.specs.Refusals.{sheetFault, BothAccepted, Own}
+use Rattle.sheet_spec.specs.Refusals.{sheetFault, BothAccepted, Agree, CodesDiffer, Own}
 use Rattle.sheet_spec.specs.Chains.{finally}
-use Rattle.sheet_spec.specs.PairFaults.{pair-reference, pair-device, pair-sheet, pair-11, pair-rest}
+use Rattle.sheet_spec.specs.CheckLaws.{own-other}
+use Rattle.sheet_spec.specs.PairFaults.{pair-reference, pair-device, pair-sheet, pair-11, pair-19, pair-rest}
 use Rattle.verdicts_spec.specs.declared.Suite.the-variants.{Judged, Denied}
 use Rattle.verdicts_spec.specs.Suites.{testCount, verdictNumber, suiteFault, suiteOf, verdictsAfter}
 use Rattle.verdicts_spec.specs.Numbers.{Suited, suited}
 
 module _ (P Q : Sheet) (out : List ℕ) where
-  -- what is tested after the refusal 11
-  abbrev after11 : ℕ
-  after11 = unless (leb (testCount P Q) (length out)) 10 0
+  -- what is tested after what the two sheets must share
+  abbrev afterShared : ℕ
+  afterShared = unless (leb (testCount P Q) (length out)) 10 0
 
   -- the reference's own refusal comes first, then the device's
   pub suite-reference : sheetFault P ≢ 0 → suiteFault P Q out ≡ sheetFault P
   unfolding suiteFault
-  suite-reference = pair-reference P Q after11
+  suite-reference = pair-reference P Q afterShared
 
   pub suite-device : sheetFault P ≡ 0 → sheetFault Q ≢ 0 → suiteFault P Q out ≡ sheetFault Q
   unfolding suiteFault
-  suite-device = pair-device P Q after11
+  suite-device = pair-device P Q afterShared
 
   -- 11: of sheets that are not refused, E differs
   pub suite-11 : (suiteFault P Q out ≡ 11) ↔ (BothAccepted P Q × (P .e ≢ Q .e))
   unfolding suiteFault
-  suite-11 = pair-11 P Q after11 (unless-other (leb (testCount P Q) (length out)) (λ p. omega arith) (λ p. omega arith))
+  suite-11 = pair-11 P Q afterShared (unless-other (leb (testCount P Q) (length out)) (λ p. omega arith) (λ p. omega arith))
 
-  -- 10: of sheets that are not refused, E does not differ, and the list is shorter than the tests
-  pub suite-10 : (suiteFault P Q out ≡ 10) ↔ ((BothAccepted P Q × (¬ (P .e ≢ Q .e))) × (length out < testCount P Q))
+  -- 19: of sheets that are not refused and have one E, some event has another code
+  pub suite-19 : (suiteFault P Q out ≡ 19) ↔ (BothAccepted P Q × ((P .e ≡ Q .e) × CodesDiffer P Q))
+  unfolding suiteFault
+  suite-19 = pair-19 P Q afterShared (unless-other (leb (testCount P Q) (length out)) (λ p. omega arith) (λ p. omega arith))
+
+  -- 10: of sheets that are not refused and agree, the list is shorter than the tests
+  pub suite-10 : (suiteFault P Q out ≡ 10) ↔ ((BothAccepted P Q × Agree P Q) × (length out < testCount P Q))
   unfolding suiteFault
   suite-10 =
-      finally (pair-rest P Q after11 10 (inl (omega arith)) (λ p. omega arith))
+      finally (pair-rest P Q afterShared 10 (inl (omega arith, λ p. omega arith)) (λ p. omega arith) (λ p. omega arith))
       (λ f. unless-hit 10 0 (finds-le (testCount P Q) (length out)) (λ p. omega arith))
 
-  -- no refusal: of sheets that are not refused, E does not differ, and the list is long enough
-  pub suite-0 : (suiteFault P Q out ≡ 0) ↔ ((BothAccepted P Q × (¬ (P .e ≢ Q .e))) × (¬ (length out < testCount P Q)))
+  -- no refusal: of sheets that are not refused and agree, the list is long enough
+  pub suite-0 : (suiteFault P Q out ≡ 0) ↔ ((BothAccepted P Q × Agree P Q) × (¬ (length out < testCount P Q)))
   unfolding suiteFault
-  suite-0 = finally (pair-rest P Q after11 0 (inr refl) (λ p. omega arith)) (λ f. unless-none 10 (finds-le (testCount P Q) (length out)) (λ p. omega arith))
+  suite-0 =
+      finally (pair-rest P Q afterShared 0 (inr refl) (λ p. omega arith) (λ p. omega arith))
+      (λ f. unless-none 10 (finds-le (testCount P Q) (length out)) (λ p. omega arith))
 
   -- a sheet's own number is given exactly for that sheet, the reference before the device
   pub suite-sheet : (m : ℕ) → Own m → (suiteFault P Q out ≡ m) ↔ ((sheetFault P ≡ m) ⊎ ((sheetFault P ≡ 0) × (sheetFault Q ≡ m)))
   unfolding suiteFault
-  suite-sheet m (z, l) = pair-sheet P Q after11 m (z, l) (unless-other (leb (testCount P Q) (length out)) (λ e. omega arith) (λ e. omega arith))
+  suite-sheet m o =
+      pair-sheet P Q afterShared m o
+      (unless-other (leb (testCount P Q) (length out)) (own-other o (omega arith, λ p. omega arith)) (λ e. omega (arith, o .0)))
 
-  -- two sheets that are not refused, with equal event counts and a list that is long enough, get no refusal
-  pub suite-fits : sheetFault P ≡ 0 → sheetFault Q ≡ 0 → P .e ≡ Q .e → testCount P Q ≤ length out → suiteFault P Q out ≡ 0
-  suite-fits p q e l = suite-0 .1 (((p, q), λ n. n e), λ h. omega arith)
+  -- two sheets that are not refused and agree, with a list that is long enough, get no refusal
+  pub suite-fits : sheetFault P ≡ 0 → sheetFault Q ≡ 0 → Agree P Q → testCount P Q ≤ length out → suiteFault P Q out ≡ 0
+  suite-fits p q a l = suite-0 .1 (((p, q), a), λ h. omega arith)
 
   module _ (n : suiteFault P Q out ≢ 0) where
     -- a refusal answers its number, with no other part, and alters nothing

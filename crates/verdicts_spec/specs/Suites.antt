@@ -24,8 +24,8 @@ testCount P Q = P .n * Q .n
 unfoldable pub verdictNumber : Bool → Sheet → Sheet → ℕ → ℕ
 verdictNumber traceOnly P Q k = judged (verdictOf traceOnly P Q k) .kind
 
--- the refusal of the call, 0 for none: the reference's own, the device's own; 11: E differs; 10: a list shorter than
--- the tests
+-- the refusal of the call, 0 for none: the reference's own, the device's own; 11: E differs; 19: a code differs; 10: a
+-- list shorter than the tests
 unfoldable pub suiteFault : Sheet → Sheet → List ℕ → ℕ
 suiteFault P Q out = pairFault P Q (unless (leb (testCount P Q) (length out)) 10 0)
 

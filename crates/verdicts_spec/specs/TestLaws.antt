@@ -13,7 +13,7 @@ use Rattle.walks.specs.Graph.{walk}
 use Rattle.walks.specs.Pairs.{PairLeads, pairDistance, pairDistance≤, pairTrace, pairTrace-length, pairTrace-leads}
 use Rattle.sheet_spec.specs.declared.Sheet.{Sheet}
 use Rattle.sheet_spec.specs.Kept.{row, mayStop, graph}
-use Rattle.sheet_spec.specs.Refusals.{sheetFault}
+use Rattle.sheet_spec.specs.Refusals.{sheetFault, Agree}
 use Rattle.sheet_spec.specs.RowLaws.{mayStop-means}
 use Rattle.sheet_spec.specs.Sound.{Sound}
 use Rattle.sheet_spec.specs.SoundLaws.{nodes-most, check-sound}
@@ -177,13 +177,6 @@ module _ (P Q : Sheet) (accP : sheetFault P ≡ 0) (accQ : sheetFault Q ≡ 0) (
         means : (k : ℕ) → k < P .n * Q .n → (failsFrom traceOnly P Q k 0 0 ≡ true) ↔ FailsTest traceOnly P Q k
         means k l = fails-means P Q accP accQ same traceOnly k (omega (arith, nodes-most op oq))
 
-    -- every verdict of a test below p·q is "passes" exactly if the device refines the reference
-    pub verdicts-complete : ((k : ℕ) → k < P .n * Q .n → verdictOf traceOnly P Q k ≡ Passes) ↔ RefinesIn traceOnly P Q
-    verdicts-complete = (λ f. runs-complete .0 (λ k l. means k l .0 (f k l)), λ r k l. means k l .1 (runs-complete .1 r k l))
-      where
-        means : (k : ℕ) → k < P .n * Q .n → (verdictOf traceOnly P Q k ≡ Passes) ↔ (¬ FailsTest traceOnly P Q k)
-        means k l = verdict-passes P Q accP accQ same traceOnly k (omega (arith, nodes-most op oq))
-
   -- of the trace-only tests, test p·q - 1 decides alone
   pub single-test : (failsFrom true P Q (P .n * Q .n - 1) 0 0 ≡ false) ↔ TraceRefines P Q
   single-test = (λ f. refines-distance op oq same true .1 (go f (lt-or-ge d (P .n * Q .n))), λ r. refining-false true r (P .n * Q .n - 1))
@@ -215,3 +208,14 @@ module _ (P Q : Sheet) (accP : sheetFault P ≡ 0) (accQ : sheetFault Q ≡ 0) (
           failing : failsFrom true P Q (length t + (P .n * Q .n - 1 - length t)) 0 0 ≡ true
           failing = end-fails true P Q op oq t (P .n * Q .n - 1 - length t) 0 0 (x .in-r) (x .in-d)
               (faulty-from true (P .n * Q .n - 1 - length t) (walk (graph P) 0 t) (walk (graph Q) 0 t) (x .in-r) (x .in-d) (inl (stray _ _ (x .ends))))
+
+-- every verdict of a test below p·q is "passes" exactly if the device refines the reference, of sheets that agree
+pub verdicts-complete : (P Q : Sheet) → sheetFault P ≡ 0 → sheetFault Q ≡ 0 → Agree P Q → (traceOnly : Bool)
+    → ((k : ℕ) → k < P .n * Q .n → verdictOf traceOnly P Q k ≡ Passes) ↔ RefinesIn traceOnly P Q
+verdicts-complete P Q accP accQ agree traceOnly = (λ f. complete .0 (λ k l. means k l .0 (f k l)), λ r k l. means k l .1 (complete .1 r k l))
+  where
+    complete : ((k : ℕ) → k < P .n * Q .n → ¬ FailsTest traceOnly P Q k) ↔ RefinesIn traceOnly P Q
+    complete = runs-complete P Q accP accQ (agree .0) traceOnly
+
+    means : (k : ℕ) → k < P .n * Q .n → (verdictOf traceOnly P Q k ≡ Passes) ↔ (¬ FailsTest traceOnly P Q k)
+    means k l = verdict-passes P Q accP accQ agree traceOnly k (omega (arith, nodes-most (check-sound P accP) (check-sound Q accQ)))

@@ -15,9 +15,10 @@ use Rattle.base.specs.Refusal.{unless-hit, unless-none, unless-other}
 use Rattle.events.specs.Bit.{bit, bit≤1, Within, Apart}
 use Rattle.sheet_spec.specs.declared.Sheet.{Sheet}
 use Rattle.sheet_spec.specs.Kept.{row, successor, acceptance, acceptances, Initial, mayStop, step}
-use Rattle.sheet_spec.specs.Refusals.{sheetFault, BothAccepted, Own}
+use Rattle.sheet_spec.specs.Refusals.{sheetFault, BothAccepted, Agree, CodesDiffer, Own}
 use Rattle.sheet_spec.specs.Chains.{finally}
-use Rattle.sheet_spec.specs.PairFaults.{pair-sheet, pair-11, pair-rest}
+use Rattle.sheet_spec.specs.CheckLaws.{own-other}
+use Rattle.sheet_spec.specs.PairFaults.{pair-sheet, pair-11, pair-19, pair-rest}
 use Rattle.sheet_spec.specs.Sound.{Sound}
 use Rattle.sheet_spec.specs.SoundLaws.{check-sound}
 use Rattle.probes_spec.specs.Probes.{probes}
@@ -46,22 +47,30 @@ module _ (P Q : Sheet) (k : ℕ) where
   -- a refused sheet's own number is given for that sheet, the reference's before the device's
   pub verdict-sheet : (m : ℕ) → Own m → (verdictFault P Q k ≡ m) ↔ ((sheetFault P ≡ m) ⊎ ((sheetFault P ≡ 0) × (sheetFault Q ≡ m)))
   unfolding verdictFault
-  verdict-sheet m (z, l) = pair-sheet P Q _ m (z, l) (unless-other (leb k 1023) (λ e. omega arith) (λ e. omega arith))
+  verdict-sheet m o = pair-sheet P Q _ m o (unless-other (leb k 1023) (own-other o (omega arith, λ p. omega arith)) (λ e. omega (arith, o .0)))
 
   -- 11: of sheets that are not refused, E differs
   pub verdict-11 : (verdictFault P Q k ≡ 11) ↔ (BothAccepted P Q × (P .e ≢ Q .e))
   unfolding verdictFault
   verdict-11 = pair-11 P Q _ (unless-other (leb k 1023) (λ e. omega arith) (λ e. omega arith))
 
-  -- 14: of sheets that are not refused and have one E, k is above 1,023
-  pub verdict-14 : (verdictFault P Q k ≡ 14) ↔ ((BothAccepted P Q × (¬ (P .e ≢ Q .e))) × (1023 < k))
+  -- 19: of sheets that are not refused and have one E, some event has another code
+  pub verdict-19 : (verdictFault P Q k ≡ 19) ↔ (BothAccepted P Q × ((P .e ≡ Q .e) × CodesDiffer P Q))
   unfolding verdictFault
-  verdict-14 = finally (pair-rest P Q _ 14 (inl (omega arith)) (λ e. omega arith)) (λ h. unless-hit 14 0 (finds-le k 1023) (λ e. omega arith))
+  verdict-19 = pair-19 P Q _ (unless-other (leb k 1023) (λ e. omega arith) (λ e. omega arith))
 
-  -- no refusal: neither sheet is refused, E does not differ, and k is not above 1,023
-  pub verdict-0 : (verdictFault P Q k ≡ 0) ↔ ((BothAccepted P Q × (¬ (P .e ≢ Q .e))) × (¬ (1023 < k)))
+  -- 14: of sheets that are not refused and agree, k is above 1,023
+  pub verdict-14 : (verdictFault P Q k ≡ 14) ↔ ((BothAccepted P Q × Agree P Q) × (1023 < k))
   unfolding verdictFault
-  verdict-0 = finally (pair-rest P Q _ 0 (inr refl) (λ e. omega arith)) (λ h. unless-none 14 (finds-le k 1023) (λ e. omega arith))
+  verdict-14 =
+      finally (pair-rest P Q _ 14 (inl (omega arith, λ p. omega arith)) (λ e. omega arith) (λ e. omega arith))
+      (λ h. unless-hit 14 0 (finds-le k 1023) (λ e. omega arith))
+
+  -- no refusal: neither sheet is refused, they agree, and k is not above 1,023
+  pub verdict-0 : (verdictFault P Q k ≡ 0) ↔ ((BothAccepted P Q × Agree P Q) × (¬ (1023 < k)))
+  unfolding verdictFault
+  verdict-0 =
+      finally (pair-rest P Q _ 0 (inr refl) (λ e. omega arith) (λ e. omega arith)) (λ h. unless-none 14 (finds-le k 1023) (λ e. omega arith))
 
   -- a refused verdict has its number
   pub verdict-denied : (traceOnly : Bool) → verdictFault P Q k ≢ 0 → verdictOf traceOnly P Q k ≡ NoVerdict (verdictFault P Q k)
@@ -358,11 +367,17 @@ module _ (P Q : Sheet) (accP : sheetFault P ≡ 0) (accQ : sheetFault Q ≡ 0) (
           (subst (λ (y : ℕ). EndsFailed P Q (live h 0 0) 0 y reports) (sym (value-same (sym (answer-of (opened h)) ∙ g)))
           (subst (λ (y : Run). EndsFailed P Q y 0 offer reports) (run-of (opened h)) f))
 
-  -- for accepted sheets with the same events and k up to 1,023 nothing is refused
-  unrefused : verdictFault P Q k ≡ 0
-  unrefused = verdict-0 P Q k .1 (((accP, accQ), λ n. n same), λ l. omega arith)
+-- What a verdict says, of accepted sheets that agree.
+module _ (P Q : Sheet) (accP : sheetFault P ≡ 0) (accQ : sheetFault Q ≡ 0) (agree : Agree P Q) (traceOnly : Bool) (k : ℕ) (small : k ≤ 1023) where
+  -- the test fails exactly if some run can end failed
+  means : (failsFrom traceOnly P Q k 0 0 ≡ true) ↔ FailsTest traceOnly P Q k
+  means = fails-means P Q accP accQ (agree .0) traceOnly k small
 
-  -- for accepted sheets with the same events and k up to 1,023 a verdict is the test's
+  -- for accepted sheets that agree and k up to 1,023 nothing is refused
+  unrefused : verdictFault P Q k ≡ 0
+  unrefused = verdict-0 P Q k .1 (((accP, accQ), agree), λ l. omega arith)
+
+  -- for accepted sheets that agree and k up to 1,023 a verdict is the test's
   given : verdictOf traceOnly P Q k ≡ cond (failsFrom traceOnly P Q k 0 0) Fails Passes
   given = verdict-given P Q k traceOnly unrefused
 
@@ -370,7 +385,7 @@ module _ (P Q : Sheet) (accP : sheetFault P ≡ 0) (accQ : sheetFault Q ≡ 0) (
   pub verdict-means : (verdictOf traceOnly P Q k ≡ Fails) ↔ FailsTest traceOnly P Q k
   unfolding judged
   verdict-means =
-      (λ e. fails-means .0 (forth (failsFrom traceOnly P Q k 0 0) (sym given ∙ e)), λ f. given ∙ ap (λ (b : Bool). cond b Fails Passes) (fails-means .1 f))
+      (λ e. means .0 (forth (failsFrom traceOnly P Q k 0 0) (sym given ∙ e)), λ f. given ∙ ap (λ (b : Bool). cond b Fails Passes) (means .1 f))
     where
       forth : (b : Bool) → cond b Fails Passes ≡ Fails → b ≡ true
       forth true e = refl
@@ -380,8 +395,8 @@ module _ (P Q : Sheet) (accP : sheetFault P ≡ 0) (accQ : sheetFault Q ≡ 0) (
   pub verdict-passes : (verdictOf traceOnly P Q k ≡ Passes) ↔ (¬ FailsTest traceOnly P Q k)
   unfolding judged
   verdict-passes = (
-    λ e f. forth (failsFrom traceOnly P Q k 0 0) (sym given ∙ e) (fails-means .1 f),
-    λ n. given ∙ ap (λ (b : Bool). cond b Fails Passes) (not-i (λ t. n (fails-means .0 t))),
+    λ e f. forth (failsFrom traceOnly P Q k 0 0) (sym given ∙ e) (means .1 f),
+    λ n. given ∙ ap (λ (b : Bool). cond b Fails Passes) (not-i (λ t. n (means .0 t))),
   )
     where
       forth : (b : Bool) → cond b Fails Passes ≡ Passes → b ≡ true → ⊥

@@ -66,7 +66,7 @@ failsFrom traceOnly P Q (suc k) n m =
     || ((not traceOnly && (mayStop (row Q m) && not (mayStop (row P n))))
     || any (λ i. (ltb (step P n i) (P .n) && ltb (step Q m i) (Q .n)) && failsFrom traceOnly P Q k (step P n i) (step Q m i)) (P .e))
 
--- the refusal of a verdict: the reference's own, the device's own; 11: E differs; 14: k above 1,023
+-- the refusal of a verdict: the reference's own, the device's own; 11: E differs; 19: a code differs; 14: k above 1,023
 unfoldable pub verdictFault : Sheet → Sheet → ℕ → ℕ
 verdictFault P Q k = pairFault P Q (unless (leb k 1023) 14 0)
 
