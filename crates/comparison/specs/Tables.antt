@@ -7,7 +7,6 @@ use mathlib.Core.Bool.{Bool}
 use mathlib.Core.List.{List}
 use Prim.Native.Nat.{ℕ, _+_, _*_, _≤_, _<_}
 use native.Mathlib.Omega.{arith}
-use native.Mathlib.Decide.{ℕ-discrete}
 use lib.ListN.{length, getD}
 use borrow.Author.Tests.{lt-ltb, le-ltb}
 use Rattle.base.specs.Truth.{lt-or-ge}
@@ -138,11 +137,7 @@ module _ (P Q : Sheet) (work trace : List ℕ) where
     sound-Q = check-sound Q (both-accepted .1)
 
     same-events : P .e ≡ Q .e
-    same-events = go (ℕ-discrete (P .e) (Q .e))
-      where
-        go : Dec (P .e ≡ Q .e) → P .e ≡ Q .e
-        go (yes e) = e
-        go (no n) = absurd (compare-0 P Q work trace .0 z .0 .0 .1 n)
+    same-events = compare-0 P Q work trace .0 z .0 .0 .1 .0
 
     module _ {p q e : ℕ} (ep : p ≡ P .n) (eq : q ≡ Q .n) (ee : e ≡ P .e) where
       -- the search may be called

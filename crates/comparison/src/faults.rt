@@ -4,7 +4,7 @@ ghost use Rattle.comparison.specs.FaultOn.{faultOn};
 use sheet_spec::Sheet;
 
 // The refusal of a comparison with a work list of so many words and a trace list of so many bytes, 0 for none: the
-// reference's own; the device's own; 11, E differs; 12, too few words; 13, too few bytes.
+// reference's own; the device's own; 11, E differs; 19, a code differs; 12, too few words; 13, too few bytes.
 pub(crate) fn fault_on(reference: Sheet, device: Sheet, words: usize, places: usize) -> u8
     ensures { λ r. ⌜ r ≡ faultOn reference device words places ⌝ }
 {
@@ -16,8 +16,9 @@ pub(crate) fn fault_on(reference: Sheet, device: Sheet, words: usize, places: us
     if other != 0 {
         return other;
     }
-    if reference.e != device.e {
-        return 11;
+    let shared = sheet_codes::shared_fault(reference.e, &reference.codes, device.e, &device.codes);
+    if shared != 0 {
+        return shared;
     }
     let n = base::wide(reference.n) * base::wide(device.n);
     if words < 2 * n {

@@ -1,5 +1,6 @@
-// A sheet read from bytes, and a kept sheet checked (01, "A sheet" and the refusals 1 to 8). Both entry points take any
-// content: `read` answers with the sheet or the number of the refusal, `check` with the number, 0 for none.
+// A sheet read from bytes, and a kept sheet checked (01, "A sheet" and the refusals 1 to 8; 02, K1, the refusal 18).
+// Both entry points take any content: `read` answers with the sheet or the number of the refusal, `check` with the
+// number, 0 for none.
 ghost use mathlib.Core.Path.{_≡_};
 ghost use Prim.Native.Nat.{_<_};
 ghost use Rattle.sheet_spec.specs.Refusals.{sheetFault};
@@ -27,10 +28,12 @@ fn zero_sheet() -> Sheet
         c: 0,
     };
     let rows = [row; 32];
+    let codes = [0u16; 12];
     Sheet {
         rows: rows,
         e: 0,
         n: 0,
+        codes: codes,
     }
 }
 

@@ -1,8 +1,10 @@
-// How a sheet stands in its bytes (01, the refusals 1 to 5): its length, version and ranges, and one walk over the
-// nodes. Reads past the end give 0.
+// How a sheet stands in its bytes (01, the refusals 1 to 5; 02, K1): its length, version and ranges, where its nodes
+// begin, and one walk over them. Reads past the end give 0.
 ghost use mathlib.Core.Path.{_≡_};
+ghost use mathlib.Core.Bool.{_||_};
 ghost use Prim.Native.Nat.{_+_, _≤_, _<_};
-ghost use Rattle.sheet_spec.specs.Spelling.{byte, word, nextAt};
+ghost use lib.Dec.{eqb};
+ghost use Rattle.sheet_spec.specs.Spelling.{byte, word, nodesAt, nextAt};
 ghost use Rattle.sheet_spec.specs.Refusals.{headFault, layoutFault};
 ghost use Rattle.sheet_bytes.specs.LayoutShapes.{lengthOk};
 
@@ -36,20 +38,41 @@ fn length_ok(bytes: &[u8]) -> bool
     high * 65536 + low + 4 == size
 }
 
-// The refusals 1, 2 and 3, of the bytes before the nodes; 0 for none.
+// 2: whether the version is 1 or 2.
+fn version_ok(version: u8) -> bool
+    ensures { λ r. ⌜ r ≡ eqb version 1 || eqb version 2 ⌝ }
+{
+    if version == 1 {
+        return true;
+    }
+    version == 2
+}
+
+// The refusals 1, 2 and 3, of the bytes up to N; 0 for none.
 pub(crate) fn head_fault(bytes: &[u8]) -> u8
     ensures { λ r. ⌜ r ≡ headFault (now (bytes .entry)) ⌝ }
 {
     if !length_ok(bytes) {
         return 1;
     }
-    if byte_at(bytes, 4) != 1 {
+    if !version_ok(byte_at(bytes, 4)) {
         return 2;
     }
     if !sheet_rules::ranges_ok(byte_at(bytes, 5), byte_at(bytes, 6)) {
         return 3;
     }
     0
+}
+
+// Where the nodes begin: version 2 has two bytes for each event before them.
+pub(crate) fn nodes_at(bytes: &[u8]) -> usize
+    ensures { λ r. ⌜ (r ≡ nodesAt (now (bytes .entry))) × (r ≤ 517) ⌝ }
+{
+    if byte_at(bytes, 4) == 2 {
+        7 + base::wide(byte_at(bytes, 5)) * 2
+    } else {
+        7
+    }
 }
 
 // Where the node after the one at a place begins.
@@ -63,11 +86,11 @@ pub(crate) fn next_at(bytes: &[u8], e: usize, at: usize) -> usize
 
 // The refusals 4 and 5, by position in one walk over the nodes from the front; 0 for none.
 pub(crate) fn layout_fault(bytes: &[u8], e: u8, n: u8) -> u8
-    ensures { λ r. ⌜ r ≡ layoutFault (now (bytes .entry)) e n 7 ⌝ }
+    ensures { λ r. ⌜ r ≡ layoutFault (now (bytes .entry)) e n (nodesAt (now (bytes .entry))) ⌝ }
 {
     let width = e as usize;
     let nodes = n as usize;
-    let mut at: usize = 7;
+    let mut at = nodes_at(bytes);
     for v in 0..nodes {
         let place = at + width;
         if place >= bytes.len() {

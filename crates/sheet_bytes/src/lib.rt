@@ -1,5 +1,6 @@
-// The bytes of a sheet (01, "A sheet"): the refusals 1 to 5, and the sheet that they spell, whatever they are: each row
-// from its place, unused places as 01 has them.
+// The bytes of a sheet (01, "A sheet"; 02, K1): the refusals 1 to 5 and 18, and the sheet that they spell, whatever
+// they are: each row from its place, the codes, unused places as 01 and 02 have them.
+mod codes;
 mod layout;
 
 ghost use mathlib.Core.Path.{_≡_};
@@ -7,19 +8,25 @@ ghost use Prim.Native.Nat.{_≤_, _<_};
 ghost use Rattle.base.specs.Table.{upTo};
 ghost use Rattle.base.specs.Refusal.{orElse};
 ghost use Rattle.sheet_spec.specs.Spelling.{eventCount, nodeCount, nodesAt, startOf, succOf, setsOf, rowAt, unusedRow, rowOf, sheetOf};
-ghost use Rattle.sheet_spec.specs.Refusals.{headFault, layoutFault};
+ghost use Rattle.sheet_spec.specs.Refusals.{headFault, codesFault, layoutFault};
 use sheet_spec::Row;
 use sheet_spec::Sheet;
 
-// The refusal of the bytes before what they spell is looked at, 0 for none: 1, 2, 3; then 4 and 5, by position.
+// The refusal of the bytes before the graph that they spell is looked at, 0 for none: 1, 2, 3; 4 and 18 of the codes;
+// then 4 and 5 of the nodes, by position.
 pub fn fault_in(bytes: &[u8]) -> u8
     ensures { λ r. ⌜ r ≡ orElse (headFault (now (bytes .entry)))
+        (orElse (codesFault (now (bytes .entry)))
         (layoutFault (now (bytes .entry)) (eventCount (now (bytes .entry)))
-        (nodeCount (now (bytes .entry))) nodesAt) ⌝ }
+        (nodeCount (now (bytes .entry))) (nodesAt (now (bytes .entry))))) ⌝ }
 {
     let head = layout::head_fault(bytes);
     if head != 0 {
         return head;
+    }
+    let fault = codes::codes_fault(bytes);
+    if fault != 0 {
+        return fault;
     }
     layout::layout_fault(bytes, layout::byte_at(bytes, 5), layout::byte_at(bytes, 6))
 }
@@ -121,7 +128,7 @@ fn rows_of(bytes: &[u8], e: usize, n: usize) -> [Row; 32]
 {
     let unused = unused_row();
     let mut rows = [unused; 32];
-    let mut at: usize = 7;
+    let mut at = layout::nodes_at(bytes);
     for v in 0..32 {
         let row = row_of(bytes, e, n, v, at);
         rows[v] = row;
@@ -137,9 +144,11 @@ pub fn sheet_of(bytes: &[u8]) -> Sheet
     let e = layout::byte_at(bytes, 5);
     let n = layout::byte_at(bytes, 6);
     let rows = rows_of(bytes, e as usize, n as usize);
+    let codes = codes::codes_of(bytes);
     Sheet {
         rows: rows,
         e: e,
         n: n,
+        codes: codes,
     }
 }

@@ -72,4 +72,6 @@ sheet-form s vs p =
       each = λ v h. each-in (R.the-type .to) (R.the-field .row .own) RowForm row-form (s .rows) (p .1 .1 .0 .0) (p .1 .1 .0 .1 .1) noRow v (omega arith);
       e-byte = p .1 .1 .1 .0 .1;
       n-byte = p .1 .1 .1 .1 .0 .1;
+      codes = sym (length-map (s .codes) (λ (v : ℕ). v)) ∙ p .1 .1 .1 .1 .1 .0 .1 .0 .1;
+      code-word = each-at (λ (v : ℕ). v) (u16 .own) (λ x. x < 65536) (λ x us q. q .1) (s .codes) (p .1 .1 .1 .1 .1 .0 .0) (p .1 .1 .1 .1 .1 .0 .1 .1) 0 (omega arith);
     }

@@ -20,6 +20,15 @@ pub both : (a b : Bool) (k m r : ℕ) → m ≡ unless a k (unless b k r) → m 
 both true b k m r e = e
 both false b k m r e = e
 
--- where E and N are in range, there are at most 32 nodes
-pub few : (s : Sheet) {t : Bool} → t ≡ rangesOk (s .e) (s .n) → not t ≡ false → s .n ≤ 32
-few s {t} p q = ranges→ (s .e) (s .n) (sym p ∙ not-false t q) .n-high
+-- three rules under one number that all are kept
+pub kept-three : (a b c : Bool) {t u v : Bool} (k m r : ℕ) → t ≡ a → not t ≡ false → u ≡ b → not u ≡ false → v ≡ c → not v ≡ false → m ≡ r
+    → m ≡ unless (a && (b && c)) k r
+kept-three a b c k m r p p′ q q′ s s′ e = both a (b && c) k m r (kept a k m _ p p′ (both b c k m r (kept b k m _ q q′ (kept c k m r s s′ e))))
+
+-- where E and N are in range, there are at most 12 events and 32 nodes
+module _ (s : Sheet) {t : Bool} (p : t ≡ rangesOk (s .e) (s .n)) (q : not t ≡ false) where
+  pub few-events : s .e ≤ 12
+  few-events = ranges→ (s .e) (s .n) (sym p ∙ not-false t q) .e-high
+
+  pub few-nodes : s .n ≤ 32
+  few-nodes = ranges→ (s .e) (s .n) (sym p ∙ not-false t q) .n-high

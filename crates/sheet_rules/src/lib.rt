@@ -1,6 +1,6 @@
-// The rules of a sheet (01, "Who can cause a refusal"): 3 of E and N, 5 of a row's count, 6 and 7 of its successors,
-// sets and unused places, 8 of the graph. And the refusals that they give, of a kept sheet and of one that was just
-// read.
+// The rules of a sheet (01, "Who can cause a refusal"; 02, K1): 3 of E and N, 18 of the codes, 5 of a row's count, 6
+// and 7 of its successors, sets and unused places, 8 of the graph. And the refusals that they give, of a kept sheet and
+// of one that was just read.
 mod reached;
 mod rows;
 mod sets;
@@ -116,12 +116,15 @@ pub fn graph_fault(sheet: Sheet) -> u8
     0
 }
 
-// The refusal of a kept sheet with any content, 0 for none: 3, 5, 6, 7, 8, each looked for in the whole sheet.
+// The refusal of a kept sheet with any content, 0 for none: 3, 18, 5, 6, 7, 8, each looked for in the whole sheet.
 pub fn sheet_fault(s: Sheet) -> u8
     ensures { λ r. ⌜ r ≡ sheetFault s ⌝ }
 {
     if !ranges_ok(s.e, s.n) {
         return 3;
+    }
+    if !sheet_codes::is_distinct(&s.codes, s.e) {
+        return 18;
     }
     if !counts_ok(s) {
         return 5;
@@ -133,6 +136,9 @@ pub fn sheet_fault(s: Sheet) -> u8
         return 7;
     }
     if !blanks_ok(s) {
+        return 7;
+    }
+    if !sheet_codes::is_blank_from(&s.codes, s.e) {
         return 7;
     }
     if !reached::reached_ok(s) {

@@ -7,14 +7,16 @@ use lib.Dec.{ltb, leb}
 use borrow.Author.Tests.{le-leb, lt-leb, ne-eqb}
 use Rattle.base.specs.Refusal.{unless, orElse-some}
 use Rattle.sheet_spec.specs.declared.Sheet.{Sheet}
-use Rattle.sheet_spec.specs.Kept.{row, sheetWith}
+use Rattle.sheet_spec.specs.Kept.{row, firstCodes, sheetWith}
 use Rattle.sheet_spec.specs.Refusals.{sheetFault}
+use Rattle.sheet_spec.specs.CodeLaws.{plain-accepted}
 use Rattle.tests_spec.specs.declared.Run.{Run}
 use Rattle.tests_spec.specs.declared.Report.{Report}
 use Rattle.tests_spec.specs.declared.Answer.the-variants.{Going, Denied}
 use Rattle.tests_spec.specs.declared.Stepped.{Stepped}
 use Rattle.tests_spec.specs.Flags.{flag, flagOf}
 use Rattle.tests_spec.specs.Runs.{newRun, answered, openFault, openOf, recordOk, eventFault, reportFault, stepOf}
+use Rattle.tests_spec.specs.Recoded.{recoded-step}
 use Rattle.tests_spec.specs.Numbers.{said}
 use Rattle.tests_spec.specs.NumberLaws.{opening-refusal, report-refusal}
 use Rattle.tests.specs.OfferShapes.{offerAt}
@@ -74,10 +76,10 @@ module _ (s : Sheet) (r : Run) (report : Report) where
       at : reportFault s r report ≡ g
       at = unfold reportFault recordOk in rw (← p, z) (chain (not (flag (r .ended))) (ltb (r .node) (s .n) && (leb (r .depth) (r .k) && leb (r .k) 1023)) (eventFault s r report) g (unfold recordFault in q ∙ rw d) h)
 
--- the sheet of the rows copied out is the sheet
+-- the sheet of the rows copied out answers as the sheet: codes play no part
 module _ (s : Sheet) (r : Run) {f g n e : ℕ} (p : f ≡ sheetFault s) (z : f ≡ 0) (dn : n ≡ s .n) (de : e ≡ s .e) (q : g ≡ recordFault n r) (y : g ≡ 0) where
   pub apart-requires : (sheetFault (sheetWith (s .rows) e n) ≡ 0) × (recordFault n r ≡ 0)
-  apart-requires = (rw (dn, de) (sym p ∙ z), sym q ∙ y)
+  apart-requires = (rw (dn, de) (plain-accepted s (sym p ∙ z)), sym q ∙ y)
 
   pub apart : {report report′ : Report} {o : Stepped} → report ≡ report′ → o ≡ stepOf (sheetWith (s .rows) e n) r report′ → o ≡ stepOf s r report
-  apart u h = h ∙ rw (dn, de, u)
+  apart {report} u h = h ∙ rw (dn, de, ← u) (recoded-step s (firstCodes (s .e)) (sym p ∙ z) (plain-accepted s (sym p ∙ z)) r report)

@@ -5,10 +5,12 @@ use mathlib.Core.List.{List, _++_}
 use Prim.Native.Nat.{ℕ, _*_, _≤_, _<_}
 use native.Mathlib.Omega.{arith}
 use lib.ListN.{length, drop}
+use Rattle.base.specs.Refusal.{orElse-some}
 use Rattle.base.specs.Table.{upTo, length-upTo, upTo-ext}
 use Rattle.base.specs.Front.{atFront-count}
 use Rattle.sheet_spec.specs.declared.Sheet.{Sheet}
-use Rattle.sheet_spec.specs.Refusals.{sheetFault}
+use Rattle.sheet_spec.specs.Refusals.{sheetFault, sharedFault, Agree}
+use Rattle.sheet_spec.specs.PairFaults.{shared-0}
 use Rattle.sheet_spec.specs.Sound.{Sound}
 use Rattle.sheet_spec.specs.SoundLaws.{nodes-most, check-sound}
 use Rattle.verdicts_spec.specs.declared.Verdict.{Verdict}
@@ -21,8 +23,9 @@ use Rattle.verdicts_layers.specs.LayerShapes.{kindOf}
 use Rattle.verdicts_spec.specs.declared.Suite.{Suite}
 use Rattle.verdicts_spec.specs.declared.Suite.the-variants.{Judged, Denied}
 use Rattle.verdicts_spec.specs.Suites.{testCount, verdictNumber, suiteFault, suiteOf, verdictsAfter}
-use Rattle.verdicts_spec.specs.SuiteLaws.{suite-reference, suite-device, suite-11, suite-10, suite-fits, denied-suite, denied-verdicts, given-suite, given-verdicts, suited-refusal}
+use Rattle.verdicts_spec.specs.SuiteLaws.{suite-reference, suite-device, suite-10, suite-fits, denied-suite, denied-verdicts, given-suite, given-verdicts, suited-refusal}
 use Rattle.verdicts_spec.specs.Complete.{none-refused}
+use Rattle.verdicts.proofs.Verdicts.{test-apart}
 
 -- a verdict's number is that of its test
 number-of : (b : Bool) → judged (cond b Fails Passes) .kind ≡ kindOf b
@@ -76,40 +79,34 @@ module _ (P Q : Sheet) (traceOnly : Bool) (o : List ℕ) where
       pub by-device : (g ≡ 0 → ⊥) → Says (Denied g) o
       by-device n = refused (suite-device P Q o accP (λ e. n (q ∙ e)) ∙ sym q) n
 
-      module _ (y : g ≡ 0) {e d : ℕ} (de : e ≡ P .e) (dd : d ≡ Q .e) where
+      module _ (y : g ≡ 0) {h : ℕ} (r : h ≡ sharedFault (P .e) (P .codes) (Q .e) (Q .codes)) where
         accQ : sheetFault Q ≡ 0
         accQ = sym q ∙ y
 
-        pub by-events : (e ≡ d → ⊥) → Says (Denied 11) o
-        by-events n = refused (suite-11 P Q o .1 ((accP, accQ), λ h. n (de ∙ h ∙ sym dd))) (λ h. omega arith)
+        pub by-shared : (h ≡ 0 → ⊥) → Says (Denied h) o
+        by-shared n = refused (unfold suiteFault in rw (← p, z, ← q, y, ← r) (orElse-some h _ (omega arith))) n
 
-        module _ (s : e ≡ d) {p′ q′ : ℕ} (dp : p′ ≡ P .n) (dq : q′ ≡ Q .n) where
-          same : P .e ≡ Q .e
-          same = sym de ∙ s ∙ dd
+        module _ (s : h ≡ 0) {e p′ q′ : ℕ} (de : e ≡ P .e) (dp : p′ ≡ P .n) (dq : q′ ≡ Q .n) where
+          agree : Agree P Q
+          agree = shared-0 (P .e) (P .codes) (Q .e) (Q .codes) .0 (sym r ∙ s)
 
           count : p′ * q′ ≡ testCount P Q
           unfolding testCount
           count = rw (dp, dq)
 
           pub by-room : length o < p′ * q′ → Says (Denied 10) o
-          by-room l = refused (suite-10 P Q o .1 (((accP, accQ), λ n. n same), omega (arith, count))) (λ h. omega arith)
+          by-room l = refused (suite-10 P Q o .1 (((accP, accQ), agree), omega (arith, count))) (λ h. omega arith)
 
           module _ (l : p′ * q′ ≤ length o) where
             fits : suiteFault P Q o ≡ 0
-            fits = suite-fits P Q o accP accQ same (omega (arith, count))
+            fits = suite-fits P Q o accP accQ agree (omega (arith, count))
 
             -- the test over the rows is the test over the sheets, so its number is that of the verdict
             number : (k : ℕ) → k < p′ * q′ → kindOf (failsFrom traceOnly (sheetWith (P .rows) e p′) (sheetWith (Q .rows) e q′) k 0 0) ≡ verdictNumber traceOnly P Q k
             unfolding verdictNumber
             number k h =
-                ap kindOf test ∙ sym (number-of (failsFrom traceOnly P Q k 0 0))
-                ∙ ap (λ (v : Verdict). judged v .kind) (sym (verdict-given P Q k traceOnly (none-refused P Q accP accQ same k (omega (arith, count)))))
-              where
-                test : failsFrom traceOnly (sheetWith (P .rows) e p′) (sheetWith (Q .rows) e q′) k 0 0 ≡ failsFrom traceOnly P Q k 0 0
-                test =
-                    rw (dp, dq)
-                    (ap (λ (x : ℕ). failsFrom traceOnly (sheetWith (P .rows) x (P .n)) (sheetWith (Q .rows) e (Q .n)) k 0 0) de
-                    ∙ ap (λ (x : ℕ). failsFrom traceOnly P (sheetWith (Q .rows) x (Q .n)) k 0 0) (s ∙ dd))
+                ap kindOf (test-apart traceOnly P Q k (agree .0) de dp dq) ∙ sym (number-of (failsFrom traceOnly P Q k 0 0))
+                ∙ ap (λ (v : Verdict). judged v .kind) (sym (verdict-given P Q k traceOnly (none-refused P Q accP accQ agree k (omega (arith, count)))))
 
             pub by-pass : {after : List ℕ}
                 → after ≡ upTo (λ k. kindOf (failsFrom traceOnly (sheetWith (P .rows) e p′) (sheetWith (Q .rows) e q′) k 0 0)) (p′ * q′) ++ drop (p′ * q′) o

@@ -22,13 +22,14 @@ pub fn judge(reference: Sheet, device: Sheet, k: u16, trace_only: bool) -> Verdi
     if other != 0 {
         return Verdict::Denied(other);
     }
-    let e = base::wide(reference.e);
-    if e != base::wide(device.e) {
-        return Verdict::Denied(11);
+    let shared = sheet_codes::shared_fault(reference.e, &reference.codes, device.e, &device.codes);
+    if shared != 0 {
+        return Verdict::Denied(shared);
     }
     if k > 1023 {
         return Verdict::Denied(14);
     }
+    let e = base::wide(reference.e);
     let p = base::wide(reference.n);
     let q = base::wide(device.n);
     let mine = reference.rows;
@@ -41,7 +42,7 @@ pub fn judge(reference: Sheet, device: Sheet, k: u16, trace_only: bool) -> Verdi
 
 // Judges tests 0 to p·q − 1: writes 11 for "passes" or 12 for "fails" for each from the front of the lent list, and
 // answers how many there are; or the number of the refusal, and the list is as it was: the reference's own, the
-// device's own; 11, E differs; 10, a list shorter than the tests.
+// device's own; 11, E differs; 19, a code differs; 10, a list shorter than the tests.
 pub fn judge_all(reference: Sheet, device: Sheet, trace_only: bool, out: &mut [u8]) -> Suite
     ensures { λ r. ⌜ (r ≡ suiteOf reference device (now (out .entry)))
         × (suited r .refusal ≡ suiteFault reference device (now (out .entry)))
@@ -55,10 +56,11 @@ pub fn judge_all(reference: Sheet, device: Sheet, trace_only: bool, out: &mut [u
     if second != 0 {
         return Suite::Denied(second);
     }
-    let e = base::wide(reference.e);
-    if e != base::wide(device.e) {
-        return Suite::Denied(11);
+    let shared = sheet_codes::shared_fault(reference.e, &reference.codes, device.e, &device.codes);
+    if shared != 0 {
+        return Suite::Denied(shared);
     }
+    let e = base::wide(reference.e);
     let p = base::wide(reference.n);
     let q = base::wide(device.n);
     let total = p * q;

@@ -1,4 +1,4 @@
--- The walk over the nodes, a node at a time: what is left to do gives the whole answer.
+-- Where the nodes begin, and the walk over them, a node at a time: what is left to do gives the whole answer.
 use mathlib.Core.Path.{_≡_}
 use mathlib.Core.Bool.{Bool, true, false, not}
 use mathlib.Core.List.{List}
@@ -8,17 +8,27 @@ use native.Mathlib.Omega.{arith}
 use lib.ListN.{length}
 use borrow.Author.Tests.{lt-ltb, le-ltb, le-leb, lt-leb, eq-eqb, ne-eqb, not-true, not-false}
 use Rattle.sheet_spec.specs.Rules.{countOk}
-use Rattle.sheet_spec.specs.Spelling.{byte, nextAt}
+use Rattle.sheet_spec.specs.Spelling.{byte, nodesAt, nextAt}
 use Rattle.sheet_spec.specs.Refusals.{layoutFault}
+
+-- where the nodes begin: v is the version, x and y are E
+module _ (b : List ℕ) {v : ℕ} (p : v ≡ byte b 4) where
+  pub after-codes : {x y : ℕ} → v ≡ 2 → x ≡ byte b 5 → y ≡ x → 7 + y * 2 ≡ nodesAt b
+  unfolding nodesAt
+  after-codes h q r = rw (← p, eq-eqb v 2 h, r, q)
+
+  pub after-head : (v ≡ 2 → ⊥) → 7 ≡ nodesAt b
+  unfolding nodesAt
+  after-head h = rw (← p, ne-eqb v 2 h)
 
 -- v of n nodes are passed, the next begins at a place, and the nodes from there on give the answer r
 pub record Walking (b : List ℕ) (e n r v at : ℕ) : Type 0 where
   pub below : v ≤ n
-  pub near : at ≤ 7 + v * 766
+  pub near : at ≤ 517 + v * 766
   pub rest : layoutFault b e (n - v) at ≡ r
 
-pub sets-out : {b : List ℕ} {e n : ℕ} → Walking b e n (layoutFault b e n 7) 0 7
-sets-out = record { below = omega arith; near = omega arith; rest = rw sub-zero }
+pub sets-out : {b : List ℕ} {e n at : ℕ} → (at ≡ nodesAt b) × (at ≤ 517) → Walking b e n (layoutFault b e n (nodesAt b)) 0 at
+sets-out (p, h) = record { below = omega arith; near = omega arith; rest = rw (sub-zero, p) }
 
 module _ {b : List ℕ} {e n r v at : ℕ} (w : Walking b e n r v at) where
   -- the facts of each way out: x is the C of the node, t its test, to the place after the node

@@ -1,5 +1,5 @@
 -- After v rounds the first v rows are filled and the place is where node v begins.
-use mathlib.Core.Path.{_≡_, refl}
+use mathlib.Core.Path.{_≡_}
 use Prim.Native.Nat.{_+_, _-_, _*_, _≤_}
 use native.Mathlib.Omega.{arith}
 use native.Mathlib.Numerals.{add-one}
@@ -9,7 +9,7 @@ use Rattle.sheet_bytes.proofs.rows_of.Statement.{statement}
 use Rattle.sheet_bytes.proofs.rows_of.Tie as tie
 
 abbrev Inv-loop : tie.InvT-loop
-Inv-loop bytes e n rows₀ at₀ v₀ rows at v = (at ≤ 7 + v * 766) × (at ≡ startOf bytes e v) × Filling (rowOf bytes e n) unusedRow 32 v rows
+Inv-loop bytes e n rows₀ at₀ v₀ rows at v = (at ≤ 517 + v * 766) × (at ≡ startOf bytes e v) × Filling (rowOf bytes e n) unusedRow 32 v rows
 
 abbrev μ-loop : tie.MeasureT-loop
 μ-loop bytes e n rows₀ at₀ v₀ rows at v = 32 - v
@@ -17,9 +17,12 @@ abbrev μ-loop : tie.MeasureT-loop
 unused-row-requires : tie.Need-unused-row-requires Inv-loop μ-loop
 unused-row-requires c κs = tt
 
+nodes-at-requires : tie.Need-nodes-at-requires Inv-loop μ-loop
+nodes-at-requires c κs = tt
+
 loop-holds : tie.Need-loop-holds Inv-loop μ-loop
 unfolding startOf
-loop-holds c = (omega arith, refl, rw (c .unused-row .ensures) empty)
+loop-holds c = (omega arith, c .nodes-at .ensures .0, rw (c .before .unused-row .ensures) empty)
 
 row-of-requires : tie.Need-row-of-requires Inv-loop μ-loop
 row-of-requires c κs = (omega arith, omega arith, c .before .loop .inv .1)
@@ -53,6 +56,7 @@ rows-of-spec =
     Inv-loop
     μ-loop
     unused-row-requires
+    nodes-at-requires
     loop-holds
     row-of-requires
     mul-rows

@@ -19,6 +19,9 @@ cast-rows-of-2 c = omega arith
 rows-of-requires : tie.Need-rows-of-requires
 rows-of-requires c κs = omega arith
 
+codes-of-requires : tie.Need-codes-of-requires
+codes-of-requires c κs = tt
+
 returns : tie.Need-returns
 unfolding sheetOf
 returns c = cc
@@ -32,4 +35,5 @@ sheet-of-spec =
     cast-rows-of
     cast-rows-of-2
     rows-of-requires
+    codes-of-requires
     returns)

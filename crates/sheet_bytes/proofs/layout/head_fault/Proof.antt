@@ -12,8 +12,11 @@ returns c = search head-length
 byte-at-requires : tie.Need-byte-at-requires
 byte-at-requires c κs = tt
 
+version-ok-requires : tie.Need-version-ok-requires
+version-ok-requires c κs = tt
+
 returns-2 : tie.Need-returns-2
-returns-2 c = search (head-version, c .if2 .taken)
+returns-2 c = search head-version
 
 byte-at-requires-2 : tie.Need-byte-at-requires-2
 byte-at-requires-2 c κs = tt
@@ -37,6 +40,7 @@ head-fault-spec =
     length-ok-requires
     returns
     byte-at-requires
+    version-ok-requires
     returns-2
     byte-at-requires-2
     byte-at-requires-3

@@ -1,19 +1,23 @@
 -- After v rounds the walk over the nodes that are left gives the answer; each law is one way out of it.
 use Prim.Native.Nat.{_-_}
 use native.Mathlib.Omega.{arith}
+use Rattle.sheet_spec.specs.Spelling.{nodesAt}
 use Rattle.sheet_spec.specs.Refusals.{layoutFault}
 use Rattle.sheet_bytes.proofs.layout.Nodes.{Walking, sets-out, cut-short, count-wrong, cut-inside, walks-on, more-behind, all-passed}
 use Rattle.sheet_bytes.proofs.layout.layout_fault.Statement.{statement}
 use Rattle.sheet_bytes.proofs.layout.layout_fault.Tie as tie
 
 abbrev Inv-loop : tie.InvT-loop
-Inv-loop bytes e n width nodes at₀ v₀ at v = Walking bytes e n (layoutFault bytes e n 7) v at
+Inv-loop bytes e n width nodes at₀ v₀ at v = Walking bytes e n (layoutFault bytes e n (nodesAt bytes)) v at
 
 abbrev μ-loop : tie.MeasureT-loop
 μ-loop bytes e n width nodes at₀ v₀ at v = nodes - v
 
+nodes-at-requires : tie.Need-nodes-at-requires Inv-loop μ-loop
+nodes-at-requires c κs = tt
+
 loop-holds : tie.Need-loop-holds Inv-loop μ-loop
-loop-holds c = sets-out
+loop-holds c = sets-out (c .nodes-at .ensures)
 
 add-place : tie.Need-add-place Inv-loop μ-loop
 add-place c = omega arith
@@ -57,6 +61,7 @@ layout-fault-spec =
     (tie.spec
     Inv-loop
     μ-loop
+    nodes-at-requires
     loop-holds
     add-place
     returns
