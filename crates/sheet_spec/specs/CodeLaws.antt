@@ -1,6 +1,6 @@
--- Nothing to believe: laws. Codes play no part in a sheet beside 18 and 7: with other codes it gets the same refusal, as
--- far as neither codes are refused. So with the codes of version 1 an accepted sheet is accepted too. Crates above say
--- the same of verdicts and comparisons.
+-- Nothing to believe: laws. Codes play no part in a sheet beside 18 and 7: with other codes it gets the same refusal,
+-- as far as neither codes are refused. So with the codes of version 1 an accepted sheet is accepted too. Crates above
+-- say the same of verdicts and comparisons.
 use mathlib.Core.Path.{_≡_, refl, _∙_}
 use mathlib.Core.Logic.{_≢_}
 use mathlib.Core.Bool.{true, cond}
@@ -8,11 +8,12 @@ use mathlib.Core.List.{List}
 use Prim.Native.Nat.{ℕ, _+_, _≤_, _<_}
 use native.Mathlib.Omega.{arith}
 use lib.Dec.{ltb}
-use borrow.Author.Tests.{lt-ltb, le-ltb}
+use borrow.Author.Tests.{lt-ltb, le-ltb, ne-eqb}
 use Rattle.base.specs.Finds.{finds-none}
-use Rattle.base.specs.Table.{getD-upTo}
+use Rattle.base.specs.Table.{getD-upTo, upTo-ext}
 use Rattle.sheet_spec.specs.declared.Sheet.{Sheet}
 use Rattle.sheet_spec.specs.Kept.{codeAt, firstCodes, recoded, step}
+use Rattle.sheet_spec.specs.Spelling.{version, eventCount, codeOf, codesOf}
 use Rattle.sheet_spec.specs.Rules.{codesOk, countsOk, successorsOk, setsOk, blanksOk, codesBlank, reachedOk}
 use Rattle.sheet_spec.specs.Refusals.{sheetFault, Agree}
 use Rattle.sheet_spec.specs.Faults.{CodeTwice, GoodCodes}
@@ -49,6 +50,15 @@ first-good e h = ((λ w. w .4 (omega (arith, used (w .0) (w .2), used (w .1) (w 
 -- an accepted sheet is accepted with the codes of version 1
 pub plain-accepted : (s : Sheet) → sheetFault s ≡ 0 → sheetFault (recoded s (firstCodes (s .e))) ≡ 0
 plain-accepted s h = recoded-fault s (firstCodes (s .e)) (accepted-codes s h) (first-good (s .e) (check-sound s h .ranges .e-high)) ∙ h
+
+-- of two sheets alike but for codes the one, with the codes of the other, is the other
+pub recoded-is : (s t : Sheet) → s .rows ≡ t .rows → s .e ≡ t .e → s .n ≡ t .n → recoded s (t .codes) ≡ t
+recoded-is s t p q r = λ i. record { rows = p i; e = q i; n = r i; codes = t .codes }
+
+-- bytes of version 1 have the codes of version 1
+pub first-spelled : (b : List ℕ) → version b ≡ 1 → codesOf b ≡ firstCodes (eventCount b)
+unfolding codeOf
+first-spelled b v = upTo-ext (codeOf b) (λ i. cond (ltb i (eventCount b)) (i + 1) 0) 12 (λ i l. rw (ne-eqb (version b) 2 (λ p. omega arith)))
 
 -- a sheet agrees with itself
 pub agree-self : (s : Sheet) → Agree s s

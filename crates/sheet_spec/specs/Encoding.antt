@@ -1,6 +1,6 @@
 -- Nothing to believe: words for laws alone. The bytes of a sheet in version 1 (01, "A sheet") and in version 2 (02,
--- K1), as a recursion over the kept sheet. It knows nothing of reading: that reading undoes it, and nothing else, is the
--- law of EncodingLaws.
+-- K1), as a recursion over the kept sheet. It knows nothing of reading: that reading undoes it, and nothing else, is
+-- the law of EncodingLaws.
 use mathlib.Core.Path.{_≡_}
 use mathlib.Core.Logic.{_⊎_}
 use mathlib.Core.Bool.{cond}

@@ -96,8 +96,8 @@ Follow b rows rest = GoodRows rows × (drop (nodesAt b) b ≡ encodeRows (eventC
 abbrev pub ShortNode : ℕ → List ℕ → Type 0
 ShortNode e rest = (length rest ≤ e) ⊎ ((e < length rest) × (¬ BadCount (getD rest e 0)) × (length rest < e + 1 + getD rest e 0 * 2))
 
--- 4: after the codes come the rows of some nodes; these are fewer than N and the rest ends before its node does, or they
--- are N and bytes remain
+-- 4: after the codes come the rows of some nodes; these are fewer than N and the rest ends before its node does, or
+-- they are N and bytes remain
 abbrev pub CutFault : List ℕ → Type 0
 CutFault b =
     (rows : List Row) × (rest : List ℕ) × Follow b rows rest

@@ -1,6 +1,6 @@
 -- Nothing to believe: laws. The refusals of bytes: each number is given exactly if its fault is there and no earlier
--- one is (01, "Checks run in the order of the numbers, each over the whole sheet", 4 and 5 by position; 02, K1: 18 "after
--- the codes are known to be complete and before the nodes are walked").
+-- one is (01, "Checks run in the order of the numbers, each over the whole sheet", 4 and 5 by position; 02, K1: 18
+-- "after the codes are known to be complete and before the nodes are walked").
 use mathlib.Core.Path.{_≡_, refl, sym, _∙_}
 use mathlib.Core.Logic.{_⊎_, inl, inr, _≢_, _↔_, Iff·trans, Iff·and, Iff·rfl}
 use mathlib.Core.Bool.{_&&_, _||_}

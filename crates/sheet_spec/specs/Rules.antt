@@ -1,5 +1,6 @@
--- The rules of a sheet (01, "Who can cause a refusal"; 02, K1), and what two must share, each as a test that a program can run. What each test means,
--- with no test in it, is said in Faults; that the two agree, in RuleLaws. Refusals puts the tests in order.
+-- The rules of a sheet (01, "Who can cause a refusal"; 02, K1), and what two must share, each as a test that a program
+-- can run. What each test means, with no test in it, is said in Faults; that the two agree, in RuleLaws. Refusals puts
+-- the tests in order.
 use mathlib.Core.Bool.{Bool, not, _&&_, _||_, cond}
 use mathlib.Core.List.{List}
 use Prim.Native.Nat.{ℕ, _-_}
