@@ -35,7 +35,7 @@ pub enum Outcome {
 }
 
 /// The comparison given the lengths of the two lent lists, or the refusal: the
-/// reference's, the device's, 11, 12, 13.
+/// reference's, the device's, 11, 19, 12, 13.
 pub fn compare(
     reference: &Sheet,
     device: &Sheet,

@@ -16,6 +16,10 @@ pub enum Fault {
     VersionBeforeLength,
     /// 2: any version is accepted.
     VersionIgnored,
+    /// 2: version 2 is refused.
+    VersionTwoRefused,
+    /// 2: version 3 is read as version 2.
+    VersionThreeAccepted,
     /// 3 is looked at before 2.
     RangesBeforeVersion,
     /// 3: E 0 is accepted.
@@ -24,6 +28,26 @@ pub enum Fault {
     NodesThirtyThree,
     /// 3: E 13 is accepted.
     EventsThirteen,
+    /// The codes are looked at before 3.
+    CodesBeforeRanges,
+    /// 18 is looked for before the codes are known to be complete.
+    TwiceBeforeCut,
+    /// 18 is looked for after the walk over the nodes, in a kept sheet after 5.
+    TwiceAfterNodes,
+    /// 18: a code given twice is accepted.
+    TwiceIgnored,
+    /// 18 is looked for over all twelve places.
+    TwiceInAllPlaces,
+    /// 18 is looked for between neighbours only.
+    TwiceNeighbours,
+    /// 18: the code of the last event is not looked at.
+    TwiceWithoutLast,
+    /// 18: only the low bytes of the codes are looked at.
+    TwiceLowByte,
+    /// 18: a code 0 is refused.
+    CodeZeroRefused,
+    /// The nodes begin at byte 7 in version 2 too.
+    NodesAtSeven,
     /// 4: bytes after the last node are accepted.
     RestIgnored,
     /// 4 before 5: the whole node must fit before its C is judged.
@@ -64,6 +88,10 @@ pub enum Fault {
     UnusedSetIgnored,
     /// 7, kept: a wrong C of an unused node is accepted.
     UnusedCountIgnored,
+    /// 7, kept: a wrong unused code is accepted.
+    UnusedCodeIgnored,
+    /// Kept: a wrong unused code counts as 18.
+    UnusedCodeEighteen,
     /// Kept: a wrong unused successor counts as 6.
     UnusedSuccessorSix,
     /// Kept: a C over 16 of an unused node counts as 5.
@@ -78,19 +106,39 @@ pub enum Fault {
     EventsNodesExchanged,
     /// A set is read with its low byte first.
     SetsLowByteFirst,
+    /// A code is read with its low byte first.
+    CodesLowByteFirst,
+    /// The codes of a version 1 sheet are counted from 0.
+    FirstCodesFromZero,
+    /// A version 1 sheet has codes in all twelve places.
+    FirstCodesInAllPlaces,
+    /// A version 2 sheet gets the codes of version 1.
+    CodesNotKept,
 }
 
 impl Fault {
     /// Every planted fault.
-    pub const ALL: [Fault; 35] = [
+    pub const ALL: [Fault; 53] = [
         Fault::LengthWithoutFour,
         Fault::LengthTwoBytes,
         Fault::VersionBeforeLength,
         Fault::VersionIgnored,
+        Fault::VersionTwoRefused,
+        Fault::VersionThreeAccepted,
         Fault::RangesBeforeVersion,
         Fault::EventsZero,
         Fault::NodesThirtyThree,
         Fault::EventsThirteen,
+        Fault::CodesBeforeRanges,
+        Fault::TwiceBeforeCut,
+        Fault::TwiceAfterNodes,
+        Fault::TwiceIgnored,
+        Fault::TwiceInAllPlaces,
+        Fault::TwiceNeighbours,
+        Fault::TwiceWithoutLast,
+        Fault::TwiceLowByte,
+        Fault::CodeZeroRefused,
+        Fault::NodesAtSeven,
         Fault::RestIgnored,
         Fault::FitBeforeCount,
         Fault::FourFiveSwapped,
@@ -111,6 +159,8 @@ impl Fault {
         Fault::UnusedSuccessorIgnored,
         Fault::UnusedSetIgnored,
         Fault::UnusedCountIgnored,
+        Fault::UnusedCodeIgnored,
+        Fault::UnusedCodeEighteen,
         Fault::UnusedSuccessorSix,
         Fault::UnusedCountFive,
         Fault::RefusedNotZero,
@@ -118,6 +168,10 @@ impl Fault {
         Fault::UnusedEventKeptZero,
         Fault::EventsNodesExchanged,
         Fault::SetsLowByteFirst,
+        Fault::CodesLowByteFirst,
+        Fault::FirstCodesFromZero,
+        Fault::FirstCodesInAllPlaces,
+        Fault::CodesNotKept,
     ];
 
     /// Whether the fault can change the answer of a check.
@@ -129,7 +183,11 @@ impl Fault {
                 | Fault::LengthTwoBytes
                 | Fault::VersionBeforeLength
                 | Fault::VersionIgnored
+                | Fault::VersionTwoRefused
+                | Fault::VersionThreeAccepted
                 | Fault::RangesBeforeVersion
+                | Fault::TwiceBeforeCut
+                | Fault::NodesAtSeven
                 | Fault::RestIgnored
                 | Fault::FitBeforeCount
                 | Fault::RefusedNotZero
@@ -137,6 +195,10 @@ impl Fault {
                 | Fault::UnusedEventKeptZero
                 | Fault::EventsNodesExchanged
                 | Fault::SetsLowByteFirst
+                | Fault::CodesLowByteFirst
+                | Fault::FirstCodesFromZero
+                | Fault::FirstCodesInAllPlaces
+                | Fault::CodesNotKept
         )
     }
 
@@ -149,6 +211,8 @@ impl Fault {
                 | Fault::UnusedSuccessorIgnored
                 | Fault::UnusedSetIgnored
                 | Fault::UnusedCountIgnored
+                | Fault::UnusedCodeIgnored
+                | Fault::UnusedCodeEighteen
                 | Fault::UnusedSuccessorSix
                 | Fault::UnusedCountFive
         )
@@ -165,9 +229,9 @@ pub struct ReadAnswer {
 /// Reads bytes with a fault planted.
 pub fn read_with(fault: Fault, bytes: &[u8]) -> ReadAnswer {
     match read_nodes(fault, bytes) {
-        Ok((e, nodes)) => ReadAnswer {
+        Ok(found) => ReadAnswer {
             number: 0,
-            sheet: keep(fault, e, &nodes),
+            sheet: keep(fault, &found),
         },
         Err(number) => ReadAnswer {
             number: swapped(fault, number),
@@ -176,7 +240,7 @@ pub fn read_with(fault: Fault, bytes: &[u8]) -> ReadAnswer {
     }
 }
 
-/// Checks a kept sheet with a fault planted: 0, or 3, 5, 6, 7 or 8.
+/// Checks a kept sheet with a fault planted: 0, or 3, 18, 5, 6, 7 or 8.
 pub fn check_with(fault: Fault, sheet: &Sheet) -> u8 {
     match check_kept(fault, sheet) {
         Ok(()) => 0,

@@ -2,7 +2,7 @@
 //! faults that can be planted in it.
 
 use crate::faults::Fault;
-use crate::sheet::{Row, Sheet, MAX_EVENTS, MAX_NODES, NO_NODE};
+use crate::sheet::{first_codes, Row, Sheet, MAX_EVENTS, MAX_NODES, NO_NODE};
 
 /// A node as it was found, with no bound on its parts.
 pub struct Node {
@@ -10,9 +10,17 @@ pub struct Node {
     sets: Vec<u16>,
 }
 
-/// All checks of a reading in the order of their numbers.
-pub fn read_nodes(fault: Fault, bytes: &[u8]) -> Result<(u8, Vec<Node>), u8> {
-    if fault == Fault::VersionBeforeLength && bytes.get(4).is_some_and(|&version| version != 1) {
+/// What was read: E, the codes of the events, and the nodes.
+pub struct Found {
+    e: u8,
+    codes: Vec<u16>,
+    nodes: Vec<Node>,
+}
+
+/// All checks of a reading in their order: 1 to 3, the codes, the nodes, 6 to 8.
+pub fn read_nodes(fault: Fault, bytes: &[u8]) -> Result<Found, u8> {
+    let unknown = |&version: &u8| !version_known(fault, version);
+    if fault == Fault::VersionBeforeLength && bytes.get(4).is_some_and(unknown) {
         return Err(2);
     }
     if bytes.len() < 7 {
@@ -27,24 +35,45 @@ pub fn read_nodes(fault: Fault, bytes: &[u8]) -> Result<(u8, Vec<Node>), u8> {
     if whole != bytes.len() as u64 {
         return Err(1);
     }
-    let (e, n) = (bytes[5], bytes[6]);
+    let (version, e, n) = (bytes[4], bytes[5], bytes[6]);
     if fault == Fault::RangesBeforeVersion {
         check_ranges(fault, e, n)?;
     }
-    if bytes[4] != 1 && fault != Fault::VersionIgnored {
+    if !version_known(fault, version) {
         return Err(2);
     }
+    if fault == Fault::CodesBeforeRanges {
+        check_codes(fault, &codes_of(fault, version, e, &bytes[7..])?)?;
+    }
     check_ranges(fault, e, n)?;
-    let nodes = walk_nodes(fault, &bytes[7..], e, n)?;
+    let codes = codes_of(fault, version, e, &bytes[7..])?;
+    if fault != Fault::TwiceAfterNodes {
+        check_codes(fault, &codes)?;
+    }
+    let nodes = walk_nodes(fault, &bytes[nodes_at(fault, version, e)..], e, n)?;
+    if fault == Fault::TwiceAfterNodes {
+        check_codes(fault, &codes)?;
+    }
     check_successors(fault, &nodes)?;
     check_sets_and_reach(fault, &nodes, false)?;
-    Ok((e, nodes))
+    Ok(Found { e, codes, nodes })
 }
 
-/// All checks of a kept sheet in the order of their numbers. The rows that are not
-/// used, and the unused places of the others, take part in 7 only.
+/// All checks of a kept sheet in their order: 3, 18, 5 to 8. The rows that are not used,
+/// and the unused places of the others, take part in 7 only; so do unused codes.
 pub fn check_kept(fault: Fault, sheet: &Sheet) -> Result<(), u8> {
+    let (codes, unused_codes) = sheet.codes.split_at((sheet.e as usize).min(MAX_EVENTS));
+    if fault == Fault::CodesBeforeRanges {
+        check_codes(fault, codes)?;
+    }
     check_ranges(fault, sheet.e, sheet.n)?;
+    if fault != Fault::TwiceAfterNodes {
+        check_codes(fault, codes)?;
+    }
+    let wrong_code = unused_codes.iter().any(|&code| code != 0);
+    if fault == Fault::UnusedCodeEighteen && wrong_code {
+        return Err(18);
+    }
     let (used, unused) = sheet.rows.split_at((sheet.n as usize).min(MAX_NODES));
     let nodes: Vec<Node> = used.iter().map(|row| used_part(row, sheet.e)).collect();
     if fault == Fault::SuccessorsBeforeCounts {
@@ -55,6 +84,9 @@ pub fn check_kept(fault: Fault, sheet: &Sheet) -> Result<(), u8> {
     }
     if fault == Fault::UnusedCountFive && unused.iter().any(|row| row.c > 16) {
         return Err(5);
+    }
+    if fault == Fault::TwiceAfterNodes {
+        check_codes(fault, codes)?;
     }
     check_successors(fault, &nodes)?;
     let wrong = |row: &Row, e: usize| row.succ[e..].iter().any(|&next| next != NO_NODE);
@@ -69,7 +101,8 @@ pub fn check_kept(fault: Fault, sheet: &Sheet) -> Result<(), u8> {
     let wrong_count = unused.iter().any(|row| row.c != 0);
     let wrong_place = wrong_successor && fault != Fault::UnusedSuccessorIgnored
         || wrong_set && fault != Fault::UnusedSetIgnored
-        || wrong_count && fault != Fault::UnusedCountIgnored;
+        || wrong_count && fault != Fault::UnusedCountIgnored
+        || wrong_code && fault != Fault::UnusedCodeIgnored;
     check_sets_and_reach(fault, &nodes, wrong_place)
 }
 
@@ -95,6 +128,79 @@ fn check_ranges(fault: Fault, e: u8, n: u8) -> Result<(), u8> {
         Ok(())
     } else {
         Err(3)
+    }
+}
+
+/// 2: the version is 1 or 2.
+fn version_known(fault: Fault, version: u8) -> bool {
+    match fault {
+        Fault::VersionIgnored => true,
+        Fault::VersionTwoRefused => version == 1,
+        Fault::VersionThreeAccepted => (1..=3).contains(&version),
+        _ => version == 1 || version == 2,
+    }
+}
+
+/// Whether the bytes of a version have codes.
+fn has_codes(fault: Fault, version: u8) -> bool {
+    version == 2 || fault == Fault::VersionThreeAccepted && version == 3
+}
+
+/// Where the nodes begin.
+fn nodes_at(fault: Fault, version: u8, e: u8) -> usize {
+    match fault {
+        Fault::NodesAtSeven => 7,
+        _ if has_codes(fault, version) => 7 + 2 * e as usize,
+        _ => 7,
+    }
+}
+
+/// The codes of the E events from the bytes after N, or i + 1 for event i where the version
+/// has none. 4: they are cut off.
+fn codes_of(fault: Fault, version: u8, e: u8, bytes: &[u8]) -> Result<Vec<u16>, u8> {
+    if !has_codes(fault, version) {
+        return Ok(match fault {
+            Fault::FirstCodesFromZero => (0..u16::from(e)).collect(),
+            Fault::FirstCodesInAllPlaces => first_codes(MAX_EVENTS as u8),
+            _ => first_codes(e),
+        });
+    }
+    let word = |b: &[u8]| match fault {
+        Fault::CodesLowByteFirst => u16::from_le_bytes([b[0], b[1]]),
+        _ => u16::from_be_bytes([b[0], b[1]]),
+    };
+    let codes: Vec<u16> = bytes.chunks_exact(2).take(e as usize).map(word).collect();
+    if fault == Fault::TwiceBeforeCut {
+        check_codes(fault, &codes)?;
+    }
+    if codes.len() < e as usize {
+        return Err(4);
+    }
+    Ok(codes)
+}
+
+/// 18: two different events have one code.
+fn check_codes(fault: Fault, codes: &[u16]) -> Result<(), u8> {
+    let looked = match fault {
+        Fault::TwiceIgnored => &[],
+        Fault::TwiceWithoutLast => &codes[..codes.len().saturating_sub(1)],
+        _ => codes,
+    };
+    let mut looked = looked.to_vec();
+    if fault == Fault::TwiceInAllPlaces {
+        looked.resize(looked.len().max(MAX_EVENTS), 0);
+    }
+    let same = |i: usize, j: usize| match fault {
+        Fault::TwiceNeighbours => i + 1 == j && looked[i] == looked[j],
+        Fault::TwiceLowByte => looked[i] % 256 == looked[j] % 256,
+        _ => looked[i] == looked[j],
+    };
+    let twice = (0..looked.len()).any(|j| (0..j).any(|i| same(i, j)));
+    let zero = fault == Fault::CodeZeroRefused && codes.contains(&0);
+    if twice || zero {
+        Err(18)
+    } else {
+        Ok(())
     }
 }
 
@@ -239,13 +345,17 @@ fn used_part(row: &Row, e: u8) -> Node {
     }
 }
 
-/// The kept form of accepted nodes.
-pub fn keep(fault: Fault, e: u8, nodes: &[Node]) -> Sheet {
+/// The kept form of what was accepted.
+pub fn keep(fault: Fault, found: &Found) -> Sheet {
+    let (e, nodes) = (found.e, &found.nodes);
     let pairs: Vec<(&[u8], &[u16])> = nodes
         .iter()
         .map(|node| (&node.succ[..], &node.sets[..]))
         .collect();
     let mut sheet = Sheet::build(e, &pairs);
+    if fault != Fault::CodesNotKept {
+        sheet = sheet.with_codes(&found.codes);
+    }
     if fault == Fault::UnusedKeptZero {
         for row in sheet.rows.iter_mut().skip(nodes.len()) {
             row.succ = [0; MAX_EVENTS];

@@ -9,7 +9,7 @@ pub const MAX_NODES: usize = 32;
 /// The largest number of acceptances of one node.
 pub const MAX_SETS: usize = 16;
 /// The length of the largest sheet in bytes.
-pub const MAX_BYTES: usize = 1_447;
+pub const MAX_BYTES: usize = 1_471;
 /// A successor place without a successor.
 pub const NO_NODE: u8 = 255;
 
@@ -22,13 +22,15 @@ pub struct Row {
     pub c: u8,
 }
 
-/// A kept sheet: 32 rows, the number of events and the number of nodes.
+/// A kept sheet: 32 rows, the number of events, the number of nodes, and the catalogue
+/// code of each event.
 #[repr(C)]
 #[derive(Clone, Copy, PartialEq, Eq, Debug)]
 pub struct Sheet {
     pub rows: [Row; MAX_NODES],
     pub e: u8,
     pub n: u8,
+    pub codes: [u16; MAX_EVENTS],
 }
 
 impl Row {
@@ -75,6 +77,7 @@ impl Sheet {
         rows: [Row::ZERO; MAX_NODES],
         e: 0,
         n: 0,
+        codes: [0; MAX_EVENTS],
     };
 
     /// The row of a node, copied out.
@@ -92,13 +95,28 @@ impl Sheet {
         ((1u32 << self.e) - 1) as u16
     }
 
-    /// A kept sheet from its nodes, each with its successors and its sets.
-    /// Nothing is checked here beyond what the places can hold.
+    /// The codes of the E events, as far as there are places.
+    pub fn used_codes(&self) -> &[u16] {
+        &self.codes[..(self.e as usize).min(MAX_EVENTS)]
+    }
+
+    /// The same sheet with these codes in front and 0 in the other places.
+    pub fn with_codes(mut self, codes: &[u16]) -> Sheet {
+        self.codes = [0; MAX_EVENTS];
+        for (place, &code) in self.codes.iter_mut().zip(codes) {
+            *place = code;
+        }
+        self
+    }
+
+    /// A kept sheet from its nodes, each with its successors and its sets; its codes are
+    /// those of version 1. Nothing is checked here beyond what the places can hold.
     pub fn build<S: AsRef<[u8]>, A: AsRef<[u16]>>(e: u8, nodes: &[(S, A)]) -> Sheet {
         let mut sheet = Sheet {
             rows: [Row::UNUSED; MAX_NODES],
             e,
             n: nodes.len() as u8,
+            codes: [0; MAX_EVENTS],
         };
         for (row, (succ, sets)) in sheet.rows.iter_mut().zip(nodes) {
             let (succ, sets) = (succ.as_ref(), sets.as_ref());
@@ -110,11 +128,26 @@ impl Sheet {
             }
             row.c = sets.len() as u8;
         }
-        sheet
+        sheet.with_codes(&first_codes(e))
     }
 }
 
-/// Reads a sheet: the kept sheet, or the number of the refusal (1 to 8).
+/// The codes of a version 1 sheet of `e` events: i + 1 for event i.
+pub fn first_codes(e: u8) -> Vec<u16> {
+    (0..u16::from(e)).map(|event| event + 1).collect()
+}
+
+/// Whether the codes of a sheet are those of version 1.
+pub fn has_first_codes(sheet: &Sheet) -> bool {
+    sheet.used_codes() == first_codes(sheet.e)
+}
+
+/// Whether two sheets of equal E give each event the same code.
+pub fn codes_agree(one: &Sheet, other: &Sheet) -> bool {
+    (0..one.e as usize).all(|event| one.codes[event] == other.codes[event])
+}
+
+/// Reads a sheet: the kept sheet, or the number of the refusal (1 to 8, 18).
 pub fn read(bytes: &[u8]) -> Result<Sheet, u8> {
     let answer = read_with(Fault::None, bytes);
     match answer.number {
@@ -123,7 +156,7 @@ pub fn read(bytes: &[u8]) -> Result<Sheet, u8> {
     }
 }
 
-/// Checks a kept sheet with any content again: 0, or the refusal 3, 5, 6, 7 or 8.
+/// Checks a kept sheet with any content again: 0, or the refusal 3, 18, 5, 6, 7 or 8.
 pub fn check(sheet: &Sheet) -> u8 {
     check_with(Fault::None, sheet)
 }
@@ -136,12 +169,18 @@ pub fn accept(sheet: &Sheet) -> Result<(), u8> {
     }
 }
 
-/// The bytes of a sheet. Reading the bytes of an accepted sheet gives it back.
+/// The bytes of a sheet in version 1 or 2. Reading the bytes of an accepted sheet gives it
+/// back in version 2, and in version 1 if it has the codes of that version.
 /// Of a sheet that is not accepted the heads are written as they are, and as many
-/// nodes, successors and sets as there are places.
-pub fn encode(sheet: &Sheet) -> Vec<u8> {
-    let mut bytes = vec![0, 0, 0, 0, 1, sheet.e, sheet.n];
+/// codes, nodes, successors and sets as there are places.
+pub fn encode(version: u8, sheet: &Sheet) -> Vec<u8> {
+    let mut bytes = vec![0, 0, 0, 0, version, sheet.e, sheet.n];
     let events = (sheet.e as usize).min(MAX_EVENTS);
+    if version == 2 {
+        for code in sheet.used_codes() {
+            bytes.extend_from_slice(&code.to_be_bytes());
+        }
+    }
     for row in sheet.rows.iter().take(sheet.n as usize) {
         bytes.extend_from_slice(&row.succ[..events]);
         bytes.push(row.c);

@@ -9,7 +9,7 @@
 //! depends on it, so each of these endings belongs to a whole run with that h.
 
 use crate::probes::probes;
-use crate::sheet::{accept, after, Row, Sheet, MAX_NODES};
+use crate::sheet::{accept, after, codes_agree, Row, Sheet, MAX_NODES};
 use crate::tests::{advance, last_offer, test_number, Answer, Report, Run};
 
 /// The verdict on a test.
@@ -36,7 +36,7 @@ struct Play<'a> {
     lists: Vec<Vec<u16>>,
 }
 
-/// The verdict on test k, or the refusal: the reference's, the device's, 11, 14.
+/// The verdict on test k, or the refusal: the reference's, the device's, 11, 19, 14.
 pub fn verdict(reference: &Sheet, device: &Sheet, k: u16, trace_only: bool) -> Result<Verdict, u8> {
     admit_pair(reference, device)?;
     test_number(k)?;
@@ -94,12 +94,15 @@ pub fn verdicts(
     Ok(found)
 }
 
-/// The checks on two sheets handed together: the reference, the device, 11.
+/// The checks on two sheets handed together: the reference, the device, 11, 19.
 pub fn admit_pair(reference: &Sheet, device: &Sheet) -> Result<(), u8> {
     accept(reference)?;
     accept(device)?;
     if reference.e != device.e {
         return Err(11);
+    }
+    if !codes_agree(reference, device) {
+        return Err(19);
     }
     Ok(())
 }

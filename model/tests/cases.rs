@@ -86,7 +86,7 @@ fn comparison_cases() {
 fn case_sheets_refine_themselves() {
     for sheet in case_sheets() {
         assert_eq!(check(&sheet), 0);
-        assert_eq!(read(&encode(&sheet)), Ok(sheet));
+        assert_eq!(read(&encode(1, &sheet)), Ok(sheet));
         for trace_only in [false, true] {
             let outcome = compared(&sheet, &sheet, trace_only);
             assert!(matches!(outcome, Outcome::Refines { .. }));
@@ -111,17 +111,14 @@ fn range_cases() {
     let level = |size: u32| (0..1u16 << 12).filter(move |set| set.count_ones() == size);
     for (count, expected) in [(16, 0), (17, 5), (1, 0)] {
         let sets: Vec<u16> = level(6).take(count).collect();
-        let raw = model::random::Raw {
-            e: 12,
-            nodes: vec![(vec![0; 12], sets)],
-        };
+        let raw = model::random::Raw::new(12, vec![(vec![0; 12], sets)]);
         assert_eq!(read(&raw.bytes()).err().unwrap_or(0), expected);
         assert_eq!(check(&raw.keep()), expected);
     }
 }
 
 #[test]
-fn the_largest_sheet_has_1447_bytes() {
+fn the_largest_sheet_has_1471_bytes() {
     let sets: Vec<u16> = (0..1u16 << 12)
         .filter(|set| set.count_ones() == 6)
         .take(16)
@@ -130,9 +127,13 @@ fn the_largest_sheet_has_1447_bytes() {
         .map(|node| ([(node + 1) % 32; 12], sets.clone()))
         .collect();
     let sheet = Sheet::build(12, &nodes);
-    let bytes = encode(&sheet);
-    assert_eq!(bytes.len(), MAX_BYTES);
+    let bytes = encode(2, &sheet);
+    assert_eq!((bytes.len(), MAX_BYTES), (1_471, 1_471));
+    assert_eq!(encode(1, &sheet).len(), 1_447);
     assert_eq!(read(&bytes), Ok(sheet));
+    let mut more = [bytes, vec![0]].concat();
+    more[3] += 1;
+    assert_eq!(read(&more), Err(4));
     assert_eq!(
         compared(&sheet, &sheet, false),
         Outcome::Refines { cleared: 32 }
@@ -229,7 +230,7 @@ fn final_content_of_lists() {
 
 #[test]
 fn program_texts() {
-    let bytes = |sheets: [Sheet; 2]| [encode(&sheets[0]), encode(&sheets[1])].concat();
+    let bytes = |sheets: [Sheet; 2]| [encode(1, &sheets[0]), encode(1, &sheets[1])].concat();
     let (reference, device) = stray_pair();
     let heads = "reference 1 nodes 2 events\ndevice 1 nodes 2 events\n";
     let stray = format!("{heads}violates after 0 cleared 0\ntrace\nstray 1\n");
@@ -241,9 +242,9 @@ fn program_texts() {
     for short in [&b""[..], &[0], &[0, 0, 0], &[0, 0, 0, 1], &[255; 9]] {
         assert_eq!(output(short), "reference refused 1\n");
     }
-    assert_eq!(output(&[0, 0, 0, 3, 2, 1, 1]), "reference refused 2\n");
+    assert_eq!(output(&[0, 0, 0, 3, 3, 1, 1]), "reference refused 2\n");
     let alone = "reference 1 nodes 2 events\ndevice refused 1\n";
-    assert_eq!(output(&encode(&reference)), alone);
+    assert_eq!(output(&encode(1, &reference)), alone);
     let mut more = bytes([reference, reference]);
     more.push(0);
     assert_eq!(output(&more), alone);
@@ -251,7 +252,7 @@ fn program_texts() {
 
 #[test]
 fn input_beyond_4096_bytes_is_absent() {
-    let good = encode(&stray_pair().0);
+    let good = encode(1, &stray_pair().0);
     let fill = 4_096 - good.len() - 4;
     let mut bytes = good.clone();
     bytes.extend_from_slice(&(fill as u32).to_be_bytes());

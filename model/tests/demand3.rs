@@ -194,7 +194,7 @@ fn random_small_pairs() {
             0 => random_raw(&mut rng, e, q),
             _ => small_device(&mut rng, &raw),
         };
-        let (reference, device) = (raw.keep(), device.keep());
+        let (reference, device) = (raw.keep(), device.keep().with_codes(&raw.codes));
         for trace_only in [false, true] {
             check_small(&reference, &device, trace_only, &mut distances);
         }

@@ -25,7 +25,7 @@ fn random_sheets_are_accepted() {
     for _ in 0..6_000 {
         let sheet = random_sheet(&mut rng);
         assert_eq!(check(&sheet), 0);
-        assert_eq!(read(&encode(&sheet)), Ok(sheet));
+        assert_eq!(read(&spelled(&mut rng, &sheet)), Ok(sheet));
         large += usize::from(sheet.n >= 16);
         sizes[sheet.e as usize][sheet.n as usize] = true;
         most = most.max(sheet.rows.iter().map(|row| row.c).max().unwrap_or(0));
@@ -42,7 +42,7 @@ fn full_sheets_are_accepted_and_reach_the_largest() {
     let mut largest = 0;
     for _ in 0..400 {
         let sheet = full_sheet(&mut rng);
-        let bytes = encode(&sheet);
+        let bytes = encode(2, &sheet);
         assert_eq!(read(&bytes), Ok(sheet));
         assert!(sheet.rows[..sheet.n as usize].iter().all(|row| row.c == 16));
         largest += usize::from(bytes.len() == MAX_BYTES);
@@ -75,7 +75,7 @@ fn kept_sheets_hit_their_aim() {
 #[test]
 fn noise_gets_far() {
     let mut rng = Rng::new(34);
-    let (mut read_numbers, mut kept_numbers) = ([0; 9], [0; 9]);
+    let (mut read_numbers, mut kept_numbers) = ([0; 19], [0; 19]);
     for _ in 0..20_000 {
         let bytes = noise_bytes(&mut rng);
         read_numbers[read(&bytes).err().unwrap_or(0) as usize] += 1;
@@ -84,17 +84,9 @@ fn noise_gets_far() {
         kept_numbers[check(&kept_noise(&mut rng)) as usize] += 1;
         kept_numbers[check(&kept_twice(&mut rng)) as usize] += 1;
     }
-    assert!(
-        read_numbers.iter().all(|&count| count > 0),
-        "{read_numbers:?}"
-    );
-    let seen: Vec<usize> = (0..9).filter(|&i| kept_numbers[i] > 0).collect();
-    assert!(
-        [0, 3, 5, 6, 7, 8]
-            .iter()
-            .all(|number| seen.contains(number)),
-        "{kept_numbers:?}"
-    );
+    let seen = |numbers: &[u32]| (0..19).filter(|&i| numbers[i] > 0).collect::<Vec<_>>();
+    assert_eq!(seen(&read_numbers), [0, 1, 2, 3, 4, 5, 6, 7, 8, 18]);
+    assert_eq!(seen(&kept_numbers), [0, 3, 5, 6, 7, 8, 18]);
 }
 
 #[test]
@@ -128,7 +120,7 @@ fn drawn_devices_refine_without_a_plant() {
         );
         let (reference, device) = pair(&mut rng);
         assert_eq!((check(&reference), check(&device)), (0, 0));
-        assert_eq!(reference.e, device.e);
+        assert_eq!((reference.e, reference.codes), (device.e, device.codes));
     }
 }
 
@@ -160,12 +152,13 @@ fn program_inputs_reach_every_text() {
             seen.insert(last.to_string());
         }
     }
-    for number in 1..=8 {
+    for number in AIMS_READ {
         assert!(seen.contains(&format!("reference refused {number}")));
         assert!(seen.contains(&format!("device refused {number}")));
     }
     for text in [
         "comparison refused 11",
+        "comparison refused 19",
         "stray",
         "refused by",
         "refines cleared",
@@ -181,7 +174,7 @@ fn sample(rng: &mut Rng) -> (Vec<u8>, Sheet) {
     match rng.below(8) {
         0 => {
             let sheet = random_sheet(rng);
-            (encode(&sheet), sheet)
+            (spelled(rng, &sheet), sheet)
         }
         1 => (damaged_twice(rng), kept_noise(rng)),
         2 => (noise_bytes(rng), kept_twice(rng)),
@@ -193,7 +186,7 @@ fn sample(rng: &mut Rng) -> (Vec<u8>, Sheet) {
 #[test]
 fn every_planted_fault_is_noticed() {
     let mut rng = Rng::new(36);
-    let samples: Vec<(Vec<u8>, Sheet)> = (0..6_000).map(|_| sample(&mut rng)).collect();
+    let samples: Vec<(Vec<u8>, Sheet)> = (0..9_000).map(|_| sample(&mut rng)).collect();
     for fault in Fault::ALL {
         let in_read = samples
             .iter()

@@ -1,13 +1,14 @@
 //! The variants in which faults are planted answer as the plain model does where no fault
-//! is planted, and each fault of a comparison shows on some input. The random comparison
-//! with the library looks for the faults of every call.
+//! is planted, and each fault of a verdict, of all verdicts, of a comparison and of a text shows
+//! on some input. The random comparison with the library looks for the faults of every call.
 
 use model::comparison::{compare_into, Outcome, MAX_WORDS};
 use model::examples::program_pair;
-use model::numbers::{listed, Record};
+use model::numbers::{judged, listed, Record, Suited};
 use model::planted::comparisons::{compare_with, CompareFault};
 use model::planted::probes::{fill_with, ProbeFault};
 use model::planted::runs::{open_with, step_with, RunFault};
+use model::planted::suites::{suite_with, SuiteFault};
 use model::planted::text;
 use model::planted::text::compare::TextFault;
 use model::planted::text::live::LiveFault;
@@ -20,7 +21,7 @@ use model::random::*;
 use model::sheet::{check, Sheet};
 use model::tests::{open, step};
 use model::text::{compare, live, probe_list, show, suite};
-use model::verdict::verdict;
+use model::verdict::{verdict, verdicts};
 
 #[test]
 fn no_fault_in_probes() {
@@ -61,7 +62,7 @@ fn no_fault_in_runs() {
     }
 }
 
-/// A pair; in some rounds a sheet of it is refused, or both are, or it has other events.
+/// A pair; in some rounds a sheet of it is refused, or both are, or it has other events or codes.
 fn two_sheets(rng: &mut Rng, round: usize) -> (Sheet, Sheet) {
     let (reference, device) = match round % 4 {
         0 => deep_pair(rng),
@@ -73,6 +74,7 @@ fn two_sheets(rng: &mut Rng, round: usize) -> (Sheet, Sheet) {
         6 => (kept_twice(rng), device),
         9 => (reference, kept_twice(rng)),
         12 => (reference, random_sheet(rng)),
+        2 | 15 => (reference, recoded(rng, &device)),
         _ => (reference, device),
     }
 }
@@ -118,6 +120,61 @@ fn no_fault_in_verdicts_and_comparisons() {
 }
 
 #[test]
+fn no_fault_in_all_verdicts() {
+    let mut rng = Rng::new(89);
+    for round in 0..400 {
+        let (reference, device) = two_sheets(&mut rng, round);
+        let traces = rng.one_in(2);
+        let tests = u16::from(reference.n) * u16::from(device.n);
+        let mut list = vec![0; tests.into()];
+        let answer = suite_with(SuiteFault::None, &reference, &device, traces, &mut list);
+        match verdicts(&reference, &device, tests, traces) {
+            Ok(all) => {
+                let kinds: Vec<u8> = all.iter().map(|&one| judged(Ok(one)).kind).collect();
+                let (refusal, count) = (0, tests);
+                assert_eq!((answer, list), (Suited { refusal, count }, kinds));
+            }
+            Err(refusal) => assert_eq!(answer, Suited { refusal, count: 0 }),
+        }
+    }
+}
+
+#[test]
+fn every_fault_of_a_verdict_shows() {
+    let mut rng = Rng::new(94);
+    let mut hidden = VerdictFault::ALL.to_vec();
+    for round in 0..4_000 {
+        let (reference, device) = two_sheets(&mut rng, round);
+        let traces = rng.one_in(3);
+        let k = rng.pick(&[0, 1, 2, 3, 10, 40, 100, 1_024]);
+        let played = |fault| verdict_with(fault, &reference, &device, k, traces);
+        let plain = played(VerdictFault::None);
+        hidden.retain(|&fault| played(fault) == plain);
+    }
+    assert_eq!(hidden, []);
+}
+
+#[test]
+fn every_fault_of_all_verdicts_shows() {
+    let mut rng = Rng::new(95);
+    let mut hidden = SuiteFault::ALL.to_vec();
+    for round in 0..600 {
+        let (reference, device) = two_sheets(&mut rng, round);
+        let traces = rng.one_in(3);
+        let tests = usize::from(reference.n) * usize::from(device.n);
+        let lent: Vec<u8> = vec![7; length_around(&mut rng, tests)];
+        let played = |fault| {
+            let mut list = lent.clone();
+            let answer = suite_with(fault, &reference, &device, traces, &mut list);
+            (answer, list)
+        };
+        let plain = played(SuiteFault::None);
+        hidden.retain(|&fault| played(fault) == plain);
+    }
+    assert_eq!(hidden, []);
+}
+
+#[test]
 fn every_fault_of_a_comparison_shows() {
     let mut rng = Rng::new(86);
     let mut hidden = CompareFault::ALL.to_vec();
@@ -158,27 +215,45 @@ fn three_words_a_pair_show() {
 }
 
 #[test]
-fn no_fault_in_the_texts_of_two_sheets() {
+fn every_fault_of_the_texts_of_two_sheets_shows() {
     let mut rng = Rng::new(84);
-    for _ in 0..600 {
-        let input = program_input(&mut rng);
-        let planted = text::compare::output_with(TextFault::None, &input);
-        assert_eq!(compare::output(&input), planted);
+    let mut hidden = TextFault::ALL.to_vec();
+    let mut hidden_suite = SuiteTextFault::ALL.to_vec();
+    for round in 0..3_000 {
+        let input = match round % 6 {
+            0 => {
+                let (reference, device) = deep_pair(&mut rng);
+                [spelled(&mut rng, &reference), spelled(&mut rng, &device)].concat()
+            }
+            _ => program_input(&mut rng),
+        };
+        let plain = compare::output(&input);
+        assert_eq!(plain, text::compare::output_with(TextFault::None, &input));
+        hidden.retain(|&fault| text::compare::output_with(fault, &input) == plain);
+        let plain = suite::output(&input);
         let planted = text::suite::output_with(SuiteTextFault::None, &input);
-        assert_eq!(suite::output(&input), planted);
+        assert_eq!(plain, planted);
+        hidden_suite.retain(|&fault| text::suite::output_with(fault, &input) == plain);
     }
+    assert_eq!((hidden, hidden_suite), (vec![], vec![]));
 }
 
 #[test]
-fn no_fault_in_the_texts_of_one_sheet() {
+fn every_fault_of_the_texts_of_one_sheet_shows() {
     let mut rng = Rng::new(87);
-    for round in 0..600 {
+    let mut hidden = ShowFault::ALL.to_vec();
+    let mut hidden_list = ProbeTextFault::ALL.to_vec();
+    for round in 0..1_500 {
         let input = sheet_input(&mut rng, round);
-        let planted = text::show::output_with(ShowFault::None, &input);
-        assert_eq!(show::output(&input), planted);
+        let plain = show::output(&input);
+        assert_eq!(plain, text::show::output_with(ShowFault::None, &input));
+        hidden.retain(|&fault| text::show::output_with(fault, &input) == plain);
+        let plain = probe_list::output(&input);
         let planted = text::probe_list::output_with(ProbeTextFault::None, &input);
-        assert_eq!(probe_list::output(&input), planted);
+        assert_eq!(plain, planted);
+        hidden_list.retain(|&fault| text::probe_list::output_with(fault, &input) == plain);
     }
+    assert_eq!((hidden, hidden_list), (vec![], vec![]));
 }
 
 #[test]
@@ -201,7 +276,7 @@ fn deep_pairs_are_accepted_and_go_far() {
     for _ in 0..400 {
         let (reference, device) = deep_pair(&mut rng);
         assert_eq!((check(&reference), check(&device)), (0, 0));
-        assert_eq!(reference.e, device.e);
+        assert_eq!((reference.e, reference.codes), (device.e, device.codes));
         let (mut work, mut list) = (vec![0; MAX_WORDS], vec![0; 1_023]);
         match compare_into(&reference, &device, false, &mut work, &mut list) {
             Ok(Outcome::Violates { d, .. }) => far += usize::from(d >= 100),

@@ -40,7 +40,7 @@ fn reading_1_to_3() {
         assert_eq!(read(&bytes), Err(1), "{field}");
     }
     assert_eq!(read(&changed(&[(4, 0)])), Err(2));
-    assert_eq!(read(&changed(&[(4, 2), (5, 0)])), Err(2));
+    assert_eq!(read(&changed(&[(4, 3), (5, 0)])), Err(2));
     for (place, value) in [(5, 0), (5, 13), (6, 0), (6, 33), (5, 255), (6, 255)] {
         assert_eq!(read(&changed(&[(place, value)])), Err(3));
     }
@@ -83,14 +83,14 @@ fn reading_6_to_8() {
         assert_eq!(read(&changed(changes)), Err(7), "{changes:?}");
     }
     let far = Sheet::build(3, &[([0, 0, 0], [1u16, 2, 5])]);
-    assert_eq!(read(&encode(&far)), Err(7));
+    assert_eq!(read(&encode(1, &far)), Err(7));
     assert_eq!(read(&changed(&[(7, 0), (8, 0)])), Err(8));
     assert_eq!(read(&changed(&[(7, 0), (8, 0), (11, 2)])), Err(7));
 }
 
 #[test]
 fn a_refused_reading_answers_zeros() {
-    for bytes in [vec![], changed(&[(4, 2)]), changed(&[(7, 0), (8, 0)])] {
+    for bytes in [vec![], changed(&[(4, 3)]), changed(&[(7, 0), (8, 0)])] {
         assert_eq!(read_with(Fault::None, &bytes).sheet, Sheet::ZERO);
     }
     assert_eq!(check(&Sheet::ZERO), 3);

@@ -2,6 +2,7 @@
 
 use std::collections::{BTreeMap, BTreeSet};
 
+use super::codes::{codes_differ, CodesFault};
 use super::faults;
 use crate::comparison::{refuses, strays, Named, Outcome, WORDS_A_PAIR};
 use crate::probes::probes;
@@ -68,6 +69,22 @@ faults! {
         ThirteenFirst,
         /// 12 is looked for before 11.
         TwelveFirst,
+        /// 19 is looked for before 11.
+        NineteenFirst,
+        /// 19 is looked for after 12.
+        NineteenAfterTwelve,
+        /// 19 is looked for after 13.
+        NineteenAfterThirteen,
+        /// 19: unequal codes are accepted.
+        CodesIgnored,
+        /// 19: unequal codes are accepted in a trace-only comparison.
+        TracesCodesIgnored,
+        /// 19: codes are compared as sets.
+        CodesAsSets,
+        /// 19: the code of the last event is not compared.
+        LastCodeIgnored,
+        /// 19: only the low bytes of codes are compared.
+        CodesLowByte,
         /// A refusal sets the work list to 0.
         RefusalClears,
         /// The device is checked before the reference.
@@ -88,7 +105,8 @@ pub fn compare_with(
     work: &mut [u16],
     list: &mut [u8],
 ) -> Result<Outcome, u8> {
-    let admitted = admit(fault, reference, device, work.len(), list.len());
+    let lengths = (work.len(), list.len());
+    let admitted = admit(fault, reference, device, trace_only, lengths);
     if fault == CompareFault::RefusalClears && admitted.is_err() {
         work.fill(0);
     }
@@ -147,8 +165,8 @@ fn admit(
     fault: CompareFault,
     reference: &Sheet,
     device: &Sheet,
-    work: usize,
-    list: usize,
+    trace_only: bool,
+    (work, list): (usize, usize),
 ) -> Result<(), u8> {
     if fault == CompareFault::DeviceFirst {
         accept(device)?;
@@ -158,6 +176,8 @@ fn admit(
     let pairs = reference.n as usize * device.n as usize;
     let test = |bad: bool, number: u8| if bad { Err(number) } else { Ok(()) };
     let events = test(reference.e != device.e, 11);
+    let looked = codes_fault(fault, trace_only);
+    let codes = test(codes_differ(looked, reference, device), 19);
     let words = match fault {
         CompareFault::WorkExactRefused => work <= WORDS_A_PAIR * pairs,
         CompareFault::WorkShortAccepted => work + 1 < WORDS_A_PAIR * pairs,
@@ -172,9 +192,24 @@ fn admit(
     };
     let places = test(places, 13);
     match fault {
-        CompareFault::ThirteenFirst => events.and(places).and(words),
-        CompareFault::TwelveFirst => words.and(events).and(places),
-        _ => events.and(words).and(places),
+        CompareFault::ThirteenFirst => events.and(codes).and(places).and(words),
+        CompareFault::TwelveFirst => words.and(events).and(codes).and(places),
+        CompareFault::NineteenFirst => codes.and(events).and(words).and(places),
+        CompareFault::NineteenAfterTwelve => events.and(words).and(codes).and(places),
+        CompareFault::NineteenAfterThirteen => events.and(words).and(places).and(codes),
+        _ => events.and(codes).and(words).and(places),
+    }
+}
+
+/// The fault of the codes that a fault of the comparison is.
+fn codes_fault(fault: CompareFault, trace_only: bool) -> CodesFault {
+    match fault {
+        CompareFault::CodesIgnored => CodesFault::Ignored,
+        CompareFault::TracesCodesIgnored if trace_only => CodesFault::Ignored,
+        CompareFault::CodesAsSets => CodesFault::AsSets,
+        CompareFault::LastCodeIgnored => CodesFault::LastIgnored,
+        CompareFault::CodesLowByte => CodesFault::LowByte,
+        _ => CodesFault::None,
     }
 }
 

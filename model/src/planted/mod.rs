@@ -1,6 +1,7 @@
 //! One-fault variants of the calls on probes, runs, verdicts and comparisons, and of the
 //! texts. With the fault `None` each of them answers as the plain model does.
 
+mod codes;
 pub mod comparisons;
 pub mod probes;
 pub mod runs;

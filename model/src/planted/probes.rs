@@ -46,7 +46,7 @@ pub fn fill_with(fault: ProbeFault, sheet: &Sheet, node: u8, lent: &mut [u16]) -
         return (9, 0);
     }
     if let Err(number) = accept(sheet) {
-        let harmless = number >= 7 && usize::from(node) < 32 && node < sheet.n;
+        let harmless = matches!(number, 7 | 8) && node < sheet.n;
         if fault != ProbeFault::SheetNotChecked || !harmless {
             return (number, 0);
         }

@@ -1,10 +1,11 @@
 //! The call on all tests at once, with a fault planted or none.
 
+use super::codes::{codes_differ, CodesFault};
 use super::faults;
 use super::verdicts::{verdict_with, VerdictFault};
 use crate::numbers::{judged, Suited, FAILS, PASSES};
 use crate::sheet::{accept, Sheet};
-use crate::verdict::{admit_pair, verdicts, Verdict};
+use crate::verdict::{verdicts, Verdict};
 
 faults! {
     /// One planted fault of the call, or none.
@@ -35,6 +36,20 @@ faults! {
         ListOneShort,
         /// 10 is looked for before 11.
         TenFirst,
+        /// 19 is looked for before 11.
+        NineteenFirst,
+        /// 19 is looked for after 10.
+        NineteenAfterTen,
+        /// 19: unequal codes are accepted.
+        CodesIgnored,
+        /// 19: unequal codes are accepted in a trace-only call.
+        TracesCodesIgnored,
+        /// 19: codes are compared as sets.
+        CodesAsSets,
+        /// 19: the code of the last event is not compared.
+        LastCodeIgnored,
+        /// 19: only the low bytes of codes are compared.
+        CodesLowByte,
         /// The device is checked before the reference.
         DeviceFirst,
         /// A refused call clears the list.
@@ -42,25 +57,44 @@ faults! {
     }
 }
 
-/// The checks of the call: the reference, the device, 11, 10.
-fn admit(fault: SuiteFault, reference: &Sheet, device: &Sheet, places: usize) -> Result<(), u8> {
-    let tests = usize::from(reference.n) * usize::from(device.n);
-    let room = places + usize::from(fault == SuiteFault::ListOneShort);
+/// The checks of the call: the reference, the device, 11, 19, 10.
+fn admit(
+    fault: SuiteFault,
+    reference: &Sheet,
+    device: &Sheet,
+    trace_only: bool,
+    places: usize,
+) -> Result<(), u8> {
     if fault == SuiteFault::DeviceFirst {
         accept(device)?;
     }
-    if fault == SuiteFault::TenFirst {
-        accept(reference)?;
-        accept(device)?;
-        if room < tests {
-            return Err(10);
-        }
+    accept(reference)?;
+    accept(device)?;
+    let tests = usize::from(reference.n) * usize::from(device.n);
+    let test = |bad: bool, number: u8| if bad { Err(number) } else { Ok(()) };
+    let events = test(reference.e != device.e, 11);
+    let looked = codes_fault(fault, trace_only);
+    let codes = test(codes_differ(looked, reference, device), 19);
+    let room = places + usize::from(fault == SuiteFault::ListOneShort);
+    let room = test(room < tests, 10);
+    match fault {
+        SuiteFault::TenFirst => room.and(events).and(codes),
+        SuiteFault::NineteenFirst => codes.and(events).and(room),
+        SuiteFault::NineteenAfterTen => events.and(room).and(codes),
+        _ => events.and(codes).and(room),
     }
-    admit_pair(reference, device)?;
-    if room < tests {
-        return Err(10);
+}
+
+/// The fault of the codes that a fault of the call is.
+fn codes_fault(fault: SuiteFault, trace_only: bool) -> CodesFault {
+    match fault {
+        SuiteFault::CodesIgnored => CodesFault::Ignored,
+        SuiteFault::TracesCodesIgnored if trace_only => CodesFault::Ignored,
+        SuiteFault::CodesAsSets => CodesFault::AsSets,
+        SuiteFault::LastCodeIgnored => CodesFault::LastIgnored,
+        SuiteFault::CodesLowByte => CodesFault::LowByte,
+        _ => CodesFault::None,
     }
-    Ok(())
 }
 
 /// What a verdict is written as.
@@ -83,8 +117,9 @@ fn single(fault: SuiteFault) -> Option<VerdictFault> {
     }
 }
 
-/// The numbers of all tests.
+/// The numbers of all tests. Codes were looked at before and play no part here.
 fn kinds(fault: SuiteFault, reference: &Sheet, device: &Sheet, trace_only: bool) -> Vec<u8> {
+    let device = &device.with_codes(reference.used_codes());
     let (p, q) = (usize::from(reference.n), usize::from(device.n));
     let trace_only = trace_only && fault != SuiteFault::TracesIgnored;
     let all = match single(fault) {
@@ -123,7 +158,7 @@ pub fn suite_with(
     trace_only: bool,
     out: &mut [u8],
 ) -> Suited {
-    if let Err(refusal) = admit(fault, reference, device, out.len()) {
+    if let Err(refusal) = admit(fault, reference, device, trace_only, out.len()) {
         if fault == SuiteFault::RefusedClears {
             out.fill(0);
         }

@@ -3,6 +3,7 @@
 
 use std::collections::BTreeSet;
 
+use super::codes::{codes_differ, CodesFault};
 use super::faults;
 use crate::comparison::{refuses, strays};
 use crate::probes::probes;
@@ -43,6 +44,20 @@ faults! {
         TracesAlways,
         /// 14 is looked for before 11.
         FourteenFirst,
+        /// 19 is looked for before 11.
+        NineteenFirst,
+        /// 19 is looked for after 14.
+        NineteenAfterFourteen,
+        /// 19: unequal codes are accepted.
+        CodesIgnored,
+        /// 19: unequal codes are accepted for a trace-only test.
+        TracesCodesIgnored,
+        /// 19: codes are compared as sets.
+        CodesAsSets,
+        /// 19: the code of the last event is not compared.
+        LastCodeIgnored,
+        /// 19: only the low bytes of codes are compared.
+        CodesLowByte,
         /// 14: 1,024 is accepted.
         NumberOneMore,
         /// The device is checked before the reference.
@@ -62,7 +77,7 @@ pub fn verdict_with(
     k: u16,
     trace_only: bool,
 ) -> Result<Verdict, u8> {
-    admit(fault, reference, device, k)?;
+    admit(fault, reference, device, k, trace_only)?;
     let (p, q) = (u16::from(reference.n), u16::from(device.n));
     let k = match fault {
         VerdictFault::OneShort => k.saturating_sub(1),
@@ -105,20 +120,42 @@ pub fn verdict_with(
     })
 }
 
-fn admit(fault: VerdictFault, reference: &Sheet, device: &Sheet, k: u16) -> Result<(), u8> {
+fn admit(
+    fault: VerdictFault,
+    reference: &Sheet,
+    device: &Sheet,
+    k: u16,
+    trace_only: bool,
+) -> Result<(), u8> {
     let most = MAX_TEST + u16::from(fault == VerdictFault::NumberOneMore);
     let number = if k > most { Err(14) } else { Ok(()) };
     let (e, f) = (reference.e, device.e);
     let one_way = fault == VerdictFault::ElevenOneWay && e > f;
     let events = if e == f || one_way { Ok(()) } else { Err(11) };
+    let differ = codes_differ(codes_fault(fault, trace_only), reference, device);
+    let codes = if differ { Err(19) } else { Ok(()) };
     if fault == VerdictFault::DeviceFirst {
         accept(device)?;
     }
     accept(reference)?;
     accept(device)?;
     match fault {
-        VerdictFault::FourteenFirst => number.and(events),
-        _ => events.and(number),
+        VerdictFault::FourteenFirst => number.and(events).and(codes),
+        VerdictFault::NineteenFirst => codes.and(events).and(number),
+        VerdictFault::NineteenAfterFourteen => events.and(number).and(codes),
+        _ => events.and(codes).and(number),
+    }
+}
+
+/// The fault of the codes that a fault of the verdict is.
+fn codes_fault(fault: VerdictFault, trace_only: bool) -> CodesFault {
+    match fault {
+        VerdictFault::CodesIgnored => CodesFault::Ignored,
+        VerdictFault::TracesCodesIgnored if trace_only => CodesFault::Ignored,
+        VerdictFault::CodesAsSets => CodesFault::AsSets,
+        VerdictFault::LastCodeIgnored => CodesFault::LastIgnored,
+        VerdictFault::CodesLowByte => CodesFault::LowByte,
+        _ => CodesFault::None,
     }
 }
 

@@ -1,13 +1,14 @@
 //! Damaged bytes, each aimed at one refusal of a reading.
 
+use super::codes::two_places;
 use super::raw::{random_nodes, random_raw, Raw};
 use super::Rng;
 use crate::sheet::{MAX_EVENTS, MAX_NODES, MAX_SETS, NO_NODE};
 
 /// The refusals that damaged bytes are aimed at.
-pub const AIMS_READ: [u8; 8] = [1, 2, 3, 4, 5, 6, 7, 8];
+pub const AIMS_READ: [u8; 9] = [1, 2, 3, 4, 18, 5, 6, 7, 8];
 
-/// Bytes that are refused with the number `aim`, 1 to 8.
+/// Bytes that are refused with the number `aim`, 1 to 8 or 18.
 pub fn damaged(rng: &mut Rng, aim: u8) -> Vec<u8> {
     let raw = some_raw(rng);
     match aim {
@@ -18,6 +19,7 @@ pub fn damaged(rng: &mut Rng, aim: u8) -> Vec<u8> {
         5 => wrong_count(rng, raw),
         6 => wrong_successor(rng, raw).bytes(),
         7 => wrong_sets(rng, raw).bytes(),
+        18 => code_twice(rng),
         _ => unreached(rng).bytes(),
     }
 }
@@ -50,7 +52,7 @@ pub fn noise_bytes(rng: &mut Rng) -> Vec<u8> {
     let length = rng.below(48);
     let mut bytes: Vec<u8> = (0..length).map(|_| rng.byte()).collect();
     if rng.one_in(2) && bytes.len() > 6 {
-        bytes[4] = 1;
+        bytes[4] = rng.range(1, 2) as u8;
         bytes[5] = rng.range(1, 3) as u8;
         bytes[6] = rng.range(1, 3) as u8;
         for byte in bytes.iter_mut().skip(7) {
@@ -67,7 +69,7 @@ pub fn noise_bytes(rng: &mut Rng) -> Vec<u8> {
 pub fn long_bytes(rng: &mut Rng) -> Vec<u8> {
     let good = some_raw(rng).bytes();
     let follow = match rng.below(3) {
-        0 => rng.range(1_444, 65_535),
+        0 => rng.range(1_468, 65_535),
         1 => rng.range(65_536, 200_000),
         _ => rng.range(1 << 24, (1 << 24) + 100_000),
     };
@@ -120,17 +122,21 @@ fn wrong_length(rng: &mut Rng, mut bytes: Vec<u8>) -> Vec<u8> {
     bytes
 }
 
-/// 2: another version, half of the time with a wrong E or N behind it.
+/// 2: neither version, half of the time with a wrong E or N behind it.
 fn wrong_version(rng: &mut Rng, mut bytes: Vec<u8>) -> Vec<u8> {
-    bytes[4] = rng.pick(&[0, 2, 3, 255]);
+    bytes[4] = rng.pick(&[0, 3, 4, 255]);
     if rng.one_in(2) {
         bytes[rng.range(5, 6)] = rng.pick(&[0, 13, 33, 255]);
     }
     bytes
 }
 
-/// 3: an E or N out of range, some of them with all the nodes that they promise.
-fn wrong_range(rng: &mut Rng, raw: Raw) -> Vec<u8> {
+/// 3: an E or N out of range, some of them with all the nodes that they promise, or with a code
+/// given twice.
+fn wrong_range(rng: &mut Rng, mut raw: Raw) -> Vec<u8> {
+    if raw.e > 1 && rng.one_in(3) {
+        raw = with_code_twice(rng, raw);
+    }
     let mut bytes = raw.bytes();
     match rng.below(4) {
         0 => bytes[5] = rng.pick(&[0, 13, 14, 16, 255]),
@@ -147,8 +153,12 @@ fn wrong_range(rng: &mut Rng, raw: Raw) -> Vec<u8> {
     bytes
 }
 
-/// 4: a cut anywhere, any bytes left, an end between two nodes, or a whole node left.
+/// 4: a cut anywhere, any bytes left, an end between two nodes, a whole node left, or codes cut
+/// off.
 fn wrong_end(rng: &mut Rng, raw: Raw) -> Vec<u8> {
+    if rng.one_in(4) {
+        return cut_codes(rng, raw);
+    }
     let n = raw.nodes.len();
     let mut bytes = raw.bytes();
     match rng.below(4) {
@@ -164,6 +174,58 @@ fn wrong_end(rng: &mut Rng, raw: Raw) -> Vec<u8> {
     bytes
 }
 
+/// 4: codes cut off, some with a code given twice before the cut; or no bytes after the codes.
+fn cut_codes(rng: &mut Rng, mut raw: Raw) -> Vec<u8> {
+    raw.version = 2;
+    let end = raw.nodes_at();
+    let length = match rng.below(4) {
+        0 => end,
+        1 => end - 1,
+        _ => rng.range(7, end - 1),
+    };
+    if length < end && raw.e > 1 && rng.one_in(2) {
+        raw = with_code_twice(rng, raw);
+    }
+    let mut bytes = raw.bytes();
+    bytes.truncate(length);
+    fix_length(&mut bytes);
+    bytes
+}
+
+/// 18: a code given twice, half of the time with something else wrong behind the codes.
+fn code_twice(rng: &mut Rng) -> Vec<u8> {
+    let e = rng.range(2, MAX_EVENTS);
+    let n = random_nodes(rng);
+    let raw = random_raw(rng, e, n);
+    let raw = with_code_twice(rng, raw);
+    match rng.below(10) {
+        0 => {
+            let mut bytes = raw.bytes();
+            let end = raw.nodes_at();
+            bytes.truncate(rng.range(end, bytes.len() - 1));
+            fix_length(&mut bytes);
+            bytes
+        }
+        1 => wrong_count(rng, raw),
+        2 => wrong_successor(rng, raw).bytes(),
+        3 => wrong_sets(rng, raw).bytes(),
+        4 => Raw {
+            nodes: vec![(vec![NO_NODE; e], vec![0]); 2],
+            ..raw
+        }
+        .bytes(),
+        _ => raw.bytes(),
+    }
+}
+
+/// The sheet in version 2 with the code of one event given to another too; E is 2 or more.
+pub(super) fn with_code_twice(rng: &mut Rng, mut raw: Raw) -> Raw {
+    let (one, other) = two_places(rng, raw.codes.len());
+    raw.version = 2;
+    raw.codes[other] = raw.codes[one];
+    raw
+}
+
 /// 5: a C of 0, of 17 with all its sets, or any other; at times the last byte of all.
 fn wrong_count(rng: &mut Rng, mut raw: Raw) -> Vec<u8> {
     let node = rng.below(raw.nodes.len());
@@ -174,13 +236,11 @@ fn wrong_count(rng: &mut Rng, mut raw: Raw) -> Vec<u8> {
         *sets = many_sets(succ, most);
         return raw.bytes();
     }
-    let mut before = Raw {
-        e: raw.e,
+    let front = Raw {
         nodes: raw.nodes[..node].to_vec(),
-    }
-    .bytes()
-    .len();
-    before += raw.e as usize;
+        ..raw.clone()
+    };
+    let before = front.bytes().len() + raw.e as usize;
     let mut bytes = raw.bytes();
     bytes[before] = rng.pick(&[0, 17, 18, 200, 255]);
     if rng.one_in(2) {

@@ -1,27 +1,36 @@
 //! Inputs for the programs: two sheets back to back, one sheet, or a call of `live`; good, damaged,
 //! cut or too long.
 
+use super::codes::{recoded, spelled};
 use super::damage::{damaged, damaged_twice, noise_bytes, AIMS_READ};
 use super::pairs::pair;
 use super::raw::{full_sheet, random_sheet};
 use super::Rng;
-use crate::sheet::{after, encode, Sheet};
+use crate::sheet::{after, Sheet};
 use crate::text::live::Call;
 
-/// An input for a program that reads two sheets. Half of the inputs are two good sheets with equal E.
+/// An input for a program that reads two sheets. About half of the inputs are two good sheets with
+/// equal E and equal codes.
 pub fn program_input(rng: &mut Rng) -> Vec<u8> {
     let (reference, device) = pair(rng);
-    let (mut first, mut second) = (encode(&reference), encode(&device));
+    let (mut first, mut second) = (spelled(rng, &reference), spelled(rng, &device));
     let aim = rng.pick(&AIMS_READ);
-    match rng.below(16) {
+    match rng.below(18) {
         0 => first = damaged(rng, aim),
         1 | 2 => second = damaged(rng, aim),
         3 => second = damaged_twice(rng),
-        4 => second = encode(&random_sheet(rng)),
+        4 => {
+            let other = random_sheet(rng);
+            second = spelled(rng, &other);
+        }
         5 => second.push(rng.byte()),
         6 => second.clear(),
         7 => return long_input(rng, first),
         8 => return noise_bytes(rng),
+        9 => {
+            let other = recoded(rng, &device);
+            second = spelled(rng, &other);
+        }
         _ => {}
     }
     first.extend_from_slice(&second);
@@ -29,7 +38,7 @@ pub fn program_input(rng: &mut Rng) -> Vec<u8> {
 }
 
 /// A good first sheet and a second that ends near byte 4,096, with a length field that
-/// fits either the whole of it or what is read of it, and with a good or a bad E.
+/// fits either the whole of it or what is read of it, of either version, with a good or a bad E.
 fn long_input(rng: &mut Rng, mut bytes: Vec<u8>) -> Vec<u8> {
     let total = rng.range(4_090, 4_200);
     let seen = if rng.one_in(2) {
@@ -39,7 +48,7 @@ fn long_input(rng: &mut Rng, mut bytes: Vec<u8>) -> Vec<u8> {
     };
     let field = (seen - bytes.len() - 4) as u32;
     bytes.extend_from_slice(&field.to_be_bytes());
-    bytes.extend_from_slice(&[1, rng.pick(&[1, 12, 13]), 32]);
+    bytes.extend_from_slice(&[rng.pick(&[1, 2]), rng.pick(&[1, 12, 13]), 32]);
     bytes.resize(total, rng.pick(&[0, 1, 255]));
     bytes
 }
@@ -53,8 +62,14 @@ pub fn sheet_input(rng: &mut Rng, round: u64) -> Vec<u8> {
         1 | 2 => damaged(rng, aim),
         3 if rng.one_in(2) => damaged_twice(rng),
         3 => long_sheet(rng),
-        4 if rng.one_in(2) => encode(&full_sheet(rng)),
-        _ => encode(&random_sheet(rng)),
+        4 if rng.one_in(2) => {
+            let sheet = full_sheet(rng);
+            spelled(rng, &sheet)
+        }
+        _ => {
+            let sheet = random_sheet(rng);
+            spelled(rng, &sheet)
+        }
     }
 }
 
@@ -90,7 +105,7 @@ pub fn live_call(rng: &mut Rng, round: u64) -> Call {
     }
     let file = match round % 8 {
         6 => damaged(rng, aim),
-        _ => encode(&sheet),
+        _ => spelled(rng, &sheet),
     };
     let typed = typed_lines(rng, &sheet, k.min(40));
     Call { file, words, typed }

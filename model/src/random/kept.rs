@@ -1,17 +1,19 @@
 //! Kept sheets with any content.
 
-use super::damage::{unreached, wrong_sets, wrong_successor};
+use super::codes::random_codes;
+use super::damage::{unreached, with_code_twice, wrong_sets, wrong_successor};
 use super::raw::{random_nodes, random_raw};
 use super::Rng;
 use crate::sheet::{Row, Sheet, MAX_EVENTS, MAX_NODES, MAX_SETS, NO_NODE};
 
 /// The refusals that kept sheets are aimed at.
-pub const AIMS_KEPT: [u8; 5] = [3, 5, 6, 7, 8];
+pub const AIMS_KEPT: [u8; 6] = [3, 18, 5, 6, 7, 8];
 
 /// A kept sheet that is refused with the number `aim`: a good one with one place
 /// changed, unused places included.
 pub fn kept(rng: &mut Rng, aim: u8) -> Sheet {
-    let e = rng.range(1, MAX_EVENTS);
+    let least = if aim == 18 { 2 } else { 1 };
+    let e = rng.range(least, MAX_EVENTS);
     let n = random_nodes(rng);
     let raw = random_raw(rng, e, n);
     let mut sheet = raw.keep();
@@ -23,6 +25,7 @@ pub fn kept(rng: &mut Rng, aim: u8) -> Sheet {
                 sheet.n = rng.pick(&[0, 33, 34, 255]);
             }
         }
+        18 => sheet = with_code_twice(rng, raw).keep(),
         5 => sheet.rows[rng.below(n)].c = rng.pick(&[0, 17, 18, 255]),
         6 => sheet = wrong_successor(rng, raw).keep(),
         7 if rng.one_in(3) => sheet = wrong_sets(rng, raw).keep(),
@@ -40,7 +43,7 @@ fn wrong_unused(rng: &mut Rng, sheet: &mut Sheet) {
     for _ in 0..64 {
         let used = rng.below(n);
         let c = sheet.rows[used].c as usize;
-        match rng.below(5) {
+        match rng.below(6) {
             0 if e < MAX_EVENTS => {
                 let place = rng.range(e, MAX_EVENTS - 1);
                 sheet.rows[used].succ[place] = rng.pick(&[0, n as u8, 40, 254]);
@@ -60,6 +63,13 @@ fn wrong_unused(rng: &mut Rng, sheet: &mut Sheet) {
             4 if n < MAX_NODES => {
                 sheet.rows[rng.range(n, MAX_NODES - 1)].c = rng.pick(&[1, 16, 17, 255]);
             }
+            5 if e < MAX_EVENTS => {
+                let place = rng.range(e, MAX_EVENTS - 1);
+                sheet.codes[place] = rng.pick(&[1, place as u16 + 1, sheet.codes[0], 0x100]);
+                if sheet.codes[place] == 0 {
+                    continue;
+                }
+            }
             _ => continue,
         }
         return;
@@ -75,14 +85,18 @@ pub fn kept_twice(rng: &mut Rng) -> Sheet {
     for _ in 0..rng.range(1, 3) {
         let n = sheet.n;
         let row = &mut sheet.rows[rng.below(MAX_NODES)];
-        match rng.below(8) {
+        match rng.below(10) {
             0 => sheet.e = rng.pick(&[0, 1, 2, 11, 12, 13, 255]),
             1 => sheet.n = rng.pick(&[0, 1, 2, 31, 32, 33, 255]),
             2 => row.c = rng.pick(&[0, 1, 15, 16, 17, 255]),
             3 | 4 => row.succ[rng.below(MAX_EVENTS)] = rng.pick(&[0, 1, n, 31, 32, 254, NO_NODE]),
             5 => row.sets[rng.below(MAX_SETS)] = rng.pick(&[0, 1, 2, 3, 0x800, 0x1000, 0xFFFF]),
             6 => row.sets.swap(0, rng.below(MAX_SETS)),
-            _ => *row = rng.pick(&[Row::ZERO, Row::UNUSED]),
+            7 => *row = rng.pick(&[Row::ZERO, Row::UNUSED]),
+            _ => {
+                let place = rng.below(MAX_EVENTS);
+                sheet.codes[place] = rng.pick(&[0, 1, 2, sheet.codes[0], 0xFFFF]);
+            }
         }
     }
     sheet
@@ -101,6 +115,11 @@ pub fn kept_noise(rng: &mut Rng) -> Sheet {
     if plain {
         sheet.e = rng.range(1, MAX_EVENTS) as u8;
         sheet.n = rng.range(1, MAX_NODES) as u8;
+    }
+    sheet.codes = std::array::from_fn(|_| rng.word());
+    if plain && !rng.one_in(8) {
+        let codes = random_codes(rng, sheet.e as usize).1;
+        sheet = sheet.with_codes(&codes);
     }
     if plain && rng.one_in(2) {
         let n = sheet.n as usize;

@@ -1,5 +1,6 @@
-//! A small deterministic generator, and random sheets, bytes, lists, runs and pairs.
+//! A small deterministic generator, and random sheets, codes, bytes, lists, runs and pairs.
 
+mod codes;
 mod damage;
 mod input;
 mod kept;
@@ -8,6 +9,7 @@ mod pairs;
 mod raw;
 mod runs;
 
+pub use codes::{random_codes, recoded, spelled};
 pub use damage::{damaged, damaged_twice, long_bytes, noise_bytes, AIMS_READ};
 pub use input::{live_call, program_input, sheet_input};
 pub use kept::{kept, kept_noise, kept_twice, AIMS_KEPT};

@@ -1,6 +1,7 @@
-//! Random pairs of sheets with equal E: unrelated, equal, and devices drawn from their
-//! reference with or without a planted violation, so that far violations occur.
+//! Random pairs of sheets with equal E and equal codes: unrelated, equal, and devices drawn from
+//! their reference with or without a planted violation, so that far violations occur.
 
+use super::codes::random_codes;
 use super::raw::{antichain, random_nodes, random_raw, Raw};
 use super::Rng;
 use crate::sheet::{Sheet, MAX_EVENTS, MAX_NODES, MAX_SETS, NO_NODE};
@@ -14,7 +15,7 @@ pub fn pair(rng: &mut Rng) -> (Sheet, Sheet) {
     let device = match rng.below(6) {
         0 => {
             let n = random_nodes(rng);
-            random_raw(rng, e, n).keep()
+            random_raw(rng, e, n).keep().with_codes(&raw.codes)
         }
         1 => reference,
         _ => {
@@ -31,8 +32,8 @@ pub fn device_of(rng: &mut Rng, reference: &Raw, plant: bool) -> Raw {
     let mut origins = vec![0u8];
     let mut spare = rng.below(MAX_NODES - reference.nodes.len() + 1);
     let mut device = Raw {
-        e: reference.e,
         nodes: Vec::new(),
+        ..reference.clone()
     };
     while device.nodes.len() < origins.len() {
         let origin = origins[device.nodes.len()] as usize;
@@ -145,7 +146,7 @@ pub fn small_pair(rng: &mut Rng) -> (Sheet, Sheet) {
     if device.nodes.len() > 6 {
         return (raw.keep(), raw.keep());
     }
-    (raw.keep(), device.keep())
+    (raw.keep(), device.keep().with_codes(&raw.codes))
 }
 
 /// A pair of two rings whose numbers of nodes have no common divisor, so that a common
@@ -204,7 +205,11 @@ pub fn deep_pair(rng: &mut Rng) -> (Sheet, Sheet) {
     if !reached(&reference) || !reached(&device) {
         return deep_pair(rng);
     }
-    (reference.keep(), device.keep())
+    let codes = random_codes(rng, e).1;
+    (
+        reference.keep().with_codes(&codes),
+        device.keep().with_codes(&codes),
+    )
 }
 
 /// Acceptances of which a node that does the step keeps one: the step, or each event.
@@ -219,10 +224,7 @@ fn demanding(rng: &mut Rng, initials: u16, step: u16) -> Vec<u16> {
 
 /// A ring of nodes on some events, the step among them and the stray not.
 fn ring(rng: &mut Rng, e: usize, n: usize, step: usize, stray: usize) -> Raw {
-    let mut raw = Raw {
-        e: e as u8,
-        nodes: Vec::new(),
-    };
+    let mut raw = Raw::new(e as u8, Vec::new());
     for node in 0..n {
         let next = ((node + 1) % n) as u8;
         let mut succ = vec![NO_NODE; e];

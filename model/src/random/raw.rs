@@ -1,20 +1,37 @@
 //! Random sheets of every size, in a raw form without bounds.
 
+use super::codes::random_codes;
 use super::Rng;
-use crate::sheet::{Sheet, MAX_EVENTS, MAX_NODES, MAX_SETS, NO_NODE};
+use crate::sheet::{first_codes, Sheet, MAX_EVENTS, MAX_NODES, MAX_SETS, NO_NODE};
 
-/// A sheet before it is put into bytes or kept: successors and sets of each node.
-/// It can be larger than any accepted sheet.
+/// A sheet before it is put into bytes or kept: its version, the codes of its events, which
+/// version 1 does not spell, and successors and sets of each node. It can be larger than any
+/// accepted sheet.
 #[derive(Clone, PartialEq, Eq, Debug)]
 pub struct Raw {
+    pub version: u8,
     pub e: u8,
+    pub codes: Vec<u16>,
     pub nodes: Vec<(Vec<u8>, Vec<u16>)>,
 }
 
 impl Raw {
+    /// A version 1 sheet.
+    pub fn new(e: u8, nodes: Vec<(Vec<u8>, Vec<u16>)>) -> Raw {
+        Raw {
+            version: 1,
+            e,
+            codes: first_codes(e),
+            nodes,
+        }
+    }
+
     /// The sheet's bytes, with a right length field.
     pub fn bytes(&self) -> Vec<u8> {
-        let mut bytes = vec![0, 0, 0, 0, 1, self.e, self.nodes.len() as u8];
+        let mut bytes = vec![0, 0, 0, 0, self.version, self.e, self.nodes.len() as u8];
+        if self.version == 2 {
+            bytes.extend(self.codes.iter().flat_map(|code| code.to_be_bytes()));
+        }
         for (succ, sets) in &self.nodes {
             bytes.extend_from_slice(succ);
             bytes.push(sets.len() as u8);
@@ -27,9 +44,17 @@ impl Raw {
         bytes
     }
 
+    /// Where the nodes begin in the bytes.
+    pub fn nodes_at(&self) -> usize {
+        match self.version {
+            2 => 7 + 2 * self.codes.len(),
+            _ => 7,
+        }
+    }
+
     /// The kept sheet, as far as it has places.
     pub fn keep(&self) -> Sheet {
-        Sheet::build(self.e, &self.nodes)
+        Sheet::build(self.e, &self.nodes).with_codes(&self.codes)
     }
 
     /// The initials of a node.
@@ -61,10 +86,8 @@ impl Raw {
 /// A random good sheet of `e` events and `n` nodes. With e and n in range it is an
 /// accepted one; beyond the ranges only the ranges are broken (n up to 254, e up to 15).
 pub fn random_raw(rng: &mut Rng, e: usize, n: usize) -> Raw {
-    let mut raw = Raw {
-        e: e as u8,
-        nodes: vec![(vec![NO_NODE; e], Vec::new()); n],
-    };
+    let mut raw = Raw::new(e as u8, vec![(vec![NO_NODE; e], Vec::new()); n]);
+    (raw.version, raw.codes) = random_codes(rng, e);
     plant_tree(rng, &mut raw);
     let density = rng.below(9);
     for (succ, _) in raw.nodes.iter_mut() {

@@ -45,13 +45,17 @@ fn split(input: &[u8]) -> (&[u8], &[u8]) {
     input.split_at(whole as usize)
 }
 
-/// The lines of a program that reads one sheet: its size and what `rest` says of each node, or its
-/// refusal with what the number means.
-fn sheet_lines(input: &[u8], rest: impl Fn(&Sheet, u8) -> String) -> String {
+/// The lines of a program that reads one sheet: its size, what `codes` says of it and what `rest`
+/// says of each node, or its refusal with what the number means.
+fn sheet_lines(
+    input: &[u8],
+    codes: impl Fn(&Sheet) -> String,
+    rest: impl Fn(&Sheet, u8) -> String,
+) -> String {
     match read(cut(input)) {
         Ok(sheet) => {
             let nodes = (0..sheet.n).map(|node| rest(&sheet, node));
-            head_line("sheet", &sheet) + &nodes.collect::<String>()
+            head_line("sheet", &sheet) + &codes(&sheet) + &nodes.collect::<String>()
         }
         Err(number) => format!("sheet refused {number} {}\n", meaning(number)),
     }
@@ -66,13 +70,14 @@ fn head_line(who: &str, sheet: &Sheet) -> String {
 pub fn meaning(number: u8) -> &'static str {
     match number {
         1 => "too short or its length field is wrong",
-        2 => "version is not 1",
+        2 => "version is neither 1 nor 2",
         3 => "events or nodes out of range",
-        4 => "the bytes end inside a node or some remain",
+        4 => "the bytes end too early or some remain",
         5 => "number of acceptances out of range",
         6 => "a successor is no node",
         7 => "a rule of acceptances is broken",
         8 => "a node cannot be reached",
+        18 => "a code is given twice",
         _ => "",
     }
 }

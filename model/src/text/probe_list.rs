@@ -6,9 +6,8 @@ use crate::sheet::Sheet;
 
 /// The output for an input of bytes, each line with its newline.
 pub fn output(input: &[u8]) -> String {
-    sheet_lines(input, |sheet, node| {
-        probe_line(sheet, node) + &optional_line(sheet, node)
-    })
+    let node_lines = |sheet: &Sheet, node| probe_line(sheet, node) + &optional_line(sheet, node);
+    sheet_lines(input, |_| String::new(), node_lines)
 }
 
 /// The probes of a node, or that it may stop.

@@ -31,6 +31,10 @@ faults! {
         DeviceAlone,
         /// Unequal events stand after one line only.
         ElevenAfterOne,
+        /// Unequal codes stand after one line only.
+        NineteenAfterOne,
+        /// Unequal codes are refused as unequal events.
+        NineteenIsEleven,
         /// Cleared is one more.
         ClearedOneMore,
         /// The search stops at depth p + q.
@@ -43,6 +47,12 @@ faults! {
         EmptyIsNoRule,
         /// Every pair after the start is counted as good.
         LaterGood,
+        /// Unequal codes are accepted.
+        CodesIgnored,
+        /// Codes are compared as sets.
+        CodesAsSets,
+        /// The code of the last event is not compared.
+        LastCodeIgnored,
     }
 }
 
@@ -54,6 +64,9 @@ fn comparison_fault(fault: TextFault) -> Option<CompareFault> {
         TextFault::AcceptancesEqual => CompareFault::AcceptancesEqual,
         TextFault::EmptyIsNoRule => CompareFault::EmptyIsNoRule,
         TextFault::LaterGood => CompareFault::LaterGood,
+        TextFault::CodesIgnored => CompareFault::CodesIgnored,
+        TextFault::CodesAsSets => CompareFault::CodesAsSets,
+        TextFault::LastCodeIgnored => CompareFault::LastCodeIgnored,
         _ => return None,
     })
 }
@@ -101,8 +114,14 @@ fn lines_with(fault: TextFault, input: &[u8]) -> String {
         TextFault::DeviceAlone if lines.len() == 2 && lines[1].starts_with("device refused") => {
             joined(&owned(&lines[1..]))
         }
-        TextFault::ElevenAfterOne if plain.contains("comparison refused") => {
+        TextFault::ElevenAfterOne if plain.contains("comparison refused 11") => {
             joined(&owned(&[lines[0], lines[2]]))
+        }
+        TextFault::NineteenAfterOne if plain.contains("comparison refused 19") => {
+            joined(&owned(&[lines[0], lines[2]]))
+        }
+        TextFault::NineteenIsEleven => {
+            plain.replace("comparison refused 19", "comparison refused 11")
         }
         TextFault::ClearedOneMore => {
             let line = |l: &&str| match l.rsplit_once("cleared ") {

@@ -32,6 +32,8 @@ faults! {
         AnyFourthWord,
         /// k and h are exchanged.
         WordsExchanged,
+        /// A version 2 reference is refused.
+        VersionTwoRefused,
         /// Below depth k only the initials are offered.
         InitialsBelow,
         /// The probe is taken from a list of every hitting set.
@@ -102,6 +104,7 @@ fn heard_with(fault: LiveFault, call: &Call) -> Call {
             call.typed.push(b'\n');
         }
         LiveFault::AnyFourthWord => call.words.truncate(2),
+        LiveFault::VersionTwoRefused if call.file.get(4) == Some(&2) => call.file[4] = 3,
         LiveFault::WordsExchanged if call.words.len() > 1 => call.words.swap(0, 1),
         _ => {}
     }

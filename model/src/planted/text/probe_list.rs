@@ -5,7 +5,8 @@ use super::super::probes::{found_with, ProbeFault};
 use super::{each_line, exchanged, without, without_events, without_numbers};
 use crate::sheet::{read, Sheet};
 use crate::text::probe_list::{optional, output};
-use crate::text::{events, set_words, MAX_INPUT};
+use crate::text::show::code_lines;
+use crate::text::{events, meaning, set_words, MAX_INPUT};
 
 faults! {
     /// One planted fault of the text, or none.
@@ -48,6 +49,10 @@ faults! {
         OptionalEmpty,
         /// The line of optional events stands first.
         OptionalFirst,
+        /// The codes are shown as by `show`.
+        CodesShown,
+        /// Version 2 is refused.
+        VersionTwoRefused,
         /// The last line has no newline.
         NoLastNewline,
     }
@@ -67,6 +72,13 @@ pub fn output_with(fault: ProbeTextFault, input: &[u8]) -> String {
         };
     };
     match fault {
+        ProbeTextFault::CodesShown => match plain.split_once('\n') {
+            Some((head, rest)) => format!("{head}\n{}{rest}", code_lines(&sheet)),
+            None => plain,
+        },
+        ProbeTextFault::VersionTwoRefused if input[4] == 2 => {
+            format!("sheet refused 2 {}\n", meaning(2))
+        }
         ProbeTextFault::HeadExchanged => exchanged(&plain),
         ProbeTextFault::NoNumbers => without_numbers(&plain),
         ProbeTextFault::NoEvents => without_events(&plain),

@@ -2,7 +2,7 @@
 
 use super::super::faults;
 use super::{each_line, exchanged, without, without_events, without_numbers};
-use crate::sheet::read;
+use crate::sheet::{has_first_codes, read};
 use crate::text::show::output;
 use crate::text::{meaning, MAX_INPUT};
 
@@ -19,6 +19,24 @@ faults! {
         NoMeaning,
         /// A refusal has the meaning of the next one.
         NextMeaning,
+        /// 2 and 4 have the meanings that they had of version 1 alone.
+        OldMeanings,
+        /// Codes have lines always.
+        CodesAlways,
+        /// Codes have lines only if the first event's is not 1.
+        CodesByFirst,
+        /// Codes never have lines.
+        CodesNever,
+        /// Codes have lines only where they are not those of version 1.
+        OtherCodesOnly,
+        /// All twelve places of codes have lines.
+        CodesOfAllPlaces,
+        /// The code of the last event has no line.
+        LastCodeLeftOut,
+        /// In the lines of codes events are numbered from 1.
+        CodesFromOne,
+        /// The lines of codes stand after those of the nodes.
+        CodesLast,
         /// Nodes are numbered from 1.
         NodesFromOne,
         /// An event that leads back to its node has no line.
@@ -59,6 +77,17 @@ pub fn output_with(fault: ShowFault, input: &[u8]) -> String {
         ShowFault::NextMeaning => {
             other_meaning(&plain, |number| format!(" {}", meaning(number % 8 + 1)))
         }
+        ShowFault::OldMeanings => plain
+            .replace("version is neither 1 nor 2", "version is not 1")
+            .replace("the bytes end too early", "the bytes end inside a node"),
+        ShowFault::CodesAlways
+        | ShowFault::CodesByFirst
+        | ShowFault::CodesNever
+        | ShowFault::OtherCodesOnly
+        | ShowFault::CodesOfAllPlaces
+        | ShowFault::LastCodeLeftOut
+        | ShowFault::CodesFromOne
+        | ShowFault::CodesLast => coded(fault, input, &plain),
         ShowFault::NodesFromOne => each_line(&plain, |line| match line.strip_prefix("node ") {
             Some(node) => format!("node {}", node.parse::<usize>().unwrap_or(0) + 1),
             None => line.to_string(),
@@ -104,6 +133,38 @@ fn other_meaning(plain: &str, other: impl Fn(u8) -> String) -> String {
     let number = rest.split(' ').next().and_then(|word| word.parse().ok());
     let number: u8 = number.unwrap_or(0);
     format!("sheet refused {number}{}\n", other(number))
+}
+
+/// The text of an accepted sheet with other lines of codes.
+fn coded(fault: ShowFault, input: &[u8], plain: &str) -> String {
+    let Ok(sheet) = read(&input[..input.len().min(MAX_INPUT)]) else {
+        return plain.to_string();
+    };
+    let shown = match fault {
+        ShowFault::CodesAlways => true,
+        ShowFault::CodesByFirst => sheet.codes[0] != 1,
+        ShowFault::CodesNever => false,
+        _ => !has_first_codes(&sheet),
+    };
+    let places = match fault {
+        ShowFault::CodesOfAllPlaces => sheet.codes.len(),
+        ShowFault::LastCodeLeftOut => usize::from(sheet.e) - 1,
+        _ => usize::from(sheet.e),
+    };
+    let first = usize::from(fault == ShowFault::CodesFromOne);
+    let mut codes = String::new();
+    for (event, code) in sheet.codes.iter().enumerate().take(places) {
+        let known = fault == ShowFault::OtherCodesOnly && usize::from(*code) == event + 1;
+        if shown && !known {
+            codes += &format!("code {} {code}\n", event + first);
+        }
+    }
+    let bare = without(plain, |line| line.starts_with("code "));
+    let (head, rest) = bare.split_once('\n').unwrap_or((&bare, ""));
+    match fault {
+        ShowFault::CodesLast => bare + &codes,
+        _ => format!("{head}\n{codes}{rest}"),
+    }
 }
 
 fn loops_left_out(lines: &[&str]) -> String {

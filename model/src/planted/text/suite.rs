@@ -15,6 +15,10 @@ faults! {
         DeviceAlone,
         /// Unequal events are refused in the words of `compare`.
         ElevenOfCompare,
+        /// Unequal codes are refused in the words of `compare`.
+        NineteenOfCompare,
+        /// Unequal codes are refused as unequal events.
+        NineteenIsEleven,
         /// Tests are numbered from 1.
         TestsFromOne,
         /// Only tests that fail have a line.
@@ -45,6 +49,12 @@ faults! {
         EmptyIsNoRule,
         /// After a test that fails all fail.
         Nested,
+        /// Unequal codes are accepted.
+        CodesIgnored,
+        /// Codes are compared as sets.
+        CodesAsSets,
+        /// The code of the last event is not compared.
+        LastCodeIgnored,
     }
 }
 
@@ -58,6 +68,9 @@ fn verdict_fault(fault: SuiteTextFault) -> Option<SuiteFault> {
         SuiteTextFault::AcceptancesEqual => SuiteFault::AcceptancesEqual,
         SuiteTextFault::EmptyIsNoRule => SuiteFault::EmptyIsNoRule,
         SuiteTextFault::Nested => SuiteFault::Nested,
+        SuiteTextFault::CodesIgnored => SuiteFault::CodesIgnored,
+        SuiteTextFault::CodesAsSets => SuiteFault::CodesAsSets,
+        SuiteTextFault::LastCodeIgnored => SuiteFault::LastCodeIgnored,
         _ => return None,
     })
 }
@@ -89,7 +102,13 @@ fn lines_with(fault: SuiteTextFault, input: &[u8]) -> String {
     match fault {
         SuiteTextFault::HeadsExchanged => exchanged(&plain),
         SuiteTextFault::DeviceAlone if lines.len() == 2 => joined(&owned(&lines[1..])),
-        SuiteTextFault::ElevenOfCompare => plain.replace("suite refused", "comparison refused"),
+        SuiteTextFault::ElevenOfCompare => {
+            plain.replace("suite refused 11", "comparison refused 11")
+        }
+        SuiteTextFault::NineteenOfCompare => {
+            plain.replace("suite refused 19", "comparison refused 19")
+        }
+        SuiteTextFault::NineteenIsEleven => plain.replace("suite refused 19", "suite refused 11"),
         SuiteTextFault::TestsFromOne => each_line(&plain, |line| {
             let words: Vec<&str> = line.split(' ').collect();
             match words[..] {
