@@ -17,9 +17,10 @@ struct ReadSheet {
 // The places of each struct, as the header states them.
 const _: () = assert!(size_of::<Row>() == 46);
 const _: () = assert!(offset_of!(Row, sets) == 12 && offset_of!(Row, c) == 44);
-const _: () = assert!(size_of::<Sheet>() == 1_474);
+const _: () = assert!(size_of::<Sheet>() == 1_498);
 const _: () = assert!(offset_of!(Sheet, e) == 1_472 && offset_of!(Sheet, n) == 1_473);
-const _: () = assert!(size_of::<ReadSheet>() == 1_476);
+const _: () = assert!(offset_of!(Sheet, codes) == 1_474);
+const _: () = assert!(size_of::<ReadSheet>() == 1_500);
 const _: () = assert!(offset_of!(ReadSheet, sheet) == 2);
 const _: () = assert!(size_of::<Listed>() == 4 && offset_of!(Listed, count) == 2);
 const _: () = assert!(size_of::<Suited>() == 4 && offset_of!(Suited, count) == 2);

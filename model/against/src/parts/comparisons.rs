@@ -1,14 +1,18 @@
 //! Comparisons: pairs that refine and that do not, near and far, both kinds, with work and
-//! trace lists of every length around the limits, work lists whose later words are left, and
-//! sheets that are refused.
+//! trace lists of every length around the limits, work lists whose later words are left, sheets
+//! that are refused, and pairs with unequal codes.
 
 use model::comparison::{MAX_WORDS, WORDS_A_PAIR};
 use model::numbers::{self, compare_numbers, compared, Compared};
 use model::planted::comparisons::{compare_with, CompareFault};
-use model::random::{deep_pair, length_around, pair, random_sheet, small_pair, work_length, Rng};
-use model::sheet::{check, Sheet};
+use model::random::{
+    deep_pair, length_around, pair, random_sheet, recoded, small_pair, work_length, Rng,
+};
+use model::sheet::{has_first_codes, Sheet, MAX_EVENTS};
 
-use super::{bad_sheet, catch, count_sheets, flag, names, shown_sheet, KEPT};
+use super::{
+    bad_sheet, catch, codes_class, count_sheets, flag, lone_place, names, shown_sheet, KEPT,
+};
 use crate::edge;
 use crate::findings::Findings;
 use crate::play::Part;
@@ -17,7 +21,14 @@ const COMPARE: &str = "compare, 0 compared or the refusal";
 const MINE: &str = "compare, the refusals of the reference";
 const THEIRS: &str = "compare, the refusals of the device";
 const BOTH: &str = "compare, both sheets refused with different numbers";
-const PAIRS: &str = "pairs of accepted sheets with equal events";
+const PAIRS: &str = "pairs of accepted sheets with equal events and codes";
+const AGREE: &str = "compared, 0 with the codes of version 1, 1 with others";
+const EVENTS: &str = "compare refused 11, 0 the codes of the events that both have agree, 1 not";
+const CODES: &str =
+    "compare refused 19, 0 the last code alone, 1 another alone, 2 another order, 3 otherwise";
+const PLACE: &str = "compare refused 19, one code alone, by its event";
+const SHORT: &str =
+    "compare refused 19, 0 lists long enough, 1 work list short, 2 trace list alone short";
 const REFINES: &str = "refines, 0 or trace-only 1";
 const STRAYS: &str = "strays at d 0 (0), 1 to 9 (1), 10 to 99 (2), 100 and more (3)";
 const REFUSALS: &str = "refusals at d 0 (0), 1 to 9 (1), 10 to 99 (2), 100 and more (3)";
@@ -37,11 +48,16 @@ pub const PART: Part = Part {
 
 fn findings() -> Findings {
     let groups = vec![
-        (COMPARE, vec![0, 3, 5, 6, 7, 8, 11, 12, 13]),
+        (COMPARE, vec![0, 3, 5, 6, 7, 8, 11, 12, 13, 18, 19]),
         (MINE, KEPT.to_vec()),
         (THEIRS, KEPT.to_vec()),
         (BOTH, vec![1]),
         (PAIRS, vec![1]),
+        (AGREE, vec![0, 1]),
+        (EVENTS, vec![0, 1]),
+        (CODES, (0..=3).collect()),
+        (PLACE, (0..MAX_EVENTS as u64).collect()),
+        (SHORT, vec![0, 1, 2]),
         (REFINES, vec![0, 1]),
         (STRAYS, vec![0, 1, 2, 3]),
         (REFUSALS, vec![0, 1, 2, 3]),
@@ -53,8 +69,8 @@ fn findings() -> Findings {
     Findings::new(groups, names(CompareFault::ALL))
 }
 
-/// One pair with lists that are long enough, and with one list around its limit; and a pair
-/// of which a sheet is refused, or with other events.
+/// One pair with lists that are long enough, and with one list around its limit; a pair with
+/// other codes; and a pair of which a sheet is refused, or with other events.
 fn round(rng: &mut Rng, round: u64, findings: &mut Findings) {
     let (reference, device) = match round % 6 {
         0 | 1 => deep_pair(rng),
@@ -80,6 +96,9 @@ fn round(rng: &mut Rng, round: u64, findings: &mut Findings) {
         _ => (words, places),
     };
     try_compare(rng, findings, (&reference, &device), trace_only, lengths);
+    let other = recoded(rng, &device);
+    let lengths = rng.pick(&[(0, 0), (words, 0), (0, places), (words, places)]);
+    try_compare(rng, findings, (&reference, &other), trace_only, lengths);
     let (mut first, mut second) = (reference, device);
     match rng.below(5) {
         0 => first = bad_sheet(rng),
@@ -164,9 +183,26 @@ fn try_compare(
     });
     count(findings, &model, trace_only);
     count_sheets(findings, [MINE, THEIRS, BOTH], reference, device);
-    if check(reference) == 0 && check(device) == 0 && reference.e == device.e {
-        let pairs = reference.n as usize * device.n as usize;
+    let pairs = reference.n as usize * device.n as usize;
+    if matches!(model.refusal, 0 | 12 | 13) {
         count_lists(findings, pairs, (words, places), model.refusal);
+    }
+    if model.refusal == 0 {
+        findings.count(AGREE, u64::from(!has_first_codes(reference)));
+    }
+    if model.refusal == 11 {
+        let (mine, theirs) = (reference.used_codes(), device.used_codes());
+        let differ = mine.iter().zip(theirs).any(|(a, b)| a != b);
+        findings.count(EVENTS, u64::from(differ));
+    }
+    if model.refusal == 19 {
+        count_codes(findings, reference, device);
+        let short = match (words < WORDS_A_PAIR * pairs, places + 1 < pairs) {
+            (true, _) => 1,
+            (false, true) => 2,
+            (false, false) => 0,
+        };
+        findings.count(SHORT, short);
     }
     catch(findings, CompareFault::ALL, |fault| {
         let (mut work, mut list) = (work.clone(), list.clone());
@@ -175,7 +211,16 @@ fn try_compare(
     });
 }
 
-/// Counts the lengths of the lists that two accepted sheets with equal events were compared on.
+/// Counts how the codes of two sheets differ.
+fn count_codes(findings: &mut Findings, reference: &Sheet, device: &Sheet) {
+    findings.count(CODES, codes_class(reference, device));
+    if let Some(place) = lone_place(reference, device) {
+        findings.count(PLACE, place as u64);
+    }
+}
+
+/// Counts the lengths of the lists that two accepted sheets with equal events and codes were
+/// compared on.
 fn count_lists(
     findings: &mut Findings,
     pairs: usize,

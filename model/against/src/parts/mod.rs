@@ -8,6 +8,8 @@ mod suites;
 mod texts;
 mod verdicts;
 
+use std::collections::BTreeSet;
+
 use model::random::{kept, kept_noise, kept_twice, Rng, AIMS_KEPT};
 use model::sheet::{check, Row, Sheet};
 
@@ -44,7 +46,31 @@ pub const MISTAKES: [(&str, &str); 6] = [
 ];
 
 /// The refusals of a kept sheet.
-const KEPT: [u64; 5] = [3, 5, 6, 7, 8];
+const KEPT: [u64; 6] = [3, 5, 6, 7, 8, 18];
+
+/// How the codes of two accepted sheets of equal E differ: 0 in the last event's alone, 1 in
+/// another event's alone, 2 they are the same in another order, 3 otherwise.
+fn codes_class(reference: &Sheet, device: &Sheet) -> u64 {
+    let last = usize::from(reference.e) - 1;
+    match lone_place(reference, device) {
+        Some(place) if place == last => 0,
+        Some(_) => 1,
+        None => {
+            let codes = |sheet: &Sheet| sheet.used_codes().iter().copied().collect::<BTreeSet<_>>();
+            3 - u64::from(codes(reference) == codes(device))
+        }
+    }
+}
+
+/// The event whose code is the only one in which two accepted sheets of equal E differ.
+fn lone_place(reference: &Sheet, device: &Sheet) -> Option<usize> {
+    let both = reference.codes.iter().zip(&device.codes).enumerate();
+    let places: Vec<usize> = both.filter(|(_, (a, b))| a != b).map(|(i, _)| i).collect();
+    match places[..] {
+        [place] => Some(place),
+        _ => None,
+    }
+}
 
 /// Counts whose sheet a call on two sheets refuses: the number in the group of the reference or
 /// of the device, and 1 in the third group if both are refused, with different numbers.
@@ -102,5 +128,6 @@ fn shown_sheet(sheet: &Sheet) -> String {
     let used = rows.filter(|(_, row)| **row != Row::UNUSED);
     let row = |(v, row): (usize, &Row)| format!("{v} {:?} {:?} {}", row.succ, row.sets, row.c);
     let rows: Vec<String> = used.map(row).collect();
-    format!("e {} n {} rows {}", sheet.e, sheet.n, rows.join("; "))
+    let (e, n, codes) = (sheet.e, sheet.n, sheet.codes);
+    format!("e {e} n {n} codes {codes:?} rows {}", rows.join("; "))
 }

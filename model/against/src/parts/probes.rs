@@ -27,7 +27,7 @@ pub const PART: Part = Part {
 
 fn findings() -> Findings {
     let groups = vec![
-        (LIST, vec![0, 3, 5, 6, 7, 8, 9, 10]),
+        (LIST, vec![0, 3, 5, 6, 7, 8, 9, 10, 18]),
         (LENGTH, (0..=5).collect()),
         (COUNT, vec![0, 1, 2, 3, 4]),
         (LARGE, vec![12]),

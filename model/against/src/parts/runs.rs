@@ -31,8 +31,8 @@ pub const PART: Part = Part {
 
 fn findings() -> Findings {
     let groups = vec![
-        (OPEN, vec![0, 3, 5, 6, 7, 8, 14]),
-        (STEP, vec![0, 3, 5, 6, 7, 8, 9, 15, 16, 17]),
+        (OPEN, vec![0, 3, 5, 6, 7, 8, 14, 18]),
+        (STEP, vec![0, 3, 5, 6, 7, 8, 9, 15, 16, 17, 18]),
         (RUNS, vec![2, 3, 4, 5]),
         (TRACES, vec![2, 4, 5]),
         (DEEP, vec![0, 1, 2, 3]),

@@ -1,12 +1,14 @@
-//! Reading and checking: valid sheets of every size, damaged bytes, kept sheets with any
-//! content.
+//! Reading and checking: valid sheets of every size and both versions, damaged bytes, kept sheets
+//! with any content.
 
 use model::faults::{check_with, read_with, Fault, ReadAnswer};
 use model::random::{
     damaged, damaged_twice, full_sheet, kept, kept_noise, kept_twice, long_bytes, noise_bytes,
-    sheet_of_size, Rng, AIMS_KEPT, AIMS_READ,
+    sheet_of_size, spelled, Rng, AIMS_KEPT, AIMS_READ,
 };
-use model::sheet::{encode, Sheet, MAX_BYTES, MAX_EVENTS, MAX_NODES, MAX_SETS};
+use model::sheet::{
+    check, encode, first_codes, has_first_codes, Sheet, MAX_BYTES, MAX_EVENTS, MAX_NODES, MAX_SETS,
+};
 
 use super::shown_sheet;
 use crate::edge;
@@ -21,6 +23,15 @@ const SETS: &str = "valid sheets with a node of so many sets";
 const LARGE: &str = "valid sheets with 16 nodes or more (1) or fewer (0)";
 const LARGEST: &str = "valid sheets of the most bytes";
 const LONG: &str = "read, by the bytes that a right length field needs";
+const VERSION: &str =
+    "accepted, version 1 (1), version 2 with the codes of version 1 (2), a code 0 (3), others (4)";
+const NEITHER: &str = "refused 2, by the version";
+const CUT: &str =
+    "refused 4 in version 2, 0 codes cut off, 1 with one twice before the cut, 2 no byte after them, 3 later";
+const TWICE: &str = "read refused 18, by what other codes get";
+const KEPT_TWICE: &str = "check refused 18, by what other codes get";
+const RANGE: &str = "refused 3 with a code given twice, 0 read, 1 check";
+const UNUSED: &str = "refused 7 for an unused code alone";
 
 pub const PART: Part = Part {
     name: "sheets",
@@ -32,14 +43,21 @@ pub const PART: Part = Part {
 
 fn findings() -> Findings {
     let groups = vec![
-        (READ, (0..=8).collect()),
-        (CHECK, vec![0, 3, 5, 6, 7, 8]),
+        (READ, (0..=8).chain([18]).collect()),
+        (CHECK, vec![0, 3, 5, 6, 7, 8, 18]),
         (NODES, (1..=MAX_NODES as u64).collect()),
         (EVENTS, (1..=MAX_EVENTS as u64).collect()),
         (SETS, (1..=MAX_SETS as u64).collect()),
         (LARGE, vec![0, 1]),
         (LARGEST, vec![MAX_BYTES as u64]),
         (LONG, (0..=4).collect()),
+        (VERSION, (1..=4).collect()),
+        (NEITHER, vec![0, 3, 255]),
+        (CUT, (0..=3).collect()),
+        (TWICE, vec![0, 4, 5, 6, 7, 8]),
+        (KEPT_TWICE, vec![0, 5, 6, 7, 8]),
+        (RANGE, vec![0, 1]),
+        (UNUSED, vec![7]),
     ];
     let plants = plants().into_iter();
     let name = |(call, fault): (Call, Fault)| format!("{fault:?} in {call:?}");
@@ -67,7 +85,7 @@ fn plants() -> Vec<(Call, Fault)> {
 /// than any sheet, or a sheet without unused places.
 fn round(rng: &mut Rng, round: u64, findings: &mut Findings) {
     let sheet = valid(rng, round, findings);
-    try_read(findings, &encode(&sheet));
+    try_read(findings, &spelled(rng, &sheet));
     try_check(findings, &sheet);
     let turn = round as usize;
     try_read(findings, &damaged(rng, AIMS_READ[turn % AIMS_READ.len()]));
@@ -87,7 +105,7 @@ fn round(rng: &mut Rng, round: u64, findings: &mut Findings) {
 /// kept place changed.
 fn full(rng: &mut Rng, findings: &mut Findings) {
     let mut sheet = full_sheet(rng);
-    let mut bytes = encode(&sheet);
+    let mut bytes = encode(2, &sheet);
     if bytes.len() == MAX_BYTES {
         findings.count(LARGEST, MAX_BYTES as u64);
     }
@@ -97,9 +115,10 @@ fn full(rng: &mut Rng, findings: &mut Findings) {
     bytes[place] = rng.byte();
     try_read(findings, &bytes);
     let row = &mut sheet.rows[rng.below(MAX_NODES)];
-    match rng.below(3) {
+    match rng.below(4) {
         0 => row.succ[rng.below(MAX_EVENTS)] = rng.byte(),
-        1 => row.sets[rng.below(MAX_SETS)] ^= 1 << rng.below(16),
+        1 => sheet.codes[rng.below(MAX_EVENTS)] = sheet.codes[0] ^ u16::from(rng.one_in(2)),
+        2 => row.sets[rng.below(MAX_SETS)] ^= 1 << rng.below(16),
         _ => row.c = rng.byte(),
     }
     try_check(findings, &sheet);
@@ -150,6 +169,7 @@ fn try_read(findings: &mut Findings, bytes: &[u8]) {
     findings.count(READ, u64::from(model.number));
     let follow = bytes.len().saturating_sub(4) as u32;
     findings.count(LONG, u64::from((39 - follow.leading_zeros()) / 8));
+    count_read(findings, bytes, &model);
     catch(findings, Call::Read, |fault| {
         read_with(fault, bytes) != ours
     });
@@ -166,9 +186,57 @@ fn try_check(findings: &mut Findings, sheet: &Sheet) {
         )
     });
     findings.count(CHECK, u64::from(model));
+    count_check(findings, sheet, model);
     catch(findings, Call::Check, |fault| {
         check_with(fault, sheet) != ours
     });
+}
+
+/// Counts what a reading has to do with versions and codes.
+fn count_read(findings: &mut Findings, bytes: &[u8], answer: &ReadAnswer) {
+    let Some(&[.., version, e, _]) = bytes.first_chunk::<7>() else {
+        return;
+    };
+    let end = 7 + 2 * usize::from(e);
+    let words = bytes[7..end.min(bytes.len())].chunks_exact(2);
+    let codes: Vec<u16> = words.map(|b| u16::from_be_bytes([b[0], b[1]])).collect();
+    match (answer.number, version) {
+        (0, 1) => findings.count(VERSION, 1),
+        (0, _) if has_first_codes(&answer.sheet) => findings.count(VERSION, 2),
+        (0, _) => findings.count(VERSION, 4 - u64::from(codes.contains(&0))),
+        (2, 0 | 3 | 255) => findings.count(NEITHER, version.into()),
+        (3, 2) if bytes.len() >= end && twice(&codes) => findings.count(RANGE, 0),
+        (4, 2) if bytes.len() < end => findings.count(CUT, twice(&codes).into()),
+        (4, 2) => findings.count(CUT, if bytes.len() == end { 2 } else { 3 }),
+        (18, _) => {
+            let mut other = bytes.to_vec();
+            for (place, code) in other[7..end].chunks_exact_mut(2).zip(first_codes(e)) {
+                place.copy_from_slice(&code.to_be_bytes());
+            }
+            findings.count(TWICE, read_with(Fault::None, &other).number.into());
+        }
+        _ => {}
+    }
+}
+
+/// Counts what a check has to do with codes.
+fn count_check(findings: &mut Findings, sheet: &Sheet, answer: u8) {
+    match answer {
+        3 if twice(sheet.used_codes()) => findings.count(RANGE, 1),
+        7 if check(&sheet.with_codes(sheet.used_codes())) == 0 => findings.count(UNUSED, 7),
+        18 => {
+            let mut other = *sheet;
+            let places = other.codes.iter_mut().zip(first_codes(sheet.e));
+            places.for_each(|(place, code)| *place = code);
+            findings.count(KEPT_TWICE, check(&other).into());
+        }
+        _ => {}
+    }
+}
+
+/// Whether a code is given twice.
+fn twice(codes: &[u16]) -> bool {
+    (1..codes.len()).any(|place| codes[..place].contains(&codes[place]))
 }
 
 /// Marks the faults in a call that differ from the library on this input.
@@ -199,6 +267,9 @@ fn read_difference(model: &ReadAnswer, ours: &ReadAnswer) -> String {
     let mut places = heads
         .map(|(place, a, b)| told(place.into(), a.into(), b.into()))
         .to_vec();
+    for (i, (a, b)) in model.sheet.codes.iter().zip(&ours.sheet.codes).enumerate() {
+        places.push(told(format!("codes[{i}]"), *a, *b));
+    }
     for (v, (a, b)) in model.sheet.rows.iter().zip(&ours.sheet.rows).enumerate() {
         places.push(told(format!("rows[{v}].c"), a.c.into(), b.c.into()));
         for (i, (a, b)) in a.succ.iter().zip(&b.succ).enumerate() {

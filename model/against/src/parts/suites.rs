@@ -3,10 +3,10 @@
 
 use model::numbers::{FAILS, PASSES};
 use model::planted::suites::{suite_with, SuiteFault};
-use model::random::{deep_pair, pair, random_sheet, small_pair, Rng};
-use model::sheet::Sheet;
+use model::random::{deep_pair, pair, random_sheet, recoded, small_pair, Rng};
+use model::sheet::{has_first_codes, Sheet};
 
-use super::{bad_sheet, catch, count_sheets, flag, names, shown_sheet, KEPT};
+use super::{bad_sheet, catch, codes_class, count_sheets, flag, names, shown_sheet, KEPT};
 use crate::edge;
 use crate::findings::Findings;
 use crate::play::Part;
@@ -16,6 +16,10 @@ const MINE: &str = "judge_all, the refusals of the reference";
 const THEIRS: &str = "judge_all, the refusals of the device";
 const BOTH: &str = "judge_all, both sheets refused with different numbers";
 const FAILED: &str = "judged, 0 no test fails, 1 some, 2 some and a later one passes";
+const AGREE: &str = "judged pairs, 0 with the codes of version 1, 1 with others";
+const CODES: &str =
+    "judge_all refused 19, 0 the last code alone, 1 another alone, 2 another order, 3 otherwise";
+const SHORT: &str = "judge_all refused 19, 0 with a list long enough, 1 shorter";
 const ROOM: &str = "lists, 0 just long enough, 1 longer, 2 one place short, 3 shorter";
 
 pub const PART: Part = Part {
@@ -28,11 +32,14 @@ pub const PART: Part = Part {
 
 fn findings() -> Findings {
     let groups = vec![
-        (CALL, vec![0, 3, 5, 6, 7, 8, 10, 11]),
+        (CALL, vec![0, 3, 5, 6, 7, 8, 10, 11, 18, 19]),
         (MINE, KEPT.to_vec()),
         (THEIRS, KEPT.to_vec()),
         (BOTH, vec![1]),
         (FAILED, vec![0, 1, 2]),
+        (AGREE, vec![0, 1]),
+        (CODES, (0..=3).collect()),
+        (SHORT, vec![0, 1]),
         (ROOM, vec![0, 1, 2, 3]),
     ];
     Findings::new(groups, names(SuiteFault::ALL))
@@ -49,10 +56,11 @@ fn round(rng: &mut Rng, round: u64, findings: &mut Findings) {
     judge(rng, findings, &reference, &device);
     for _ in 0..3 {
         let (mut first, mut second) = (reference, device);
-        match rng.below(5) {
+        match rng.below(6) {
             0 => first = bad_sheet(rng),
             1 => second = bad_sheet(rng),
             2 => (first, second) = (bad_sheet(rng), bad_sheet(rng)),
+            3 => second = recoded(rng, &device),
             _ => second = random_sheet(rng),
         }
         judge(rng, findings, &first, &second);
@@ -99,6 +107,11 @@ fn judge(rng: &mut Rng, findings: &mut Findings, reference: &Sheet, device: &She
     }
     if model.refusal == 0 {
         findings.count(FAILED, failing(&list[..tests]));
+        findings.count(AGREE, u64::from(!has_first_codes(reference)));
+    }
+    if model.refusal == 19 {
+        findings.count(CODES, codes_class(reference, device));
+        findings.count(SHORT, u64::from(lent.len() < tests));
     }
     catch(findings, SuiteFault::ALL, |fault| {
         let (other, list) = played(fault);

@@ -4,12 +4,12 @@
 use model::comparison::{compare, Outcome, MAX_WORDS};
 use model::numbers::{judge_numbers, judged, FAILS, PASSES};
 use model::planted::verdicts::{verdict_with, VerdictFault};
-use model::random::{deep_pair, pair, random_sheet, small_pair, Rng};
-use model::sheet::Sheet;
+use model::random::{deep_pair, pair, random_sheet, recoded, small_pair, Rng};
+use model::sheet::{has_first_codes, Sheet};
 use model::tests::MAX_TEST;
 use model::verdict::verdicts;
 
-use super::{bad_sheet, catch, count_sheets, flag, names, shown_sheet, KEPT};
+use super::{bad_sheet, catch, codes_class, count_sheets, flag, names, shown_sheet, KEPT};
 use crate::edge;
 use crate::findings::Findings;
 use crate::play::Part;
@@ -21,6 +21,10 @@ const BOTH: &str = "judge, both sheets refused with different numbers";
 const VERDICT: &str = "judged, 11 passes, 12 fails, 13 and 14 the same of trace-only tests";
 const NUMBER: &str =
     "judged tests 0 (0), 1 to 9 (1), 10 to 99 (2), 100 to 999 (3), 1000 and more (4)";
+const AGREE: &str = "judged pairs, 0 with the codes of version 1, 1 with others";
+const CODES: &str =
+    "judge refused 19, 0 the last code alone, 1 another alone, 2 another order, 3 otherwise";
+const HIGH: &str = "judge refused 19, 0 with k up to 1023, 1 above";
 const SMALL: &str = "pairs whose tests below p q are all judged";
 const LATER: &str = "pairs with a test that passes after one that fails";
 
@@ -34,12 +38,15 @@ pub const PART: Part = Part {
 
 fn findings() -> Findings {
     let groups = vec![
-        (JUDGE, vec![0, 3, 5, 6, 7, 8, 11, 14]),
+        (JUDGE, vec![0, 3, 5, 6, 7, 8, 11, 14, 18, 19]),
         (MINE, KEPT.to_vec()),
         (THEIRS, KEPT.to_vec()),
         (BOTH, vec![1]),
         (VERDICT, vec![11, 12, 13, 14]),
         (NUMBER, vec![0, 1, 2, 3, 4]),
+        (AGREE, vec![0, 1]),
+        (CODES, (0..=3).collect()),
+        (HIGH, vec![0, 1]),
         (SMALL, vec![1]),
         (LATER, vec![1]),
     ];
@@ -62,7 +69,7 @@ fn round(rng: &mut Rng, round: u64, findings: &mut Findings) {
     };
     let numbers = chosen(rng, &reference, &device, trace_only);
     judge_all(rng, findings, (&reference, &device), &numbers, trace_only);
-    for _ in 0..4 {
+    for _ in 0..5 {
         refused(rng, findings, &reference, &device);
     }
 }
@@ -93,6 +100,7 @@ fn judge_all(
     numbers: &[u16],
     trace_only: bool,
 ) {
+    findings.count(AGREE, u64::from(!has_first_codes(reference)));
     let most = numbers.iter().max().map_or(0, |k| k + 1);
     let model = verdicts(reference, device, most, trace_only);
     let mut failed = false;
@@ -122,15 +130,17 @@ fn judge_all(
     }
 }
 
-/// One call that is refused, or not: sheets of any content, other events, a test too high.
+/// One call that is refused, or not: sheets of any content, other events, other codes, a test too
+/// high.
 fn refused(rng: &mut Rng, findings: &mut Findings, reference: &Sheet, device: &Sheet) {
     let (mut first, mut second) = (*reference, *device);
     let mut k = rng.pick(&[0, 1, 2, MAX_TEST + 1, 65_535]);
-    match rng.below(6) {
+    match rng.below(8) {
         0 => first = bad_sheet(rng),
         1 => second = bad_sheet(rng),
         2 => (first, second) = (bad_sheet(rng), bad_sheet(rng)),
         3 | 4 => second = random_sheet(rng),
+        5 | 6 => second = recoded(rng, device),
         _ => k = rng.pick(&[MAX_TEST + 1, 2_000, 65_535]),
     }
     let trace_only = rng.one_in(2);
@@ -146,6 +156,10 @@ fn refused(rng: &mut Rng, findings: &mut Findings, reference: &Sheet, device: &S
     });
     findings.count(JUDGE, u64::from(model.refusal));
     count_sheets(findings, [MINE, THEIRS, BOTH], &first, &second);
+    if model.refusal == 19 {
+        findings.count(CODES, codes_class(&first, &second));
+        findings.count(HIGH, u64::from(k > MAX_TEST));
+    }
     catch(findings, VerdictFault::ALL, |fault| {
         judged(verdict_with(fault, &first, &second, k, trace_only)) != ours
     });

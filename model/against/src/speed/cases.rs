@@ -56,13 +56,13 @@ pub fn worst() -> Vec<Case> {
 
 /// Reading and checking the largest sheet.
 fn sheets(sheet: Sheet) -> Vec<Case> {
-    let bytes = encode(&sheet);
+    let bytes = encode(2, &sheet);
     assert_eq!(bytes.len(), MAX_BYTES);
     same::read(&bytes);
     same::check(&sheet);
     let copy = bytes.clone();
     let tables = Tables::of(&sheet);
-    let case = || "1447 bytes".to_string();
+    let case = || format!("{MAX_BYTES} bytes");
     vec![
         Case {
             call: "read",

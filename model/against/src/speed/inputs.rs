@@ -8,13 +8,14 @@ use super::runs::probe_count;
 /// The successors and the sets of one node.
 type Node = ([u8; MAX_EVENTS], Vec<u16>);
 
-/// The largest sheet: 32 nodes in a ring on all 12 events, each with the same 16 sets, those
-/// with the most probes of many that were drawn.
+/// The largest sheet, in version 2: 32 nodes in a ring on all 12 events, each with the same 16
+/// sets, those with the most probes of many that were drawn.
 pub fn crowded() -> Sheet {
     let sets = many_probes();
     let node = |v: u8| ([(v + 1) % MAX_NODES as u8; MAX_EVENTS], sets.clone());
     let nodes: Vec<Node> = (0..MAX_NODES as u8).map(node).collect();
-    Sheet::build(MAX_EVENTS as u8, &nodes)
+    let codes: [u16; MAX_EVENTS] = std::array::from_fn(|event| 257 * (event as u16 + 1));
+    Sheet::build(MAX_EVENTS as u8, &nodes).with_codes(&codes)
 }
 
 /// Sixteen sets of 12 events with many probes: the best of some random choices, each with

@@ -4,10 +4,10 @@
 use model::comparison::WORDS_A_PAIR;
 use model::numbers::{Compared, Record};
 use model::random::{
-    damaged, deep_pair, kept, kept_twice, pair, random_record, random_sheet, Rng, AIMS_KEPT,
-    AIMS_READ,
+    damaged, deep_pair, kept, kept_twice, pair, random_record, random_sheet, recoded, spelled, Rng,
+    AIMS_KEPT, AIMS_READ,
 };
-use model::sheet::{encode, Sheet};
+use model::sheet::Sheet;
 
 use super::tables::Tables;
 use super::{pairs, runs, tables};
@@ -98,7 +98,7 @@ pub fn random(rounds: usize) {
         let aim = AIMS_KEPT[round % AIMS_KEPT.len()];
         let bad = kept(&mut rng, aim);
         let worse = kept_twice(&mut rng);
-        read(&encode(&good));
+        read(&spelled(&mut rng, &good));
         read(&damaged(&mut rng, AIMS_READ[round % AIMS_READ.len()]));
         for sheet in [&good, &bad, &worse] {
             one_sheet(&mut rng, sheet);
@@ -106,6 +106,8 @@ pub fn random(rounds: usize) {
         let pair = if round % 3 == 0 { deep_pair } else { pair };
         let (reference, device) = pair(&mut rng);
         two_sheets(&mut rng, &reference, &device);
+        let other = recoded(&mut rng, &device);
+        two_sheets(&mut rng, &reference, &other);
         let other = rng.pick(&[bad, worse, good]);
         two_sheets(&mut rng, &reference, &other);
         two_sheets(&mut rng, &other, &device);

@@ -10,6 +10,7 @@ pub struct Tables {
     pub counts: [u8; MAX_NODES],
     pub e: u8,
     pub n: u8,
+    pub codes: [u16; MAX_EVENTS],
 }
 
 impl Tables {
@@ -20,6 +21,7 @@ impl Tables {
         counts: [0; MAX_NODES],
         e: 0,
         n: 0,
+        codes: [0; MAX_EVENTS],
     };
 
     /// The tables of a kept sheet with any content.
@@ -30,8 +32,13 @@ impl Tables {
             tables.sets[v * 16..v * 16 + 16].copy_from_slice(&row.sets);
             tables.counts[v] = row.c;
         }
-        (tables.e, tables.n) = (sheet.e, sheet.n);
+        (tables.e, tables.n, tables.codes) = (sheet.e, sheet.n, sheet.codes);
         tables
+    }
+
+    /// The codes of the E events.
+    pub fn codes(&self) -> &[u16] {
+        &self.codes[..self.e as usize]
     }
 
     /// The successors of a node on its E events.
@@ -74,7 +81,7 @@ pub fn read(bytes: &[u8]) -> (u8, Tables) {
     (number, tables)
 }
 
-/// 1 to 5, while the tables are filled.
+/// 1 to 5 and 18, while the tables are filled.
 fn fill(bytes: &[u8], tables: &mut Tables) -> u8 {
     if bytes.len() < 7 {
         return 1;
@@ -83,7 +90,7 @@ fn fill(bytes: &[u8], tables: &mut Tables) -> u8 {
     if u64::from(field) + 4 != bytes.len() as u64 {
         return 1;
     }
-    if bytes[4] != 1 {
+    if !(1..=2).contains(&bytes[4]) {
         return 2;
     }
     (tables.e, tables.n) = (bytes[5], bytes[6]);
@@ -91,7 +98,29 @@ fn fill(bytes: &[u8], tables: &mut Tables) -> u8 {
         return 3;
     }
     tables.succ.fill(NO_NODE);
-    nodes(&bytes[7..], tables)
+    let e = tables.e as usize;
+    let places = tables.codes[..e].iter_mut();
+    if bytes[4] == 1 {
+        places.zip(1..).for_each(|(place, code)| *place = code);
+        return nodes(&bytes[7..], tables);
+    }
+    if bytes.len() < 7 + 2 * e {
+        return 4;
+    }
+    let (codes, after) = bytes[7..].split_at(2 * e);
+    for (place, pair) in places.zip(codes.chunks_exact(2)) {
+        *place = u16::from_be_bytes([pair[0], pair[1]]);
+    }
+    if twice(tables.codes()) {
+        return 18;
+    }
+    nodes(after, tables)
+}
+
+/// 18: whether two events have one code.
+fn twice(codes: &[u16]) -> bool {
+    let mut places = codes.iter().enumerate();
+    places.any(|(j, code)| codes[..j].contains(code))
 }
 
 /// 4 and 5, in one walk over the nodes, which are put into the tables.
@@ -130,6 +159,9 @@ pub fn check(tables: &Tables) -> u8 {
     if !in_range(tables) {
         return 3;
     }
+    if twice(tables.codes()) {
+        return 18;
+    }
     let counts = &tables.counts[..tables.n as usize];
     if !counts.iter().all(|c| (1..=16).contains(c)) {
         return 5;
@@ -156,6 +188,9 @@ fn blank(tables: &Tables) -> bool {
     used && tables.succ[n * 12..].iter().all(|&next| next == NO_NODE)
         && tables.sets[n * 16..].iter().all(|&set| set == 0)
         && tables.counts[n..].iter().all(|&c| c == 0)
+        && tables.codes[tables.e as usize..]
+            .iter()
+            .all(|&code| code == 0)
 }
 
 /// 6, 7 (of the used places) and 8.

@@ -1,17 +1,16 @@
 //! The program `compare`.
 
 use model::planted::text::compare::{output_with, TextFault};
-use model::random::{damaged, deep_pair, pair, program_input, Rng, AIMS_READ};
-use model::sheet::encode;
+use model::random::{damaged, deep_pair, pair, program_input, spelled, Rng, AIMS_READ};
 use model::text::compare::output;
 
 use super::super::{catch, names};
-use super::{after, count_length, printed, LENGTH};
+use super::{after, count_length, count_versions, printed, refusals, LENGTH, VERSIONS};
 use crate::findings::Findings;
 use crate::play::Part;
 
-const LINES: &str =
-    "compare, 0 refines, 1 stray, 2 refused, 3 reference refused, 4 device refused, 5 unequal events";
+const LINES: &str = "compare, 0 refines, 1 stray, 2 refused, 3 reference refused, \
+    4 device refused, 5 unequal events, 6 unequal codes";
 const MINE: &str = "compare, the refusals of the reference";
 const THEIRS: &str = "compare, the refusals of the device";
 const STRAYS: &str = "compare, strays at d 0 (0), 1 to 9 (1), 10 to 99 (2), 100 and more (3)";
@@ -27,9 +26,10 @@ pub const PART: Part = Part {
 
 fn findings() -> Findings {
     let groups = vec![
-        (LINES, (0..=5).collect()),
-        (MINE, (1..=8).collect()),
-        (THEIRS, (1..=8).collect()),
+        (LINES, (0..=6).collect()),
+        (MINE, refusals()),
+        (THEIRS, refusals()),
+        (VERSIONS, (0..=3).collect()),
         (LENGTH, vec![0, 1, 2]),
         (STRAYS, vec![0, 1, 2, 3]),
         (REFUSALS, vec![0, 1, 2, 3]),
@@ -47,7 +47,7 @@ fn input_of(rng: &mut Rng, round: u64) -> Vec<u8> {
         2 | 3 => pair(rng),
         _ => return program_input(rng),
     };
-    let (mut first, mut second) = (encode(&reference), encode(&device));
+    let (mut first, mut second) = (spelled(rng, &reference), spelled(rng, &device));
     match round % 8 {
         2 => first = damaged(rng, aim),
         3 => second = damaged(rng, aim),
@@ -78,9 +78,13 @@ fn count(findings: &mut Findings, input: &[u8], text: &str) {
         "reference refused",
         "device refused",
         "comparison refused 11",
+        "comparison refused 19",
     ];
     if let Some(class) = class.iter().position(|words| has(words)) {
         findings.count(LINES, class as u64);
+        if class < 3 {
+            count_versions(findings, input);
+        }
     }
     count_length(findings, input);
     count_numbers(findings, text);

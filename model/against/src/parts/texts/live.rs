@@ -7,18 +7,19 @@ use model::random::{live_call, Rng};
 use model::text::live::{output, Call};
 
 use super::super::{catch, names};
-use super::{after, printed, target};
+use super::{after, printed, refusals, target};
 use crate::findings::Findings;
 use crate::play::Part;
 
 const LINES: &str = "live, 0 passed, 1 stray, 2 refused, 3 input ended, 4 test refused";
 const REPORTS: &str = "live, runs with a report refused";
 const REFUSALS: &str = "live, the refusals of the reference";
+const VERSION: &str = "live, by the version of the reference";
 const DEPTH: &str = "live, accepted reports 0 (0), 1 to 9 (1), 10 and more (2)";
 
 pub const PART: Part = Part {
     name: "live text",
-    rounds: 4_000,
+    rounds: 4_500,
     findings,
     round,
     demands: |_| {},
@@ -28,7 +29,8 @@ fn findings() -> Findings {
     let groups = vec![
         (LINES, (0..=4).collect()),
         (REPORTS, vec![15, 17]),
-        (REFUSALS, (1..=8).collect()),
+        (REFUSALS, refusals()),
+        (VERSION, vec![1, 2]),
         (DEPTH, vec![0, 1, 2]),
     ];
     Findings::new(groups, names(LiveFault::ALL))
@@ -41,7 +43,7 @@ fn round(rng: &mut Rng, round: u64, findings: &mut Findings) {
     findings.compared(ours == model, || {
         format!("call {call:?}: model {model:?}, program {ours:?}")
     });
-    count(findings, &model);
+    count(findings, &call, &model);
     catch(findings, LiveFault::ALL, |fault| {
         output_with(fault, &call) != ours
     });
@@ -59,10 +61,13 @@ fn run(call: &Call, pieces: bool) -> String {
     printed("live", &words, &call.typed, pieces)
 }
 
-fn count(findings: &mut Findings, text: &str) {
+fn count(findings: &mut Findings, call: &Call, text: &str) {
     if let Some(number) = after(text, "reference refused ") {
         findings.count(REFUSALS, number);
         return;
+    }
+    if !text.starts_with("test refused ") {
+        findings.count(VERSION, call.file[4].into());
     }
     let ends = [
         "run passed",

@@ -11,6 +11,8 @@ use std::io::{Read, Write};
 use std::path::{Path, PathBuf};
 use std::process::{Command, Stdio};
 
+use model::random::AIMS_READ;
+
 use crate::findings::Findings;
 
 const LENGTH: &str = "input under 4 bytes (0), up to 4096 (1), longer (2)";
@@ -22,6 +24,23 @@ fn count_length(findings: &mut Findings, input: &[u8]) {
         _ => 2,
     };
     findings.count(LENGTH, length);
+}
+
+const VERSIONS: &str = "accepted pairs, versions 1 1 (0), 1 2 (1), 2 1 (2), 2 2 (3)";
+
+/// Counts the versions of an input of two sheets, both of which are accepted and agree.
+fn count_versions(findings: &mut Findings, input: &[u8]) {
+    let field = input
+        .first_chunk::<4>()
+        .map_or(0, |b| u32::from_be_bytes(*b));
+    let second = |place: usize| input.get(field as usize + 4 + place) == Some(&2);
+    let class = 2 * u64::from(input.get(4) == Some(&2)) + u64::from(second(4));
+    findings.count(VERSIONS, class);
+}
+
+/// The refusals of a reading.
+fn refusals() -> Vec<u64> {
+    AIMS_READ.into_iter().map(u64::from).collect()
 }
 
 /// The number that a text has after some words at the front of a line.

@@ -1,18 +1,18 @@
 //! The program `probe_list`.
 
 use model::planted::text::probe_list::{output_with, ProbeTextFault};
-use model::random::{crowded_sheet, sheet_input, Rng};
-use model::sheet::encode;
+use model::random::{crowded_sheet, sheet_input, spelled, Rng};
 use model::text::probe_list::output;
 
 use super::super::{catch, names};
-use super::{after, count_length, printed, LENGTH};
+use super::{after, count_length, printed, refusals, LENGTH};
 use crate::findings::Findings;
 use crate::play::Part;
 
 const LINES: &str =
     "probe_list, 0 no node may stop, 1 some node may stop, 2 refused, 3 some event is optional";
 const REFUSALS: &str = "probe_list, the refusals";
+const VERSION: &str = "probe_list, by the version";
 const PROBES: &str = "probe_list, at most 1 probe at a node (0), up to 9 (1), 10 and more (2)";
 
 pub const PART: Part = Part {
@@ -26,7 +26,8 @@ pub const PART: Part = Part {
 fn findings() -> Findings {
     let groups = vec![
         (LINES, (0..=3).collect()),
-        (REFUSALS, (1..=8).collect()),
+        (REFUSALS, refusals()),
+        (VERSION, vec![1, 2]),
         (LENGTH, vec![0, 1, 2]),
         (PROBES, vec![0, 1, 2]),
     ];
@@ -36,7 +37,10 @@ fn findings() -> Findings {
 /// An input: a sheet with many probes, or as for `show`.
 fn input_of(rng: &mut Rng, round: u64) -> Vec<u8> {
     match round % 40 {
-        39 => encode(&crowded_sheet(rng)),
+        39 => {
+            let sheet = crowded_sheet(rng);
+            spelled(rng, &sheet)
+        }
         _ => sheet_input(rng, round),
     }
 }
@@ -61,6 +65,7 @@ fn count(findings: &mut Findings, input: &[u8], text: &str) {
         findings.count(REFUSALS, number);
         return;
     }
+    findings.count(VERSION, input[4].into());
     findings.count(LINES, u64::from(text.contains(" may stop\n")));
     if text.contains(" optional ") {
         findings.count(LINES, 3);

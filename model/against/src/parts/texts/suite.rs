@@ -1,17 +1,16 @@
 //! The program `suite`.
 
 use model::planted::text::suite::{output_with, SuiteTextFault};
-use model::random::{damaged, deep_pair, pair, program_input, small_pair, Rng, AIMS_READ};
-use model::sheet::encode;
+use model::random::{damaged, deep_pair, pair, program_input, small_pair, spelled, Rng, AIMS_READ};
 use model::text::suite::output;
 
 use super::super::{catch, names};
-use super::{after, count_length, printed, LENGTH};
+use super::{after, count_length, count_versions, printed, refusals, LENGTH, VERSIONS};
 use crate::findings::Findings;
 use crate::play::Part;
 
-const LINES: &str =
-    "suite, 0 all pass, 1 failed, 2 reference refused, 3 device refused, 4 unequal events";
+const LINES: &str = "suite, 0 all pass, 1 failed, 2 reference refused, 3 device refused, \
+    4 unequal events, 5 unequal codes";
 const MINE: &str = "suite, the refusals of the reference";
 const THEIRS: &str = "suite, the refusals of the device";
 const TESTS: &str = "suite, 1 to 9 tests (0), 10 to 99 (1), 100 and more (2)";
@@ -26,9 +25,10 @@ pub const PART: Part = Part {
 
 fn findings() -> Findings {
     let groups = vec![
-        (LINES, (0..=4).collect()),
-        (MINE, (1..=8).collect()),
-        (THEIRS, (1..=8).collect()),
+        (LINES, (0..=5).collect()),
+        (MINE, refusals()),
+        (THEIRS, refusals()),
+        (VERSIONS, (0..=3).collect()),
         (LENGTH, vec![0, 1, 2]),
         (TESTS, vec![0, 1, 2]),
     ];
@@ -46,7 +46,7 @@ fn input_of(rng: &mut Rng, round: u64) -> Vec<u8> {
         2 | 3 => pair(rng),
         _ => return program_input(rng),
     };
-    let (mut first, mut second) = (encode(&reference), encode(&device));
+    let (mut first, mut second) = (spelled(rng, &reference), spelled(rng, &device));
     match round % 8 {
         2 => first = damaged(rng, aim),
         3 => second = damaged(rng, aim),
@@ -79,13 +79,16 @@ fn count(findings: &mut Findings, input: &[u8], text: &str) {
             findings.count(group, number);
         }
     }
-    if text.ends_with("suite refused 11\n") {
-        findings.count(LINES, 4);
+    match after(text, "suite refused ") {
+        Some(11) => findings.count(LINES, 4),
+        Some(19) => findings.count(LINES, 5),
+        _ => {}
     }
     let Some(tests) = after(text, "tests ") else {
         return;
     };
     findings.count(LINES, u64::from(!text.ends_with(" all pass\n")));
+    count_versions(findings, input);
     let class = match tests {
         0..=9 => 0,
         10..=99 => 1,
