@@ -56,9 +56,10 @@ faults! {
     }
 }
 
-/// The fault of the comparison that a fault of the text comes from.
+/// The fault of the comparison that a fault of the text comes from; no fault comes from none.
 fn comparison_fault(fault: TextFault) -> Option<CompareFault> {
     Some(match fault {
+        TextFault::None => CompareFault::None,
         TextFault::DepthSum => CompareFault::DepthSum,
         TextFault::DepthLarger => CompareFault::DepthLarger,
         TextFault::AcceptancesEqual => CompareFault::AcceptancesEqual,

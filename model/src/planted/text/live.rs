@@ -49,9 +49,10 @@ faults! {
     }
 }
 
-/// The fault of the run that a fault of the text comes from.
+/// The fault of the run that a fault of the text comes from; no fault comes from none.
 fn run_fault(fault: LiveFault) -> Option<RunFault> {
     Some(match fault {
+        LiveFault::None => RunFault::None,
         LiveFault::InitialsBelow => RunFault::InitialsBelow,
         LiveFault::EveryHittingSet => RunFault::EveryHittingSet,
         LiveFault::EmptyIsNoRule => RunFault::EmptyIsNoRule,

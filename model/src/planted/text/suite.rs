@@ -3,6 +3,7 @@
 use super::super::faults;
 use super::super::suites::{suite_with, SuiteFault};
 use super::{each_line, exchanged, joined, owned, without};
+use crate::numbers::PASSES;
 use crate::text::suite::{output, output_by};
 use crate::verdict::Verdict;
 
@@ -58,9 +59,10 @@ faults! {
     }
 }
 
-/// The fault of the verdicts that a fault of the text comes from.
+/// The fault of the verdicts that a fault of the text comes from; no fault comes from none.
 fn verdict_fault(fault: SuiteTextFault) -> Option<SuiteFault> {
     Some(match fault {
+        SuiteTextFault::None => SuiteFault::None,
         SuiteTextFault::OneShort => SuiteFault::OneShort,
         SuiteTextFault::DepthSum => SuiteFault::DepthSum,
         SuiteTextFault::DepthLarger => SuiteFault::DepthLarger,
@@ -82,7 +84,7 @@ pub fn output_with(fault: SuiteTextFault, input: &[u8]) -> String {
             let mut list = [0; 1_024];
             let suited = suite_with(other, reference, device, false, &mut list);
             let verdict = |&kind: &u8| match kind {
-                1 => Verdict::Passes,
+                PASSES => Verdict::Passes,
                 _ => Verdict::Fails,
             };
             let places = list.iter().take(suited.count.into());
