@@ -2,14 +2,15 @@
  * which `rt staticlib edge` writes below target/staticlib. It is for Linux on x86-64 and needs nothing but the C
  * library, of which it calls memcpy and memset alone: it takes no memory but the stack and what it is lent.
  *
- * An event is a number below E, a node a number below N. A set of events is a 16-bit number in which event i adds 2 to
- * the power i. Every content of what is lent or handed over is answered, so no call has a condition on it. A call keeps
- * nothing of what it is lent, alters nothing unless its comment says so, and may run in several threads at once.
+ * An event is a number below E, a node a number below N. The catalogue code of an event says what the event is. A set
+ * of events is a 16-bit number in which event i adds 2 to the power i. Every content of what is lent or handed over is
+ * answered, so no call has a condition on it. A call keeps nothing of what it is lent, alters nothing unless its
+ * comment says so, and may run in several threads at once.
  *
  * A list is lent as a pointer, which is not null even if the list is empty, and a number of places. A flag is a byte: 0
  * is false, every other value is true. Each call checks the sheets that it is handed again, the reference first, and
- * answers their refusals, 3 or 5 to 8, before its own. A call that is refused alters nothing, and every other part of
- * its answer is 0; only bench_step gives the record back as it came.
+ * answers their refusals, 3, 18 or 5 to 8, before its own. A call that is refused alters nothing, and every other part
+ * of its answer is 0; only bench_step gives the record back as it came.
  *
  * The stack that a call needs, measured on worst cases and rounded up, in bytes, with the copies of the sheets that are
  * handed over: bench_check 7,000; bench_read 9,000; bench_open 12,000; bench_step and bench_report 14,000; bench_list
@@ -28,8 +29,8 @@ extern "C" {
 
 /* The version of this header and the library. It grows by one with each change of a number, of a struct, of a call's
  * arguments or of what a call answers; a new call alone does not change it. Before it was counted verdicts and
- * comparisons had other kinds. */
-#define BENCH_VERSION 1
+ * comparisons had other kinds; in 1 sheets had no codes. It is not the version of a sheet's bytes. */
+#define BENCH_VERSION 2
 
 /* The most events, nodes and sets of a node, and a successor place that has no successor. */
 enum { BENCH_EVENTS = 12, BENCH_NODES = 32, BENCH_SETS = 16, BENCH_NONE = 255 };
@@ -38,27 +39,29 @@ enum { BENCH_EVENTS = 12, BENCH_NODES = 32, BENCH_SETS = 16, BENCH_NONE = 255 };
  * the words of the work list and the bytes of the trace list of bench_compare, and the tests of a pair (the bytes of
  * the list of bench_judge_all). */
 enum {
-    BENCH_SHEET_BYTES = 1447,
+    BENCH_SHEET_BYTES = 1471,
     BENCH_PROBES = 4096,
     BENCH_WORK_WORDS = 2048,
     BENCH_TRACE_BYTES = 1023,
     BENCH_TESTS = 1024
 };
 
-/* The refusals of a sheet. The first that applies is given, in the order of the numbers, each looked for in the whole
- * sheet; only 4 and 5 are found together, by position, in one walk from the front. */
+/* The refusals of a sheet. The first that applies is given, each looked for in the whole sheet. The order for bytes: 1,
+ * 2, 3, 4 (codes that are cut off), 18, 4 and 5 (found together, by position, in one walk over the nodes), 6, 7, 8. The
+ * order for a kept sheet: 3, 18, 5, 6, 7, 8. */
 enum {
     BENCH_ACCEPTED = 0,     /* no refusal */
     BENCH_BAD_LENGTH = 1,   /* fewer than 7 bytes, or the length field plus 4 is not the number of bytes */
-    BENCH_BAD_VERSION = 2,  /* the version is not 1 */
+    BENCH_BAD_VERSION = 2,  /* the version is neither 1 nor 2 */
     BENCH_BAD_RANGE = 3,    /* E is not 1 to 12, or N is not 1 to 32 */
-    BENCH_BAD_END = 4,      /* the bytes end inside a node, or some remain after the last */
+    BENCH_BAD_END = 4,      /* the bytes end inside the codes or a node, or some remain after the last node */
     BENCH_BAD_COUNT = 5,    /* the number of sets of a node is not 1 to 16 */
     BENCH_BAD_NEXT = 6,     /* a successor is neither 255 nor below N */
     BENCH_BAD_SETS = 7,     /* the sets of a node are not strictly ascending, one has an event without successor, or one
-                               includes another; of a kept sheet also: an unused place holds something else than it
-                               should */
-    BENCH_NOT_REACHED = 8   /* a node is not reached from node 0 */
+                               includes another; of a kept sheet also: an unused place, of the codes too, holds
+                               something else than it should */
+    BENCH_NOT_REACHED = 8,  /* a node is not reached from node 0 */
+    BENCH_CODE_TWICE = 18   /* two events have the same code */
 };
 
 /* The refusals of the other calls. */
@@ -67,6 +70,7 @@ enum {
                                 exceeds its k, or whose k is above 1,023 */
     BENCH_SHORT_PROBES = 10, /* a probe list shorter than the probes; also a list of verdicts shorter than the tests */
     BENCH_OTHER_EVENTS = 11, /* the two sheets have different E */
+    BENCH_OTHER_CODES = 19,  /* an event has not the same code in both sheets; looked for directly after 11 */
     BENCH_SHORT_WORK = 12,   /* a work list below 2 p q words, for p nodes of the reference and q of the device */
     BENCH_SHORT_TRACE = 13,  /* a trace list below p q - 1 bytes */
     BENCH_BAD_TEST = 14,     /* a test number k above 1,023 */
@@ -83,11 +87,13 @@ struct bench_row {
     uint8_t c;
 };
 
-/* A kept sheet: a row for each of 32 nodes, E, and N, the number of nodes in use. */
+/* A kept sheet: a row for each of 32 nodes; E; N, the number of nodes in use; the catalogue code of each event, which
+ * may be any 16-bit number. Unused codes hold 0. */
 struct bench_sheet {
     struct bench_row rows[BENCH_NODES];
     uint8_t e;
     uint8_t n;
+    uint16_t codes[BENCH_EVENTS];
 };
 
 /* What reading answers: the refusal, 0 for none, and the sheet. If it is refused, every place of the sheet holds 0. */
@@ -96,11 +102,12 @@ struct bench_read_sheet {
     struct bench_sheet sheet;
 };
 
-/* Reads a sheet. Lent: `length` bytes from `bytes` on, which is not null even if there are none. Answered: 0 and the
- * sheet that the bytes spell, or the refusal, 1 to 8, and a sheet of zeros. */
+/* Reads a sheet of version 1 or 2. Lent: `length` bytes from `bytes` on, which is not null even if there are none.
+ * Answered: 0 and the sheet that the bytes spell, or the refusal, 1 to 8 or 18, and a sheet of zeros. In version 1,
+ * which has no codes, event i has the code i + 1. */
 struct bench_read_sheet bench_read(const uint8_t *bytes, size_t length);
 
-/* Checks a kept sheet with any content. Handed over: a copy of the sheet. Answered: 0, or the refusal, 3 or 5 to 8.
+/* Checks a kept sheet with any content. Handed over: a copy of the sheet. Answered: 0, or the refusal, 3, 18 or 5 to 8.
  * Each sheet that bench_read accepts is answered with 0; one of zeros, which it answers where it refuses, with 3. */
 uint8_t bench_check(struct bench_sheet sheet);
 
@@ -187,7 +194,7 @@ struct bench_judged {
 };
 
 /* The verdict on a device for test k, trace-only if the flag `traces` is set. Handed over: copies of both sheets.
- * Answered: BENCH_PASSES or BENCH_FAILS; or the refusal (the reference's; the device's; 11; 14). */
+ * Answered: BENCH_PASSES or BENCH_FAILS; or the refusal (the reference's; the device's; 11; 19; 14). */
 struct bench_judged bench_judge(struct bench_sheet reference, struct bench_sheet device, uint16_t k, uint8_t traces);
 
 /* What the call on all tests answers: the refusal, 0 for none, and how many tests were judged, 0 if it is refused. */
@@ -199,8 +206,8 @@ struct bench_suited {
 /* The verdicts on a device for tests 0 to p q - 1, trace-only if the flag `traces` is set. Together they decide whether
  * the device refines the reference, for lists of events of every length. Handed over: copies of both sheets. Lent: a
  * list of `length` places. Answered: p q; place k of the list then holds BENCH_PASSES or BENCH_FAILS for test k, and
- * the rest of the list is as it was; or the refusal (the reference's; the device's; 11; 10, a list below p q places),
- * and the whole list is as it was. */
+ * the rest of the list is as it was; or the refusal (the reference's; the device's; 11; 19; 10, a list below p q
+ * places), and the whole list is as it was. */
 struct bench_suited bench_judge_all(struct bench_sheet reference, struct bench_sheet device, uint8_t traces, uint8_t *out, size_t length);
 
 /* The kinds of a comparison's answer. */
@@ -229,8 +236,8 @@ struct bench_compared {
  * which p q - 1 are needed; BENCH_WORK_WORDS and BENCH_TRACE_BYTES are enough for any two sheets. Answered: whether the
  * device refines the reference, or the nearest violation; then 2 p q words of the work list are 0 and its later words
  * as they were, and the d events of the trace, the least of its length by event number, stand at the front of the trace
- * list and its rest is as it was. Or the refusal (the reference's; the device's; 11; 12; 13), and both lists are as
- * they were. */
+ * list and its rest is as it was. Or the refusal (the reference's; the device's; 11; 19; 12; 13), and both lists are
+ * as they were. */
 struct bench_compared bench_compare(struct bench_sheet reference, struct bench_sheet device, uint8_t traces, uint16_t *work,
                                     size_t words, uint8_t *trace, size_t places);
 
@@ -244,9 +251,9 @@ struct bench_compared bench_compare(struct bench_sheet reference, struct bench_s
 #ifdef BENCH_HOLDS
 BENCH_HOLDS(sizeof(struct bench_row) == 46);
 BENCH_HOLDS(offsetof(struct bench_row, sets) == 12 && offsetof(struct bench_row, c) == 44);
-BENCH_HOLDS(sizeof(struct bench_sheet) == 1474);
+BENCH_HOLDS(sizeof(struct bench_sheet) == 1498 && offsetof(struct bench_sheet, codes) == 1474);
 BENCH_HOLDS(offsetof(struct bench_sheet, e) == 1472 && offsetof(struct bench_sheet, n) == 1473);
-BENCH_HOLDS(sizeof(struct bench_read_sheet) == 1476 && offsetof(struct bench_read_sheet, sheet) == 2);
+BENCH_HOLDS(sizeof(struct bench_read_sheet) == 1500 && offsetof(struct bench_read_sheet, sheet) == 2);
 BENCH_HOLDS(sizeof(struct bench_listed) == 4 && offsetof(struct bench_listed, count) == 2);
 BENCH_HOLDS(sizeof(struct bench_run) == 10 && offsetof(struct bench_run, h) == 2);
 BENCH_HOLDS(offsetof(struct bench_run, traces) == 4 && offsetof(struct bench_run, ended) == 5);
