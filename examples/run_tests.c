@@ -17,8 +17,28 @@ static const uint8_t DEVICE[22] = {
     0x03, 0x02, 0x02, 0x01, 0x00, 0x03, 0x00, 0xFF, 0x01, 0x00, 0x01,
 };
 
+/* The reference as version 2, with the codes 257 and 258. */
+static const uint8_t CODED[23] = {
+    0x00, 0x00, 0x00, 0x13, 0x02, 0x02, 0x02, 0x01, 0x01, 0x01, 0x02, 0x01,
+    0x01, 0x02, 0x00, 0x01, 0x00, 0x02, 0x00, 0x00, 0x01, 0x00, 0x03,
+};
+
 static struct bench_sheet reference;
 static struct bench_sheet device;
+
+/* Reads the device as version 2, with these codes. */
+static struct bench_read_sheet read_coded(uint16_t first, uint16_t second) {
+    uint8_t bytes[sizeof DEVICE + 4];
+    memcpy(bytes, DEVICE, 7);
+    bytes[3] = DEVICE[3] + 4;
+    bytes[4] = 2;
+    bytes[7] = first >> 8;
+    bytes[8] = first & 255;
+    bytes[9] = second >> 8;
+    bytes[10] = second & 255;
+    memcpy(bytes + 11, DEVICE + 7, sizeof DEVICE - 7);
+    return bench_read(bytes, sizeof bytes);
+}
 
 /* The answer to an opening or a report. */
 static void print_said(const char *what, struct bench_said said) {
@@ -161,5 +181,29 @@ int main(void) {
     print_comparison("with 11 words", &device, 0, 11, 5);
     print_comparison("with 4 places", &device, 0, 12, 4);
     print_comparison("with itself", &reference, 0, 8, 3);
+
+    /* The codes of version 1 are 1 and 2, so a device of version 2 with these is compared. */
+    device = read_coded(1, 2).sheet;
+    print_comparison("versions 1 and 2", &device, 0, 12, 5);
+    print_verdicts(0);
+    /* With other codes it is refused, ahead of short lists and of a wrong test number. */
+    device = read_coded(2, 1).sheet;
+    print_comparison("codes exchanged", &device, 0, 0, 0);
+    print_comparison("codes exchanged, traces alone", &device, 1, 12, 5);
+    printf("verdict with codes exchanged: refusal %d\n", bench_judge(reference, device, 5, 0).refusal);
+    printf("the same on test 1024: refusal %d\n", bench_judge(reference, device, 1024, 0).refusal);
+    print_suite(0, 0);
+    /* A code given twice is the sheet's own refusal: it comes first. */
+    device.codes[1] = device.codes[0];
+    print_comparison("a code twice", &device, 0, 12, 5);
+
+    /* Both of version 2, with the same codes and with others. */
+    first = bench_read(CODED, sizeof CODED);
+    second = read_coded(257, 258);
+    printf("read: %d %d\n", first.refusal, second.refusal);
+    reference = first.sheet;
+    print_comparison("both of version 2", &second.sheet, 0, 12, 5);
+    second = read_coded(257, 259);
+    print_comparison("another code", &second.sheet, 0, 12, 5);
     return 0;
 }
