@@ -10,6 +10,7 @@ begins
 root=$PWD
 example=samples/example
 tray=samples/tray
+codes=samples/codes
 
 # ends_with STATUS NAME COMMAND..: the command ends with this status; what it says is in $scratch/printed and
 # $scratch/said
@@ -38,7 +39,7 @@ told() {
 # ---- statuses: yes, no, everything else
 bytes $reference > "$scratch/reference"
 bytes $stopped > "$scratch/stopped"
-bytes 00 00 00 07 02 01 01 00 01 00 00 > "$scratch/version"
+bytes 00 00 00 07 03 01 01 00 01 00 00 > "$scratch/version"
 : > "$scratch/empty"
 lines 'event 0' 'event 0' > "$scratch/passes"
 lines 'event 0' 'blocked' > "$scratch/refuses"
@@ -49,12 +50,14 @@ ends_with 0 'refines' ./bench compare $tray/reference.sheet $tray/repaired.sheet
 ends_with 1 'violates, stray' ./bench compare $tray/reference.sheet $tray/device.sheet
 ends_with 1 'violates, refused' ./bench compare $example/reference.sheet $example/device.sheet
 ends_with 2 'comparison refused' ./bench compare $example/reference.sheet "$scratch/stopped"
+ends_with 2 'comparison refused by its codes' ./bench compare $codes/reference.sheet $codes/other.sheet
 ends_with 2 'reference refused' ./bench compare "$scratch/version" $example/device.sheet
 ends_with 2 'reference refused by its length' ./bench compare "$scratch/empty" $example/device.sheet
 ends_with 2 'device refused' ./bench compare $example/reference.sheet "$scratch/version"
 ends_with 0 'all pass' ./bench suite $tray/reference.sheet $tray/repaired.sheet
 ends_with 1 'a test failed' ./bench suite $example/reference.sheet $example/device.sheet
 ends_with 2 'suite refused' ./bench suite $example/reference.sheet "$scratch/stopped"
+ends_with 2 'suite refused by its codes' ./bench suite $codes/reference.sheet $codes/other.sheet
 ends_with 2 'suite, reference refused' ./bench suite "$scratch/version" $example/device.sheet
 ends_with 2 'suite, device refused' ./bench suite $example/reference.sheet "$scratch/empty"
 for name in show probe_list; do
@@ -184,27 +187,50 @@ sed 's/ sha256 [0-9a-f]*$/ sha256 SUM/; s/ commit .*/ commit/' "$scratch/printed
 mv "$scratch/form" "$scratch/printed"
 held 'a form of a device that fails' \
     "reference file $example/reference.sheet sha256 SUM" "device file $example/device.sheet sha256 SUM" \
+    'reference codes of version 1' 'device codes of version 1' \
     'reference 2 nodes 2 events' 'device 3 nodes 2 events' 'tests 6 run 6 failed 1' \
-    'violates after 5 cleared 5' 'trace 0 0 0 0 0' 'refused 2 by 1' 'program suite commit' 'program compare commit'
+    'violates after 5 cleared 5' 'trace 0 0 0 0 0' 'refused 2 by 1' 'program suite commit' 'program compare commit' \
+    'program show commit'
 ends_with 0 'a form of a device that passes' ./bench form $tray/reference.sheet $tray/repaired.sheet
 grep -q '^tests 42 run 42 all pass$' "$scratch/printed" || fails 'a form of a device that passes: no all pass'
 grep -q "^device file $tray/repaired.sheet sha256 $(sha256sum < $tray/repaired.sheet | sed 's/ .*//')$" \
     "$scratch/printed" || fails 'a form: the sum of the device is another'
 ends_with 2 'a form of a refused device' ./bench form $example/reference.sheet "$scratch/version"
 grep -q '^device refused 2$' "$scratch/printed" || fails 'a form of a refused device: its refusal is missing'
+# the codes of each accepted sheet
+codes_said() { # NAME LINE..: these are the lines on codes
+    grep ' codes ' "$scratch/printed" > "$scratch/form"
+    mv "$scratch/form" "$scratch/printed"
+    held "$@"
+}
+codes_said 'a form of a refused device' 'reference codes of version 1'
+ends_with 0 'a form with codes' ./bench form $codes/reference.sheet $codes/device.sheet
+codes_said 'a form with codes' 'reference codes 101 102 103 201 304' 'device codes 101 102 103 201 304'
+ends_with 2 'a form with other codes' ./bench form $codes/reference.sheet $codes/other.sheet
+grep -q '^suite refused 19$' "$scratch/printed" || fails 'a form with other codes: its refusal is missing'
+codes_said 'a form with other codes' 'reference codes 101 102 103 201 304' 'device codes 101 102 103 201 305'
+ends_with 2 'a form of both versions' ./bench form $codes/reference.sheet $codes/version_1.sheet
+codes_said 'a form of both versions' 'reference codes 101 102 103 201 304' 'device codes of version 1'
+ends_with 2 'a form of a refused reference' ./bench form "$scratch/empty" $codes/device.sheet
+codes_said 'a form of a refused reference' 'device codes 101 102 103 201 304'
 # a build is named only by the record of that very program
 copy
 stand_in suite 'printf "tests 1 run 1 all pass\n"'
 stand_in compare 'printf "refines cleared 1\n"'
+stand_in show 'printf "sheet 1 nodes 1 events\n"'
 sum=$(sha256sum < "$scratch/copy/target/bin/suite")
 lines 'commit 7' 'toolchain 8' "sha256 ${sum%% *}" > "$scratch/copy/target/bin/suite.built"
 lines 'commit 7' 'toolchain 8' "sha256 ${sum%% *}" > "$scratch/copy/target/bin/compare.built"
 ends_with 0 'a form after a program was built anew' \
     "$scratch/copy/bench" form $example/reference.sheet $example/device.sheet
-tail -n 2 "$scratch/printed" > "$scratch/last"
+tail -n 3 "$scratch/printed" > "$scratch/last"
 mv "$scratch/last" "$scratch/printed"
 held 'a form after a program was built anew' 'program suite commit 7 toolchain 8' \
-    'program compare commit unknown toolchain unknown'
+    'program compare commit unknown toolchain unknown' 'program show commit unknown toolchain unknown'
+stand_in show 'echo "sheet 1 nodes 1 events"; kill -KILL $$'
+ends_with 2 'a form where show is killed' "$scratch/copy/bench" form $example/reference.sheet $example/device.sheet
+stand_in show ':'
+ends_with 2 'a form where show says nothing' "$scratch/copy/bench" form $example/reference.sheet $example/device.sheet
 # a name with a line in it does not make a line
 cp $example/device.sheet "$scratch/x
 tests 6 run 6 all pass"

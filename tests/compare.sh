@@ -1,6 +1,6 @@
 #!/bin/sh
-# Runs the program `compare` and holds what it prints to 01's section "The program `compare`": every kind of line, the
-# split of the input, the cut at 4,096 bytes, and input that arrives in pieces.
+# Runs the program `compare` and holds what it prints to 01's section "The program `compare`" and to 02's K1: every kind
+# of line, both versions, the split of the input, the cut at 4,096 bytes, and input that arrives in pieces.
 set -u
 cd "$(dirname "$0")/.." || exit 1
 . tests/shared
@@ -61,8 +61,9 @@ refused_either() { # NUMBER HEX..: these bytes are refused with the number, as t
     prints "device refused $number: $*" "$one" "device refused $number"
 }
 refused_either 1 00 00 00 02 01 01
-refused_either 2 00 00 00 07 02 01 01 00 01 00 00
 refused_either 2 00 00 00 07 00 00 00 00 00 00 00
+refused_either 2 00 00 00 07 03 01 01 00 01 00 00
+refused_either 2 00 00 00 07 FF 01 01 00 01 00 00
 refused_either 3 00 00 00 07 01 00 01 00 01 00 00
 refused_either 3 00 00 00 07 01 0D 01 00 01 00 00
 refused_either 3 00 00 00 07 01 01 00 00 01 00 00
@@ -75,9 +76,63 @@ refused_either 6 00 00 00 07 01 01 01 01 01 00 01
 refused_either 7 00 00 00 07 01 01 01 FF 01 00 01
 refused_either 8 00 00 00 0B 01 01 02 00 01 00 01 00 01 00 01
 
+# the same of version 2: its codes are looked at after E and N and before the nodes
+refused_either 3 00 00 00 03 02 00 01
+refused_either 3 00 00 00 03 02 0D 01
+refused_either 4 00 00 00 03 02 01 01
+refused_either 4 00 00 00 06 02 02 01 00 07 00
+refused_either 4 00 00 00 08 02 03 01 00 07 00 07 00
+refused_either 4 00 00 00 07 02 02 01 00 07 00 08
+refused_either 4 00 00 00 0A 02 01 01 00 07 00 01 00 00 00
+refused_either 5 00 00 00 07 02 01 01 00 01 00 00
+refused_either 5 00 00 00 0A 02 02 01 00 07 00 08 00 00 00
+refused_either 18 00 00 00 07 02 02 01 00 07 00 07
+refused_either 18 00 00 00 0A 02 02 01 00 07 00 07 00 00 00
+refused_either 18 00 00 00 0C 02 02 01 00 00 00 00 00 00 01 00 03
+refused_either 18 00 00 00 0F 02 03 01 00 07 00 08 00 07 00 00 00 01 00 00
+refused_either 18 00 00 00 0F 02 03 01 00 07 00 08 00 08 00 00 00 01 00 00
+refused_either 6 00 00 00 09 02 01 01 00 07 01 01 00 01
+refused_either 7 00 00 00 09 02 01 01 00 07 FF 01 00 01
+refused_either 8 00 00 00 0D 02 01 02 00 07 00 01 00 01 00 01 00 01
+
 # unequal E
 input $may_loop $only_one
 prints 'unequal E' "$one" 'device 1 nodes 2 events' 'comparison refused 11'
+
+# codes: the same for each event, or 19
+two='reference 2 nodes 2 events'
+three='device 3 nodes 2 events'
+input $coded_reference $coded_device
+prints 'both of version 2' "$two" "$three" 'violates after 5 cleared 5' 'trace 0 0 0 0 0' 'refused 2 by 1'
+input $reference $plain_device
+prints 'version 1 and version 2' "$two" "$three" 'violates after 5 cleared 5' 'trace 0 0 0 0 0' 'refused 2 by 1'
+input $plain_device $device
+prints 'version 2 and version 1' 'reference 3 nodes 2 events' "$three" 'refines cleared 3'
+input $coded_reference $device
+prints 'version 2 and version 1, other codes' "$two" "$three" 'comparison refused 19'
+input $reference $coded_device
+prints 'version 1 and version 2, other codes' "$two" "$three" 'comparison refused 19'
+input $coded_reference $turned_device
+prints 'the same codes for other events' "$two" "$three" 'comparison refused 19'
+input $coded_reference 00 00 00 0C 02 02 01 01 03 01 02 00 00 01 00 03
+prints 'another code for the first event' "$two" 'device 1 nodes 2 events' 'comparison refused 19'
+input $coded_reference 00 00 00 0C 02 02 01 01 01 01 03 00 00 01 00 03
+prints 'another code for the last event' "$two" 'device 1 nodes 2 events' 'comparison refused 19'
+input $coded_reference 00 00 00 0C 02 02 01 01 01 02 02 00 00 01 00 03
+prints 'another higher byte' "$two" 'device 1 nodes 2 events' 'comparison refused 19'
+input $coded_reference 00 00 00 0C 02 02 01 01 01 01 02 00 00 01 00 03
+prints 'the same codes, one node' "$two" 'device 1 nodes 2 events' 'refines cleared 2'
+input $coded_reference $stopped
+prints 'unequal E and unequal codes' "$two" 'device 1 nodes 1 events' 'comparison refused 11'
+# codes may be any numbers of two bytes, 0 too
+input 00 00 00 0C 02 02 01 FF FF 00 00 00 00 01 00 03 00 00 00 0C 02 02 01 FF FF 00 00 00 00 01 00 03
+prints 'codes 65,535 and 0' 'reference 1 nodes 2 events' 'device 1 nodes 2 events' 'refines cleared 1'
+
+# the largest sheets, and one byte more
+{ largest_sheet 05 BB; largest_sheet 05 BB; } > "$scratch/input"
+prints 'two sheets of 1,471 bytes' 'reference 32 nodes 12 events' 'device 32 nodes 12 events' 'refines cleared 32'
+{ largest_sheet 05 BC; bytes 00; } > "$scratch/input"
+prints 'a sheet of 1,472 bytes' 'reference refused 4'
 
 # under 4 bytes
 : > "$scratch/input"

@@ -96,6 +96,16 @@ started "$scratch/five" 0 1
 held 'the other probe' 'test 0 choice 1 reference 1 nodes 5 events' 'offer 0 1 3 4' \
     'run failed refused 27 ( 0 1 3 4 )'
 
+# a reference of version 2
+bytes $coded_reference > "$scratch/coded"
+reports 'event 1' 'event 1'
+started "$scratch/coded" 1 1
+held 'version 2' 'test 1 choice 1 reference 2 nodes 2 events' 'offer 0 1' 'offer 1' 'run passed'
+reports 'event 257' 'event 0' 'blocked'
+started "$scratch/coded" 1 0
+held 'version 2, a code is no event' "$test_1" 'offer 0 1' "$no_report" 'offer 0 1' 'offer 0' \
+    'run failed refused 1 ( 0 )'
+
 # what follows an ending is not read
 reports 'event 0' 'event 0' 'event 0' 'blocked'
 started "$R" 1 0
@@ -238,13 +248,17 @@ refused_first() { # NUMBER HEX..: these bytes are refused with the number, befor
 refused_first 1
 refused_first 1 00 00 00 02 01 01
 refused_first 1 00 00 00 07 01 01 01 00 01 00 00 00
-refused_first 2 00 00 00 07 02 01 01 00 01 00 00
+refused_first 2 00 00 00 07 00 01 01 00 01 00 00
+refused_first 2 00 00 00 07 03 01 01 00 01 00 00
+refused_first 2 00 00 00 07 FF 01 01 00 01 00 00
 refused_first 3 00 00 00 07 01 0D 01 00 01 00 00
 refused_first 4 00 00 00 05 01 01 01 00 01
+refused_first 4 00 00 00 06 02 02 01 00 07 00
 refused_first 5 00 00 00 05 01 01 01 00 00
 refused_first 6 00 00 00 07 01 01 01 01 01 00 01
 refused_first 7 00 00 00 07 01 01 01 FF 01 00 01
 refused_first 8 00 00 00 0B 01 01 02 00 01 00 01 00 01 00 01
+refused_first 18 00 00 00 0A 02 02 01 00 07 00 07 00 00 00
 
 # of a longer file the first 4,096 bytes are the reference: one as long as its field says (its version is 0), and one
 # that is not

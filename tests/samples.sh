@@ -65,13 +65,39 @@ refused_meaning() {
 }
 refused_meaning 1 'too short or its length field is wrong'
 refused_meaning 1 'too short or its length field is wrong' 00 00 00 07 01 01 01 00 01 00
-refused_meaning 2 'version is not 1' 00 00 00 07 02 01 01 00 01 00 00
+refused_meaning 2 'version is neither 1 nor 2' 00 00 00 07 00 01 01 00 01 00 00
+refused_meaning 2 'version is neither 1 nor 2' 00 00 00 07 03 01 01 00 01 00 00
+refused_meaning 2 'version is neither 1 nor 2' 00 00 00 07 FF 01 01 00 01 00 00
 refused_meaning 3 'events or nodes out of range' 00 00 00 07 01 0D 01 00 01 00 00
-refused_meaning 4 'the bytes end inside a node or some remain' 00 00 00 08 01 01 01 00 01 00 00 00
+refused_meaning 4 'the bytes end too early or some remain' 00 00 00 08 01 01 01 00 01 00 00 00
+refused_meaning 4 'the bytes end too early or some remain' 00 00 00 06 02 02 01 00 07 00
 refused_meaning 5 'number of acceptances out of range' 00 00 00 07 01 01 01 00 00 00 00
 refused_meaning 6 'a successor is no node' 00 00 00 07 01 01 01 01 01 00 00
 refused_meaning 7 'a rule of acceptances is broken' 00 00 00 07 01 01 01 00 01 00 02
 refused_meaning 8 'a node cannot be reached' 00 00 00 0B 01 01 02 00 01 00 01 00 01 00 01
+refused_meaning 18 'a code is given twice' 00 00 00 0A 02 02 01 00 07 00 07 00 00 00
+# shown NAME HEX LINE..: of a sheet of version 2 with one node, two events and these codes `show` prints its first line,
+# these lines, and its node
+shown() {
+    name=$1
+    bytes 00 00 00 0C 02 02 01 $2 00 00 01 00 03 > "$scratch/coded"
+    shift 2
+    ./bench show "$scratch/coded" > "$scratch/printed"
+    held "$name" 'sheet 1 nodes 2 events' "$@" 'node 0' 'event 0 to 0' 'event 1 to 0' 'accepts 3 ( 0 1 )'
+}
+shown 'codes 257 and 258' '01 01 01 02' 'code 0 257' 'code 1 258'
+shown 'codes 65,535 and 0' 'FF FF 00 00' 'code 0 65535' 'code 1 0'
+shown 'codes 2 and 1' '00 02 00 01' 'code 0 2' 'code 1 1'
+shown 'codes 1 and 3' '00 01 00 03' 'code 0 1' 'code 1 3'
+shown 'the codes of version 1' '00 01 00 02'
+largest_sheet 05 BB > "$scratch/largest"
+./bench show "$scratch/largest" > "$scratch/shown"
+head -n 14 "$scratch/shown" > "$scratch/printed"
+held 'twelve codes' 'sheet 32 nodes 12 events' 'code 0 1' 'code 1 2' 'code 2 3' 'code 3 4' 'code 4 5' 'code 5 6' \
+    'code 6 7' 'code 7 8' 'code 8 9' 'code 9 10' 'code 10 11' 'code 11 65535' 'node 0'
+bytes $coded_reference > "$scratch/coded"
+./bench probe_list "$scratch/coded" > "$scratch/printed"
+held 'probe_list, version 2' 'sheet 2 nodes 2 events' 'node 0 probes 3 ( 0 1 )' 'node 1 probes 1 ( 0 ) 2 ( 1 )'
 cp "$reference_file" "$scratch/-n"
 says 0 'sheet 6 nodes 8 events' sh -c 'cd "$1" && "$2/bench" show -n' sh "$scratch" "$PWD"
 says 0 'reference 6 nodes 8 events' sh -c 'cd "$1" && "$2/bench" compare -n -n' sh "$scratch" "$PWD"

@@ -21,6 +21,12 @@ heads() {
 input $reference $device
 prints "01's example" "$(heads 2 3 2)" "$(tests 0 5 passes)" "$(tests 5 1 fails)" 'tests 6 run 6 failed 1'
 
+input $coded_reference $coded_device
+prints 'both of version 2' "$(heads 2 3 2)" "$(tests 0 5 passes)" "$(tests 5 1 fails)" 'tests 6 run 6 failed 1'
+
+input $reference $plain_device
+prints 'version 1 and version 2' "$(heads 2 3 2)" "$(tests 0 5 passes)" "$(tests 5 1 fails)" 'tests 6 run 6 failed 1'
+
 input $reference $reference
 prints 'a sheet against itself' "$(heads 2 2 2)" "$(tests 0 4 passes)" 'tests 4 run 4 all pass'
 
@@ -32,8 +38,16 @@ input $reference $stopped
 prints 'unequal E' 'reference 2 nodes 2 events' 'device 1 nodes 1 events' 'suite refused 11'
 input $reference 00
 prints 'a bad device' 'reference 2 nodes 2 events' 'device refused 1'
-input 00 00 00 07 02 01 01 00 01 00 00 $stopped
+input 00 00 00 07 03 01 01 00 01 00 00 $stopped
 prints 'a bad reference' 'reference refused 2'
+input $reference 00 00 00 0A 02 02 01 00 07 00 07 00 00 00
+prints 'a code given twice' 'reference 2 nodes 2 events' 'device refused 18'
+input $coded_reference $stopped
+prints 'unequal E and unequal codes' 'reference 2 nodes 2 events' 'device 1 nodes 1 events' 'suite refused 11'
+input $coded_reference $turned_device
+prints 'the same codes for other events' "$(heads 2 3 2)" 'suite refused 19'
+input $coded_reference $device
+prints 'version 2 and version 1, other codes' "$(heads 2 3 2)" 'suite refused 19'
 input
 prints 'no byte' 'reference refused 1'
 
