@@ -1,15 +1,15 @@
 -- Nothing to believe: laws. How long the text can be: at most 3,184 bytes, so that it always fits.
 use mathlib.Core.Path.{_≡_, refl, sym, _∙_}
+use mathlib.Core.Logic.{inl, inr}
 use mathlib.Core.Bool.{Bool, true, false, _&&_, cond}
 use mathlib.Core.List.{List, _++_}
 use Prim.Native.Nat.{ℕ, zero, suc, _+_, _-_, _*_, _^_, _≤_, _<_}
 use native.Mathlib.Nat.{le-trans}
 use native.Mathlib.Omega.{arith}
-use lib.Dec.{eqb, ltb, leb}
+use lib.Dec.{eqb, ltb}
 use lib.ListN.{length, getD, take, length-append, length-replicate}
 use lib.Pow.{pow-mono}
 use borrow.Author.Tests.{ltb-true}
-use Rattle.base.specs.Refusal.{unless}
 use Rattle.base.specs.Count.{count-le}
 use Rattle.base.specs.Range.{first≤}
 use Rattle.base.specs.Table.{length-upTo, getD-upTo}
@@ -22,7 +22,8 @@ use Rattle.walks.specs.Pairs.{pairDistance, pairTrace, pairCleared, pairDistanc
 use Rattle.sheet_spec.specs.declared.Row.{Row}
 use Rattle.sheet_spec.specs.declared.Sheet.{Sheet}
 use Rattle.sheet_spec.specs.Kept.{graph, acceptance, acceptances, initials}
-use Rattle.sheet_spec.specs.Refusals.{sheetFault}
+use Rattle.sheet_spec.specs.Refusals.{sheetFault, Agree}
+use Rattle.sheet_spec.specs.PairFaults.{PairWays, pair-ways}
 use Rattle.sheet_spec.specs.SoundLaws.{nodes-most, check-sound}
 use Rattle.probes_spec.specs.declared.Missed.{Missed}
 use Rattle.probes_spec.specs.declared.Missed.the-variants.{Nothing, Found}
@@ -33,8 +34,8 @@ use Rattle.probes_spec.specs.FirstMissedLaws.{missed-found}
 use Rattle.events.specs.Sets.{has}
 use Rattle.refinement_spec.specs.ViolatingPairs.{strays, hasStray, firstStray, violating}
 use Rattle.comparison_spec.specs.declared.Outcome.the-variants.{Refines, Stray, Denied}
-use Rattle.comparison_spec.specs.CallLaws.{compare-fits}
-use Rattle.comparison_spec.specs.Comparison.{pairCount, workWords, nearest, nearestTrace, clearedOf, lastRow, refusalNamed, named, comparisonOf, compareFault, outcomeOf, traceAfter}
+use Rattle.comparison_spec.specs.CallLaws.{compare-11, compare-19, compare-fits}
+use Rattle.comparison_spec.specs.Comparison.{pairCount, nearest, nearestTrace, clearedOf, lastRow, refusalNamed, named, comparisonOf, compareFault, outcomeOf, traceAfter}
 use Rattle.text_spec.specs.Lines.{ascii, decimal, numberLine, eventList}
 use Rattle.text_spec.specs.DecimalLaws.{decimal-few}
 use Rattle.text_spec.specs.LengthLaws.{number-length}
@@ -87,11 +88,6 @@ least-length g bad h (suc j) n =
     one : (e : ℕ) (t : List ℕ) → e < 100 → length (eventList t) ≤ 3 * j → length ((ascii " " ++ decimal e) ++ eventList t) ≤ 3 * suc j
     one e t l ih = rw (length-append (ascii " " ++ decimal e) (eventList t)) (omega (arith, decimal-few 1 e l))
 
--- a refusal is at most m, if the rule's number and what follows are
-unless-le : (t : Bool) (k r m : ℕ) → k ≤ m → r ≤ m → unless t k r ≤ m
-unless-le true k r m p q = q
-unless-le false k r m p q = p
-
 module _ (P Q : Sheet) (hP : sheetFault P ≡ 0) (hQ : sheetFault Q ≡ 0) where
   -- there are at most 1,024 pairs
   pairs-le : pairCount P Q ≤ 1024
@@ -99,9 +95,18 @@ module _ (P Q : Sheet) (hP : sheetFault P ≡ 0) (hQ : sheetFault Q ≡ 0) where
   pairs-le = nodes-most (check-sound P hP) (check-sound Q hQ)
 
   -- both lists that the program lends are enough: 12 and 13 cannot occur
-  pub lists-fit : P .e ≡ Q .e → compareFault P Q workList traceList ≡ 0
+  pub lists-fit : Agree P Q → compareFault P Q workList traceList ≡ 0
   unfolding workList traceList
-  lists-fit same = compare-fits P Q workList traceList hP hQ same (rw length-replicate (omega (arith, pairs-le))) (rw length-replicate (omega (arith, pairs-le)))
+  lists-fit agree = compare-fits P Q workList traceList hP hQ agree (rw length-replicate (omega (arith, pairs-le))) (rw length-replicate (omega (arith, pairs-le)))
+
+  -- so a comparison of the program is refused with 11 or 19 alone
+  compare-le : compareFault P Q workList traceList ≤ 19
+  compare-le = go (pair-ways P Q)
+    where
+      go : PairWays P Q → compareFault P Q workList traceList ≤ 19
+      go (inl a) = omega (arith, lists-fit a)
+      go (inr (inl n)) = omega (arith, compare-11 P Q workList traceList .1 ((hP, hQ), n))
+      go (inr (inr w)) = omega (arith, compare-19 P Q workList traceList .1 ((hP, hQ), w))
 
   module _ (traceOnly : Bool) where
     nearest-le : nearest traceOnly P Q ≤ 1024
@@ -111,13 +116,6 @@ module _ (P Q : Sheet) (hP : sheetFault P ≡ 0) (hQ : sheetFault Q ≡ 0) where
     cleared-le : clearedOf traceOnly P Q ≤ 1024
     unfolding clearedOf pairCleared cleared product pairCount
     cleared-le = le-trans (count-le _ (P .n * Q .n)) pairs-le
-
-    compare-le : (work trace : List ℕ) → compareFault P Q work trace ≤ 13
-    unfolding compareFault
-    compare-le work trace =
-        rw (hP, hQ)
-        (unless-le (eqb (P .e) (Q .e)) 11 _ 13 (omega arith)
-        (unless-le (leb (workWords P Q) (length work)) 12 _ 13 (omega arith) (unless-le (leb (pairCount P Q - 1) (length trace)) 13 0 13 (omega arith) (omega arith))))
 
     -- the length of the trace line, whatever stands behind the trace
     events-length : length (eventList (nearestTrace traceOnly P Q)) ≤ 3 * nearest traceOnly P Q
@@ -195,7 +193,7 @@ module _ (P Q : Sheet) (hP : sheetFault P ≡ 0) (hQ : sheetFault Q ≡ 0) where
             named-length (nearest traceOnly P Q) (clearedOf traceOnly P Q) (lastRow traceOnly P Q P) (lastRow traceOnly P Q Q) nearest-le cleared-le (narrow-last h)
             (atFront traceList (nearestTrace traceOnly P Q)) (told-length traceList h)
         go true false e = omega (arith, number-length (ascii "refines cleared ") 3 (clearedOf traceOnly P Q) (omega (arith, cleared-le)))
-        go false y e = omega (arith, number-length (ascii "comparison refused ") 1 k (omega (arith, compare-le workList traceList)))
+        go false y e = omega (arith, number-length (ascii "comparison refused ") 1 k (omega (arith, compare-le)))
 
   -- the length of the lines after two accepted sheets
   compared-length : length (comparedLines P Q) ≤ 3129

@@ -9,6 +9,7 @@ use mathlib.Core.List.{List, _++_}
 use Prim.Native.Nat.{ℕ}
 use lib.ListN.{take}
 use Rattle.sheet_spec.specs.declared.Sheet.{Sheet}
+use Rattle.sheet_spec.specs.Refusals.{Agree, CodesDiffer}
 use Rattle.sheet_spec.specs.Reading.{readSheet}
 use Rattle.refinement_spec.specs.Refinement.{RefinesIn}
 use Rattle.comparison_spec.specs.declared.Outcome.{Outcome}
@@ -40,11 +41,13 @@ pub data Says (input : List ℕ) : List ℕ → Type 0 where
       → Says input (sheetLine (ascii "reference ") (P .n) (P .e) ++ numberLine (ascii "device refused ") m)
   -- two accepted sheets whose E differ: 11, and no other refusal
   unequal : (P Q : Sheet) → BackToBack input P Q → P .e ≢ Q .e → Says input (afterSheets P Q (numberLine (ascii "comparison refused ") 11))
-  -- two accepted sheets with one E, and the device refines the reference: the number of all pairs reached by common
+  -- two accepted sheets with one E, of which some event has another code: 19, and no other refusal
+  unequal-codes : (P Q : Sheet) → BackToBack input P Q → P .e ≡ Q .e → CodesDiffer P Q → Says input (afterSheets P Q (numberLine (ascii "comparison refused ") 19))
+  -- two accepted sheets that agree, and the device refines the reference: the number of all pairs reached by common
   -- traces
-  refines : (P Q : Sheet) → BackToBack input P Q → P .e ≡ Q .e → RefinesIn false P Q → (cleared : ℕ) → Number P Q (ReachedEver P Q) cleared
+  refines : (P Q : Sheet) → BackToBack input P Q → Agree P Q → RefinesIn false P Q → (cleared : ℕ) → Number P Q (ReachedEver P Q) cleared
       → Says input (afterSheets P Q (numberLine (ascii "refines cleared ") cleared))
-  -- two accepted sheets with one E, and the device does not refine the reference: the d, the count, the trace and the
+  -- two accepted sheets that agree, and the device does not refine the reference: the d, the count, the trace and the
   -- witness of demand 3
-  violates : (P Q : Sheet) → BackToBack input P Q → P .e ≡ Q .e → ¬ RefinesIn false P Q → (o : Outcome) (after : List ℕ) (v : Violated false P Q o after) (end : List ℕ) → LastLine o end
+  violates : (P Q : Sheet) → BackToBack input P Q → Agree P Q → ¬ RefinesIn false P Q → (o : Outcome) (after : List ℕ) (v : Violated false P Q o after) (end : List ℕ) → LastLine o end
       → Says input (afterSheets P Q (violatesLine (v .d) (v .cleared) ++ (traceLine (take (v .d) after) ++ end)))

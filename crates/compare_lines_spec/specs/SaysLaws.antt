@@ -1,9 +1,9 @@
 -- Nothing to believe: laws. What `compare` prints, from bytes to bytes: every input gets the text that Says describes,
--- and Says describes no other. Two accepted sheets with one E get `refines cleared` exactly if the device refines the
--- reference, else the violation of demand 3; no input gets `comparison refused` with 12 or 13, as the lists are never
--- too short.
+-- and Says describes no other. Two accepted sheets that agree get `refines cleared` exactly if the device refines the
+-- reference, else the violation of demand 3; no input gets `comparison refused` with another number than 11 and 19, as
+-- the lists are never too short.
 use mathlib.Core.Path.{_≡_, refl, sym, ap, _∙_}
-use mathlib.Core.Logic.{_⊎_, inl, inr, _≢_, _↔_}
+use mathlib.Core.Logic.{_⊎_, inl, inr, _≢_, _↔_, ⊎-map}
 use mathlib.Core.Bool.{Bool, false}
 use mathlib.Core.List.{List, [], _++_}
 use Prim.Native.Nat.{ℕ}
@@ -13,7 +13,8 @@ use lib.ListN.{take, length-replicate}
 use Rattle.sheet_spec.specs.declared.Sheet.{Sheet}
 use Rattle.sheet_spec.specs.declared.ReadSheet.{ReadSheet}
 use Rattle.sheet_spec.specs.Form.{Bytes}
-use Rattle.sheet_spec.specs.Refusals.{sheetFault}
+use Rattle.sheet_spec.specs.Refusals.{sheetFault, Agree, CodesDiffer}
+use Rattle.sheet_spec.specs.PairFaults.{PairWays, pair-ways}
 use Rattle.sheet_spec.specs.Reading.{readSheet}
 use Rattle.sheet_spec.specs.SoundLaws.{check-sound}
 use Rattle.refinement_spec.specs.Refinement.{ViolationIn, RefinesIn}
@@ -26,7 +27,7 @@ use Rattle.comparison_spec.specs.Meaning as meaning
 use Rattle.comparison_spec.specs.Meaning.{ReachedEver, Number, Describes}
 use Rattle.comparison_spec.specs.OutcomeLaws.{describes-only}
 use Rattle.comparison_spec.specs.AnswerLaws.{outcome-only}
-use Rattle.comparison_spec.specs.CallLaws.{compare-11, denied-outcome}
+use Rattle.comparison_spec.specs.CallLaws.{compare-11, compare-19, denied-outcome}
 use Rattle.claim.specs.Claim.{LongEnough, Reports, stray-reports, refusal-reports, Violated, Claim}
 use Rattle.claim.specs.Theorem.{claim}
 use Rattle.text_spec.specs.Lines.{ascii, numberLine, sheetLine}
@@ -38,7 +39,7 @@ use Rattle.compare_lines_spec.specs.Lines.{violatesLine, traceLine, refu
 use Rattle.compare_lines_spec.specs.Program.{workList, traceList, comparedLines, compareText}
 use Rattle.compare_lines_spec.specs.LineLaws.{same-number, refines-refused, violates-refused, violates-refines, same-after, accepted-refused}
 use Rattle.compare_lines_spec.specs.Lengths.{lists-fit}
-use Rattle.compare_lines_spec.specs.Says.{afterSheets, LastLine, of-stray, of-refusal, Says, reference-refused, device-refused, unequal, refines, violates}
+use Rattle.compare_lines_spec.specs.Says.{afterSheets, LastLine, of-stray, of-refusal, Says, reference-refused, device-refused, unequal, unequal-codes, refines, violates}
 
 -- the numbers that an answer reports
 reports-are : (o : Outcome) (d c : ℕ) → Reports o d c → (compared o .d ≡ d) × (compared o .cleared ≡ c)
@@ -59,30 +60,37 @@ lines-end o end (of-stray d c i) t = refl
 lines-end o end (of-refusal d c X A) t = refl
 
 module _ (P Q : Sheet) (accP : sheetFault P ≡ 0) (accQ : sheetFault Q ≡ 0) where
-  -- the lines of an answer of the program where E differs: 11, with refusals or with traces alone
-  denied-lines : (traceOnly : Bool) (t : List ℕ) → P .e ≢ Q .e → outcomeLines (outcomeOf traceOnly P Q workList traceList) t ≡ numberLine (ascii "comparison refused ") 11
+  -- the lines of an answer of the program that is refused: its number, with refusals or with traces alone
+  denied-lines : (traceOnly : Bool) (t : List ℕ) (m : ℕ) → m ≢ 0 → compareFault P Q workList traceList ≡ m
+      → outcomeLines (outcomeOf traceOnly P Q workList traceList) t ≡ numberLine (ascii "comparison refused ") m
   unfolding outcomeLines
-  denied-lines traceOnly t n =
-      let z : compareFault P Q workList traceList ≡ 11 = compare-11 P Q workList traceList .1 ((accP, accQ), n) in
-      rw (denied-outcome P Q workList traceList traceOnly (λ e. omega (arith, z)), z)
+  denied-lines traceOnly t m n z = rw (denied-outcome P Q workList traceList traceOnly (λ e. n (sym z ∙ e)), z)
 
   -- where E differs, 11 is printed
   unequal-lines : P .e ≢ Q .e → comparedLines P Q ≡ numberLine (ascii "comparison refused ") 11
   unfolding comparedLines
-  unequal-lines n = denied-lines _ _ n
+  unequal-lines n = denied-lines _ _ 11 (λ e. omega arith) (compare-11 P Q workList traceList .1 ((accP, accQ), n))
 
-  module _ (same : P .e ≡ Q .e) where
+  -- where E is one and an event has another code, 19 is printed
+  unequal-codes-lines : (P .e ≡ Q .e) × CodesDiffer P Q → comparedLines P Q ≡ numberLine (ascii "comparison refused ") 19
+  unfolding comparedLines
+  unequal-codes-lines w = denied-lines _ _ 19 (λ e. omega arith) (compare-19 P Q workList traceList .1 ((accP, accQ), w))
+
+  module _ (agree : Agree P Q) where
+    same : P .e ≡ Q .e
+    same = agree .0
+
     told : Claim false P Q
-    told = claim false P Q (inl accP) (inl accQ) same
+    told = claim false P Q (inl accP) (inl accQ) agree
 
-    -- the lists that the program lends are long enough for every two accepted sheets with one E
+    -- the lists that the program lends are long enough for every two accepted sheets that agree
     pub no-short-list : LongEnough P Q workList traceList
     unfolding workList traceList
     no-short-list = (rw length-replicate (omega (arith, told .few)), rw length-replicate (omega (arith, told .few)))
 
     -- whatever 01 describes of the two sheets is the answer
     only-answer : (o : Outcome) (t : List ℕ) → Describes false P Q o t → o ≡ outcomeOf false P Q workList traceList
-    only-answer = outcome-only false P Q accP accQ same workList traceList (lists-fit P Q accP accQ same)
+    only-answer = outcome-only false P Q accP accQ same workList traceList (lists-fit P Q accP accQ agree)
 
     -- where the device refines the reference, the number of the pairs reached is printed
     refines-lines : RefinesIn false P Q → (cleared : ℕ) × Number P Q (ReachedEver P Q) cleared × (comparedLines P Q ≡ numberLine (ascii "refines cleared ") cleared)
@@ -150,70 +158,90 @@ module _ (input : List ℕ) (P Q : Sheet) (b : BackToBack input P Q) where
   pair-found : (l : List ℕ) → compareText input ≡ afterSheets P Q l → comparedLines P Q ≡ l
   pair-found l e = same-found P Q (P .n) (P .e) (Q .n) (Q .e) (comparedLines P Q) l (sym pair-says ∙ e)
 
+  -- two accepted sheets that agree get no refusal of the comparison
+  none-refused : Agree P Q → (m : ℕ) → compareText input ≢ afterSheets P Q (numberLine (ascii "comparison refused ") m)
+  none-refused agree m t = go (decided P Q accP accQ agree)
+    where
+      go : RefinesIn false P Q ⊎ (¬ RefinesIn false P Q) → ⊥
+      go (inl r) = let x = refines-lines P Q accP accQ agree r in refines-refused (x .0) m (sym (x .2) ∙ pair-found _ t)
+      go (inr n) = let x = violates-lines P Q accP accQ agree n in violates-refused (x .2 .d) (x .2 .cleared) m _ (sym (x .5) ∙ pair-found _ t)
+
+  -- the refusals of the comparison: 11, where E differs, and 19, where E is one and a code differs
+  abbrev Refused : ℕ → Type 0
+  Refused m = ((m ≡ 11) × (P .e ≢ Q .e)) ⊎ ((m ≡ 19) × ((P .e ≡ Q .e) × CodesDiffer P Q))
+
+  -- two accepted sheets get no other
+  pair-refused : (m : ℕ) → compareText input ≡ afterSheets P Q (numberLine (ascii "comparison refused ") m)
+      → Refused m
+  pair-refused m t = go (pair-ways P Q)
+    where
+      number : (k : ℕ) → comparedLines P Q ≡ numberLine (ascii "comparison refused ") k → m ≡ k
+      number k l = same-number (ascii "comparison refused ") m k (sym (pair-found _ t) ∙ l)
+
+      go : PairWays P Q → Refused m
+      go (inl a) = absurd (none-refused a m t)
+      go (inr (inl n)) = inl (number 11 (unequal-lines P Q accP accQ n), n)
+      go (inr (inr w)) = inr (number 19 (unequal-codes-lines P Q accP accQ w), w)
+
   -- two accepted sheets print 11 exactly if E differs
   pub says-unequal : (compareText input ≡ afterSheets P Q (numberLine (ascii "comparison refused ") 11)) ↔ (P .e ≢ Q .e)
-  says-unequal = (to, λ n. pair-says ∙ rw (unequal-lines P Q accP accQ n))
+  says-unequal = (λ t. to (pair-refused 11 t), λ n. pair-says ∙ rw (unequal-lines P Q accP accQ n))
     where
-      to : compareText input ≡ afterSheets P Q (numberLine (ascii "comparison refused ") 11) → P .e ≢ Q .e
-      to t same = go (decided P Q accP accQ same)
-        where
-          go : RefinesIn false P Q ⊎ (¬ RefinesIn false P Q) → ⊥
-          go (inl r) = let x = refines-lines P Q accP accQ same r in refines-refused (x .0) 11 (sym (x .2) ∙ pair-found _ t)
-          go (inr n) = let x = violates-lines P Q accP accQ same n in violates-refused (x .2 .d) (x .2 .cleared) 11 _ (sym (x .5) ∙ pair-found _ t)
+      to : Refused 11 → P .e ≢ Q .e
+      to (inl x) = x .1
+      to (inr x) = absurd (omega (arith, x .0))
 
-  -- two accepted sheets get no refusal of the comparison but 11
-  pair-only-11 : (m : ℕ) → compareText input ≡ afterSheets P Q (numberLine (ascii "comparison refused ") m) → m ≡ 11
-  pair-only-11 m t = go (ℕ-discrete (P .e) (Q .e))
+  -- two accepted sheets print 19 exactly if they have one E and some event has another code
+  pub says-unequal-codes : (compareText input ≡ afterSheets P Q (numberLine (ascii "comparison refused ") 19)) ↔ ((P .e ≡ Q .e) × CodesDiffer P Q)
+  says-unequal-codes = (λ t. to (pair-refused 19 t), λ w. pair-says ∙ rw (unequal-codes-lines P Q accP accQ w))
     where
-      go : Dec (P .e ≡ Q .e) → m ≡ 11
-      go (yes same) = alike (decided P Q accP accQ same)
-        where
-          alike : RefinesIn false P Q ⊎ (¬ RefinesIn false P Q) → m ≡ 11
-          alike (inl r) = let x = refines-lines P Q accP accQ same r in absurd (refines-refused (x .0) m (sym (x .2) ∙ pair-found _ t))
-          alike (inr n) = let x = violates-lines P Q accP accQ same n in absurd (violates-refused (x .2 .d) (x .2 .cleared) m _ (sym (x .5) ∙ pair-found _ t))
-      go (no n) = same-number (ascii "comparison refused ") m 11 (sym (pair-found _ t) ∙ unequal-lines P Q accP accQ n)
+      to : Refused 19 → (P .e ≡ Q .e) × CodesDiffer P Q
+      to (inl x) = absurd (omega (arith, x .0))
+      to (inr x) = x .1
 
-  -- two accepted sheets that get `refines cleared` have one E
-  pair-same : (c : ℕ) → compareText input ≡ afterSheets P Q (numberLine (ascii "refines cleared ") c) → P .e ≡ Q .e
-  pair-same c t = go (ℕ-discrete (P .e) (Q .e))
+  -- two accepted sheets that get `refines cleared` agree
+  pair-agree : (c : ℕ) → compareText input ≡ afterSheets P Q (numberLine (ascii "refines cleared ") c) → Agree P Q
+  pair-agree c t = go (pair-ways P Q)
     where
-      go : Dec (P .e ≡ Q .e) → P .e ≡ Q .e
-      go (yes same) = same
-      go (no n) = absurd (refines-refused c 11 (sym (pair-found _ t) ∙ unequal-lines P Q accP accQ n))
+      go : PairWays P Q → Agree P Q
+      go (inl a) = a
+      go (inr (inl n)) = absurd (refines-refused c 11 (sym (pair-found _ t) ∙ unequal-lines P Q accP accQ n))
+      go (inr (inr w)) = absurd (refines-refused c 19 (sym (pair-found _ t) ∙ unequal-codes-lines P Q accP accQ w))
 
-  module _ (same : P .e ≡ Q .e) where
+  module _ (agree : Agree P Q) where
     -- where the device refines the reference, the number of all pairs reached by common traces is printed
     pub says-cleared : RefinesIn false P Q → (cleared : ℕ) × Number P Q (ReachedEver P Q) cleared × (compareText input ≡ afterSheets P Q (numberLine (ascii "refines cleared ") cleared))
-    says-cleared r = let x = refines-lines P Q accP accQ same r in (x .0, x .1, pair-says ∙ rw (x .2))
+    says-cleared r = let x = refines-lines P Q accP accQ agree r in (x .0, x .1, pair-says ∙ rw (x .2))
 
     -- `refines cleared` is printed exactly if the device refines the reference
     pub says-refines : ((cleared : ℕ) × (compareText input ≡ afterSheets P Q (numberLine (ascii "refines cleared ") cleared))) ↔ RefinesIn false P Q
     says-refines = (to, λ r. let x = says-cleared r in (x .0, x .2))
       where
         to : (cleared : ℕ) × (compareText input ≡ afterSheets P Q (numberLine (ascii "refines cleared ") cleared)) → RefinesIn false P Q
-        to (c, t) = go (decided P Q accP accQ same)
+        to (c, t) = go (decided P Q accP accQ agree)
           where
             go : RefinesIn false P Q ⊎ (¬ RefinesIn false P Q) → RefinesIn false P Q
             go (inl r) = r
-            go (inr n) = let x = violates-lines P Q accP accQ same n in absurd (violates-refines (x .2 .d) (x .2 .cleared) c _ (sym (x .5) ∙ pair-found _ t))
+            go (inr n) = let x = violates-lines P Q accP accQ agree n in absurd (violates-refines (x .2 .d) (x .2 .cleared) c _ (sym (x .5) ∙ pair-found _ t))
 
     -- where the device does not refine the reference, the d, the count, the trace and the witness of demand 3 are
     -- printed
     pub says-violates : ¬ RefinesIn false P Q → (o : Outcome) × (after : List ℕ) × (v : Violated false P Q o after) × (end : List ℕ) × LastLine o end
         × (compareText input ≡ afterSheets P Q (violatesLine (v .d) (v .cleared) ++ (traceLine (take (v .d) after) ++ end)))
-    says-violates n = let x = violates-lines P Q accP accQ same n in (x .0, x .1, x .2, x .3, x .4, pair-says ∙ rw (x .5))
+    says-violates n = let x = violates-lines P Q accP accQ agree n in (x .0, x .1, x .2, x .3, x .4, pair-says ∙ rw (x .5))
 
   -- what is said of two accepted sheets
   pair-described : Says input (compareText input)
-  pair-described = go (ℕ-discrete (P .e) (Q .e))
+  pair-described = go (pair-ways P Q)
     where
-      go : Dec (P .e ≡ Q .e) → Says input (compareText input)
-      go (yes same) = alike (decided P Q accP accQ same)
+      go : PairWays P Q → Says input (compareText input)
+      go (inl agree) = alike (decided P Q accP accQ agree)
         where
           alike : RefinesIn false P Q ⊎ (¬ RefinesIn false P Q) → Says input (compareText input)
-          alike (inl r) = let x = says-cleared same r in rw (x .2) (refines P Q b same r (x .0) (x .1))
-          alike (inr n) = let x = says-violates same n in rw (x .5) (violates P Q b same n (x .0) (x .1) (x .2) (x .3) (x .4))
-      go (no n) = rw (says-unequal .1 n) (unequal P Q b n)
+          alike (inl r) = let x = says-cleared agree r in rw (x .2) (refines P Q b agree r (x .0) (x .1))
+          alike (inr n) = let x = says-violates agree n in rw (x .5) (violates P Q b agree n (x .0) (x .1) (x .2) (x .3) (x .4))
+      go (inr (inl n)) = rw (says-unequal .1 n) (unequal P Q b n)
+      go (inr (inr w)) = rw (says-unequal-codes .1 w) (unequal-codes P Q b (w .0) (w .1))
 
 -- every input of bytes gets a text that Says describes
 pub compare-says : (input : List ℕ) → Bytes input → Says input (compareText input)
@@ -238,8 +266,9 @@ unfolding compareText
 says-only input t (reference-refused m n e) = sym (text.reference-refused input comparedLines (λ z. n (sym e ∙ z)) ∙ rw e)
 says-only input t (device-refused P rest m b n e) = sym (begins-text input comparedLines P rest b (λ z. n (sym e ∙ z)) ∙ rw e)
 says-only input t (unequal P Q b n) = sym (says-unequal input P Q b .1 n)
-says-only input t (refines P Q b same r c k) = sym (pair-says input P Q b ∙ rw (refines-once P Q (b .reference-accepted .1) (b .device-accepted .1) same r c k))
-says-only input t (violates P Q b same n o after v end l) = sym (pair-says input P Q b ∙ rw (violates-once P Q (b .reference-accepted .1) (b .device-accepted .1) same n o after v end l))
+says-only input t (unequal-codes P Q b same w) = sym (says-unequal-codes input P Q b .1 (same, w))
+says-only input t (refines P Q b agree r c k) = sym (pair-says input P Q b ∙ rw (refines-once P Q (b .reference-accepted .1) (b .device-accepted .1) agree r c k))
+says-only input t (violates P Q b agree n o after v end l) = sym (pair-says input P Q b ∙ rw (violates-once P Q (b .reference-accepted .1) (b .device-accepted .1) agree n o after v end l))
 
 -- a text that has the line of a reference and that of a device, be their numbers what they may, is that of two accepted
 -- sheets back to back
@@ -261,21 +290,23 @@ says-pair input y n e n′ e′ l h = go (compareText input) (compare-says input
         absurd (accepted-refused (ascii "device ") n′ e′ m l
         (sym (same-after (ascii "reference ") (P .n) (P .e) n e (numberLine (ascii "device refused ") m) (sheetLine (ascii "device ") n′ e′ ++ l) (q ∙ h))))
     go t (unequal P Q b z) q = pair P Q b (numberLine (ascii "comparison refused ") 11) q
-    go t (refines P Q b same r c k) q = pair P Q b (numberLine (ascii "refines cleared ") c) q
-    go t (violates P Q b same z o after v end k) q = pair P Q b (violatesLine (v .d) (v .cleared) ++ (traceLine (take (v .d) after) ++ end)) q
+    go t (unequal-codes P Q b same z) q = pair P Q b (numberLine (ascii "comparison refused ") 19) q
+    go t (refines P Q b agree r c k) q = pair P Q b (numberLine (ascii "refines cleared ") c) q
+    go t (violates P Q b agree z o after v end k) q = pair P Q b (violatesLine (v .d) (v .cleared) ++ (traceLine (take (v .d) after) ++ end)) q
 
--- no input gets `comparison refused` with another number than 11, so neither 12 nor 13
-pub says-only-11 : (input : List ℕ) → Bytes input → (n e n′ e′ m : ℕ)
-    → compareText input ≡ sheetLine (ascii "reference ") n e ++ (sheetLine (ascii "device ") n′ e′ ++ numberLine (ascii "comparison refused ") m) → m ≡ 11
-says-only-11 input y n e n′ e′ m h =
+-- no input gets `comparison refused` with another number than 11 and 19, so neither 12 nor 13
+pub says-only-11-or-19 : (input : List ℕ) → Bytes input → (n e n′ e′ m : ℕ)
+    → compareText input ≡ sheetLine (ascii "reference ") n e ++ (sheetLine (ascii "device ") n′ e′ ++ numberLine (ascii "comparison refused ") m)
+    → (m ≡ 11) ⊎ (m ≡ 19)
+says-only-11-or-19 input y n e n′ e′ m h =
     let x = says-pair input y n e n′ e′ (numberLine (ascii "comparison refused ") m) h in
-    pair-only-11 input (x .0) (x .1) (x .2) m (x .3)
+    ⊎-map (λ p. p .0) (λ p. p .0) (pair-refused input (x .0) (x .1) (x .2) m (x .3))
 
--- an input that gets `refines cleared` is two accepted sheets with one E, and the device refines the reference
+-- an input that gets `refines cleared` is two accepted sheets that agree, and the device refines the reference
 pub says-cleared-only : (input : List ℕ) → Bytes input → (n e n′ e′ c : ℕ)
     → compareText input ≡ sheetLine (ascii "reference ") n e ++ (sheetLine (ascii "device ") n′ e′ ++ numberLine (ascii "refines cleared ") c)
-    → (P : Sheet) × (Q : Sheet) × BackToBack input P Q × (P .e ≡ Q .e) × RefinesIn false P Q
+    → (P : Sheet) × (Q : Sheet) × BackToBack input P Q × Agree P Q × RefinesIn false P Q
 says-cleared-only input y n e n′ e′ c h =
     let x = says-pair input y n e n′ e′ (numberLine (ascii "refines cleared ") c) h in
-    let same = pair-same input (x .0) (x .1) (x .2) c (x .3) in
-    (x .0, x .1, x .2, same, says-refines input (x .0) (x .1) (x .2) same .0 (c, x .3))
+    let agree = pair-agree input (x .0) (x .1) (x .2) c (x .3) in
+    (x .0, x .1, x .2, agree, says-refines input (x .0) (x .1) (x .2) agree .0 (c, x .3))

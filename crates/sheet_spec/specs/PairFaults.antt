@@ -3,16 +3,19 @@
 -- (`rest`).
 use mathlib.Core.Path.{_≡_, refl}
 use mathlib.Core.Logic.{_⊎_, inl, inr, _≢_, _↔_, Iff·trans, Iff·and, Iff·rfl, ⊎-map}
+use mathlib.Core.Bool.{true, false}
 use mathlib.Core.List.{List}
 use Prim.Native.Nat.{ℕ, _<_}
 use native.Mathlib.Omega.{arith}
+use native.Mathlib.Decide.{ℕ-discrete}
 use lib.Dec.{eqb}
 use borrow.Author.Tests.{eqb-true, eq-eqb}
+use Rattle.base.specs.Truth.{dec}
 use Rattle.base.specs.Range.{all→, all←}
 use Rattle.base.specs.Finds.{finds-eq}
 use Rattle.base.specs.Refusal.{unless, orElse, unless→, unless←, unless-hit, unless-pass, unless-other, orElse-some, orElse-first, orElse-then, orElse-either, orElse-other}
 use Rattle.sheet_spec.specs.declared.Sheet.{Sheet}
-use Rattle.sheet_spec.specs.Kept.{codeAt}
+use Rattle.sheet_spec.specs.Kept.{codeAt, code}
 use Rattle.sheet_spec.specs.Rules.{codesAgree}
 use Rattle.sheet_spec.specs.Refusals.{sheetFault, sharedFault, pairFault, Own, NotOwn, BothAccepted, Agree, CodesDiffer}
 use Rattle.sheet_spec.specs.RuleLaws.{agree-finds}
@@ -61,6 +64,18 @@ module _ (e : ℕ) (codes : List ℕ) (e′ : ℕ) (codes′ : List ℕ) where
   pub shared-other : {m : ℕ} → 11 ≢ m → 19 ≢ m → m ≢ 0 → sharedFault e codes e′ codes′ ≢ m
   unfolding sharedFault
   shared-other p q z = unless-other (eqb e e′) p (unless-other (codesAgree e codes codes′) q (λ x. omega (arith, z)))
+
+-- two sheets agree, or their E differ, or they have one E and some event has another code
+abbrev pub PairWays : Sheet → Sheet → Type 0
+PairWays P Q = Agree P Q ⊎ ((P .e ≢ Q .e) ⊎ ((P .e ≡ Q .e) × CodesDiffer P Q))
+
+pub pair-ways : (P Q : Sheet) → PairWays P Q
+pair-ways P Q = go (ℕ-discrete (P .e) (Q .e)) (dec (codesAgree (P .e) (P .codes) (Q .codes)))
+  where
+    go : Dec (P .e ≡ Q .e) → (codesAgree (P .e) (P .codes) (Q .codes) ≡ true) ⊎ (codesAgree (P .e) (P .codes) (Q .codes) ≡ false) → PairWays P Q
+    go (no n) t = inr (inl n)
+    go (yes p) (inl t) = inl (p, λ i l. settled (code P i) (code Q i) (λ n. agree-finds (P .e) (P .codes) (Q .codes) .clear t (i, l, n)))
+    go (yes p) (inr t) = inr (inr (p, agree-finds (P .e) (P .codes) (Q .codes) .fault t))
 
 module _ (P Q : Sheet) (rest : ℕ) where
   -- what two sheets must share
