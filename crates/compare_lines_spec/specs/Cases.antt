@@ -20,7 +20,7 @@ use Rattle.sheet_spec.specs.Rules.{rangesOk, countOk, countsOk, successorOk, ro
 use Rattle.sheet_spec.specs.Refusals.{headFault, layoutFault, graphFault, bytesFault, sheetFault, codesFault, sharedFault}
 use Rattle.sheet_spec.specs.Reading.{answer, readSheet}
 use Rattle.sheet_spec.specs.Spelling.{lengthField, nextAt, startOf, succOf, setsOf, rowAt, rowOf, sheetOf, codeOf, nodesAt}
-use Rattle.sheet_spec.specs.Examples.{onlyZero, onlyOne, mayLoop, stopped}
+use Rattle.sheet_spec.specs.Examples.{exampleDevice, codedReference, codedDevice, onlyZero, onlyOne, mayLoop, stopped}
 use Rattle.refinement_spec.specs.ViolatingPairs.{strays, hasStray, firstStray, covers, hasRefusal, violates, violating}
 use Rattle.comparison_spec.specs.Comparison.{pairCount, nearest, nearestTrace, clearedOf, lastRow, refusalNamed, named, comparisonOf, compareFault, outcomeOf, traceAfter}
 use Rattle.comparison_spec.specs.declared.Outcome.the-variants.{Refusal}
@@ -37,6 +37,8 @@ inputs =
     (onlyZero ++ onlyOne)
     ∷ (mayLoop ++ stopped)
     ∷ (mayLoop ++ onlyOne)
+    ∷ (codedReference ++ codedDevice)
+    ∷ (exampleDevice ++ codedDevice)
     ∷ mayLoop
     ∷ (mayLoop ++ (stopped ++ (0 ∷ [])))
     ∷ []
@@ -47,15 +49,17 @@ inputs =
     ∷ (0 ∷ 0 ∷ 15 ∷ 253 ∷ replicate 4093 0)
     ∷ []
 
--- what `compare` prints for each of the inputs: a stray after the empty trace; refines; unequal E; no byte of a second
--- sheet; a byte after the second sheet; no byte; under 4 bytes; a first sheet of 4 bytes, which is too short; a length
--- field that exceeds the input; a first sheet that ends with the last of 4,096 bytes (its version is 0), and one that
--- ends behind them
+-- what `compare` prints for each of the inputs: a stray after the empty trace; refines; unequal E; two sheets of version
+-- 2 with other codes; a sheet in version 1 and in version 2, which agree; no byte of a second sheet; a byte after the
+-- second sheet; no byte; under 4 bytes; a first sheet of 4 bytes, which is too short; a length field that exceeds the
+-- input; a first sheet that ends with the last of 4,096 bytes (its version is 0), and one that ends behind them
 unfoldable pub texts : List (List ℕ)
 texts =
     ascii "reference 1 nodes 2 events\ndevice 1 nodes 2 events\nviolates after 0 cleared 0\ntrace\nstray 1\n"
     ∷ ascii "reference 1 nodes 1 events\ndevice 1 nodes 1 events\nrefines cleared 1\n"
     ∷ ascii "reference 1 nodes 1 events\ndevice 1 nodes 2 events\ncomparison refused 11\n"
+    ∷ ascii "reference 2 nodes 2 events\ndevice 3 nodes 2 events\ncomparison refused 19\n"
+    ∷ ascii "reference 3 nodes 2 events\ndevice 3 nodes 2 events\nrefines cleared 3\n"
     ∷ ascii "reference 1 nodes 1 events\ndevice refused 1\n"
     ∷ ascii "reference 1 nodes 1 events\ndevice refused 1\n"
     ∷ ascii "reference refused 1\n"
@@ -68,7 +72,7 @@ texts =
 
 -- one equation has the texts of all inputs
 pub texts-hold : map compareText inputs ≡ texts
-unfolding inputs texts onlyZero onlyOne mayLoop stopped compareText pairText cutInput inputLines firstSheet secondSheet firstEnd lengthField sheetsLines deviceLines comparedLines workList traceList outcomeLines numberLine sheetLine violatesLine eventList traceLine refusedProbeLine decimal decimalIn readSheet answer bytesFault headFault layoutFault nextAt startOf succOf setsOf rowAt rowOf sheetOf graphFault rangesOk countOk countsOk successorOk rowSuccessorsOk successorsOk ascends noneInside setOk rowSetsOk setsOk blank unusedOk blanksOk reachedOk sheetFault successor acceptance acceptances initials step bit setOf has inside meets nearer leads walk all any first upTo count outcomeOf traceAfter compareFault comparisonOf named refusalNamed lastRow clearedOf nearestTrace nearest pairCount pairDistance pairTrace pairCleared onCodes product pairNext code cleared meetsIn distance later choice leastFrom leastTrace strays hasStray firstStray covers hasRefusal violates violating codesFault nodesAt codeOf codesOk codeNew codesBlank sharedFault codesAgree
+unfolding inputs texts exampleDevice codedReference codedDevice onlyZero onlyOne mayLoop stopped compareText pairText cutInput inputLines firstSheet secondSheet firstEnd lengthField sheetsLines deviceLines comparedLines workList traceList outcomeLines numberLine sheetLine violatesLine eventList traceLine refusedProbeLine decimal decimalIn readSheet answer bytesFault headFault layoutFault nextAt startOf succOf setsOf rowAt rowOf sheetOf graphFault rangesOk countOk countsOk successorOk rowSuccessorsOk successorsOk ascends noneInside setOk rowSetsOk setsOk blank unusedOk blanksOk reachedOk sheetFault successor acceptance acceptances initials step bit setOf has inside meets nearer leads walk all any first upTo count outcomeOf traceAfter compareFault comparisonOf named refusalNamed lastRow clearedOf nearestTrace nearest pairCount pairDistance pairTrace pairCleared onCodes product pairNext code cleared meetsIn distance later choice leastFrom leastTrace strays hasStray firstStray covers hasRefusal violates violating codesFault nodesAt codeOf codesOk codeNew codesBlank sharedFault codesAgree
 texts-hold = refl
 
 -- the lines of an outcome that names a refused probe

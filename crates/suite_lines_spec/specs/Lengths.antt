@@ -1,14 +1,15 @@
 -- Nothing to believe: laws. How long the text can be: at most 17,495 bytes.
 use mathlib.Core.Path.{_≡_}
+use mathlib.Core.Logic.{inl, inr}
 use mathlib.Core.Bool.{Bool, true, false, cond}
 use mathlib.Core.List.{List, _++_}
 use Prim.Native.Nat.{ℕ, _+_, _-_, _*_, _≤_, _<_}
 use native.Mathlib.Omega.{arith}
-use native.Mathlib.Decide.{ℕ-discrete}
 use lib.Dec.{eqb}
 use lib.ListN.{length, getD, length-append}
 use Rattle.sheet_spec.specs.declared.Sheet.{Sheet}
 use Rattle.sheet_spec.specs.Refusals.{sheetFault}
+use Rattle.sheet_spec.specs.PairFaults.{PairWays, pair-ways}
 use Rattle.text_spec.specs.Lines.{ascii, decimal, numberLine}
 use Rattle.text_spec.specs.DecimalLaws.{decimal-few}
 use Rattle.text_spec.specs.LengthLaws.{number-length}
@@ -19,7 +20,7 @@ use Rattle.verdicts_spec.specs.Complete.{tests-few}
 use Rattle.text_pair_spec.specs.ProgramLaws.{pair-length}
 use Rattle.suite_lines_spec.specs.Lines.{testLine, testLines, passedOf, lastWords, lastLine}
 use Rattle.suite_lines_spec.specs.Program.{verdictList, judgedLines, suiteText}
-use Rattle.suite_lines_spec.specs.ProgramLaws.{passed-few, unequal-lines, equal-lines}
+use Rattle.suite_lines_spec.specs.ProgramLaws.{passed-few, unequal-lines, unequal-codes-lines, equal-lines}
 
 -- the length of the line of a test
 test-length : (k v : ℕ) → k < 10000 → length (testLine k v) ≤ 17
@@ -62,17 +63,18 @@ last-length n m f a b c = go (eqb f n)
 module _ (P Q : Sheet) (accP : sheetFault P ≡ 0) (accQ : sheetFault Q ≡ 0) where
   -- the length of the lines after two accepted sheets: at most 1,024 tests and the last line, or a refusal
   judged-length : length (judgedLines P Q) ≤ 17440
-  judged-length = go (ℕ-discrete (P .e) (Q .e))
+  judged-length = go (pair-ways P Q)
     where
-      go : Dec (P .e ≡ Q .e) → length (judgedLines P Q) ≤ 17440
-      go (yes e) =
-          let few = tests-few P Q accP accQ e in
-          rw (equal-lines P Q accP accQ e, length-append (testLines vs (testCount P Q)) (lastLine (testCount P Q) (testCount P Q) (passedOf vs (testCount P Q))))
+      go : PairWays P Q → length (judgedLines P Q) ≤ 17440
+      go (inl a) =
+          let few = tests-few P Q accP accQ a in
+          rw (equal-lines P Q accP accQ a, length-append (testLines vs (testCount P Q)) (lastLine (testCount P Q) (testCount P Q) (passedOf vs (testCount P Q))))
           (omega (arith, tests-length vs (testCount P Q) few, few, last-length (testCount P Q) (testCount P Q) (passedOf vs (testCount P Q)) few few (omega (arith, few, passed-few vs (testCount P Q)))))
         where
           vs : List ℕ
           vs = verdictsAfter false P Q verdictList
-      go (no n) = rw (unequal-lines P Q accP accQ n) (omega (arith, number-length (ascii "suite refused ") 1 11 (omega arith)))
+      go (inr (inl n)) = rw (unequal-lines P Q accP accQ n) (omega (arith, number-length (ascii "suite refused ") 1 11 (omega arith)))
+      go (inr (inr w)) = rw (unequal-codes-lines P Q accP accQ w) (omega (arith, number-length (ascii "suite refused ") 1 19 (omega arith)))
 
 -- every text has at most 17,495 bytes
 pub text-length : (input : List ℕ) → length (suiteText input) ≤ 17495

@@ -1,7 +1,7 @@
--- Nothing to believe: laws. What the text says after two accepted sheets: with the same E they get a line for each test
+-- Nothing to believe: laws. What the text says after two accepted sheets: if they agree they get a line for each test
 -- and the last line, which says "all pass" exactly if the device refines the reference; with another E they get the
--- refusal 11.
-use mathlib.Core.Path.{_≡_}
+-- refusal 11, with one E and another code the refusal 19.
+use mathlib.Core.Path.{_≡_, sym, _∙_}
 use mathlib.Core.Logic.{_≢_, _↔_}
 use mathlib.Core.Bool.{Bool, false}
 use mathlib.Core.List.{List, _++_}
@@ -12,12 +12,12 @@ use lib.ListN.{length, getD, length-replicate}
 use borrow.Author.Tests.{eq-eqb, ne-eqb, eqb-true}
 use Rattle.base.specs.Count.{count-le, count-all→, count-all←}
 use Rattle.sheet_spec.specs.declared.Sheet.{Sheet}
-use Rattle.sheet_spec.specs.Refusals.{sheetFault}
+use Rattle.sheet_spec.specs.Refusals.{sheetFault, Agree, CodesDiffer}
 use Rattle.refinement_spec.specs.Refinement.{RefinesIn}
 use Rattle.text_spec.specs.Lines.{ascii, numberLine}
 use Rattle.verdicts_spec.specs.Numbers.{passesNumber}
 use Rattle.verdicts_spec.specs.Suites.{testCount, suiteFault}
-use Rattle.verdicts_spec.specs.SuiteLaws.{suite-11, suite-fits, denied-suite, given-suite}
+use Rattle.verdicts_spec.specs.SuiteLaws.{suite-11, suite-19, suite-fits, denied-suite, given-suite}
 use Rattle.verdicts_spec.specs.Complete.{tests-few, suite-complete}
 use Rattle.suite_lines_spec.specs.Lines.{testLines, passedOf, lastWords, lastLine, suiteLines}
 use Rattle.suite_lines_spec.specs.Program.{verdictList, after, judgedLines}
@@ -33,21 +33,27 @@ unfolding verdictList
 list-length = length-replicate {A = ℕ} 1024 0
 
 module _ (P Q : Sheet) (accP : sheetFault P ≡ 0) (accQ : sheetFault Q ≡ 0) where
+  -- a refusal of the call is printed with its number
+  denied-lines : (m : ℕ) → m ≢ 0 → suiteFault P Q verdictList ≡ m → judgedLines P Q ≡ numberLine (ascii "suite refused ") m
+  unfolding judgedLines suiteLines
+  denied-lines m n z = rw (denied-suite P Q verdictList (λ e. n (sym z ∙ e)), z)
+
   -- where E differs, the refusal 11 is printed
   pub unequal-lines : P .e ≢ Q .e → judgedLines P Q ≡ numberLine (ascii "suite refused ") 11
-  unfolding judgedLines suiteLines
-  unequal-lines n =
-      let z : suiteFault P Q verdictList ≡ 11 = suite-11 P Q verdictList .1 ((accP, accQ), n) in
-      rw (denied-suite P Q verdictList (λ e. omega (arith, z)), z)
+  unequal-lines n = denied-lines 11 (λ e. omega arith) (suite-11 P Q verdictList .1 ((accP, accQ), n))
 
-  module _ (same : P .e ≡ Q .e) where
+  -- where E is one and some event has another code, the refusal 19 is printed
+  pub unequal-codes-lines : (P .e ≡ Q .e) × CodesDiffer P Q → judgedLines P Q ≡ numberLine (ascii "suite refused ") 19
+  unequal-codes-lines w = denied-lines 19 (λ e. omega arith) (suite-19 P Q verdictList .1 ((accP, accQ), w))
+
+  module _ (agree : Agree P Q) where
     room : testCount P Q ≤ length verdictList
-    room = omega (arith, list-length, tests-few P Q accP accQ same)
+    room = omega (arith, list-length, tests-few P Q accP accQ agree)
 
-    -- where E is the same, a line for each test is printed, and the last line
+    -- where the sheets agree, a line for each test is printed, and the last line
     pub equal-lines : judgedLines P Q ≡ testLines (after P Q) (testCount P Q) ++ lastLine (testCount P Q) (testCount P Q) (passedOf (after P Q) (testCount P Q))
     unfolding judgedLines suiteLines
-    equal-lines = rw (given-suite P Q verdictList (suite-fits P Q verdictList accP accQ same room))
+    equal-lines = rw (given-suite P Q verdictList (suite-fits P Q verdictList accP accQ agree room))
 
     -- as many pass as there are tests exactly if the device refines the reference
     pub all-passed : (passedOf (after P Q) (testCount P Q) ≡ testCount P Q) ↔ RefinesIn false P Q
@@ -59,7 +65,7 @@ module _ (P Q : Sheet) (accP : sheetFault P ≡ 0) (accQ : sheetFault Q ≡ 0) w
         f k = eqb (getD (after P Q) k 0) passesNumber
 
         w : ((k : ℕ) → k < testCount P Q → getD (after P Q) k 0 ≡ passesNumber) ↔ RefinesIn false P Q
-        w = suite-complete P Q accP accQ same verdictList room false
+        w = suite-complete P Q accP accQ agree verdictList room false
 
     -- the last line says "all pass" exactly if the device refines the reference, else how many tests failed
     pub says-all : RefinesIn false P Q → lastWords (testCount P Q) (testCount P Q) (passedOf (after P Q) (testCount P Q)) ≡ ascii " all pass\n"
