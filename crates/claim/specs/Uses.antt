@@ -1,6 +1,6 @@
 -- Nothing to believe: laws. What follows from the claim alone, of the bench's definitions only the numbers of answers
--- opened: its fields are used up to their bounds, so that a claim that said less, by one test or one event, would not
--- give them. (`Claim.violated` and `Claim.counted` are so used by the laws of what `compare` prints.)
+-- opened: its fields are used up to their bounds, so that a claim that said less, by one test or one event or of fewer
+-- sheets, would not give them. (`Claim.violated` and `Claim.counted` are so used by the laws of what `compare` prints.)
 use mathlib.Core.Path.{_≡_, refl, sym, ap, _∙_}
 use mathlib.Core.Logic.{_⊎_, inl, inr, _↔_}
 use mathlib.Core.Bool.{Bool, true}
@@ -14,14 +14,23 @@ use Rattle.sheet_spec.specs.declared.Sheet.{Sheet}
 use Rattle.refinement_spec.specs.Refinement.{ViolationIn, RefinesIn}
 use Rattle.verdicts_spec.specs.declared.Verdict.{Verdict}
 use Rattle.verdicts_spec.specs.declared.Verdict.the-variants.{Passes, Fails}
-use Rattle.verdicts_spec.specs.Verdicts.{FailsTest, verdictOf}
+use Rattle.verdicts_spec.specs.Verdicts.{FailsTest, verdictFault, verdictOf}
+use Rattle.verdicts_spec.specs.VerdictLaws.{verdict-0}
 use Rattle.verdicts_spec.specs.Numbers.{judged, suited}
 use Rattle.verdicts_spec.specs.Suites.{verdictNumber, suiteOf, verdictsAfter}
 use Rattle.comparison_spec.specs.declared.Outcome.{Outcome}
 use Rattle.comparison_spec.specs.declared.Outcome.the-variants.{Refines, Stray, Refusal, Denied}
-use Rattle.comparison_spec.specs.Comparison.{outcomeOf}
+use Rattle.comparison_spec.specs.Comparison.{compareFault, outcomeOf}
+use Rattle.comparison_spec.specs.CallLaws.{compare-0}
 use Rattle.comparison_spec.specs.Numbers.{compared}
-use Rattle.claim.specs.Claim.{LongEnough, Violated, AllJudged, Claim}
+use Rattle.claim.specs.Claim.{LongEnough, Violated, AllJudged, Claim, Demand3}
+
+-- the claim speaks of every two sheets that a comparison does not refuse, and of every two that a verdict does not
+pub compared-claimed : Demand3 → (traceOnly : Bool) (P Q : Sheet) (work trace : List ℕ) → compareFault P Q work trace ≡ 0 → Claim traceOnly P Q
+compared-claimed d traceOnly P Q work trace z = let o = compare-0 P Q work trace .0 z .0 .0 in d traceOnly P Q (inl (o .0 .0)) (inl (o .0 .1)) (o .1)
+
+pub judged-claimed : Demand3 → (traceOnly : Bool) (P Q : Sheet) (k : ℕ) → verdictFault P Q k ≡ 0 → Claim traceOnly P Q
+judged-claimed d traceOnly P Q k z = let o = verdict-0 P Q k .0 z .0 in d traceOnly P Q (inl (o .0 .0)) (inl (o .0 .1)) (o .1)
 
 -- the two words differ
 passes-fails : ¬ (Passes ≡ Fails)
