@@ -2,25 +2,13 @@
 // its meaning. A function takes the list and the place where the line begins and answers the place after it; what has
 // no room is left out.
 ghost use Rattle.text_spec.specs.Adds.{Adds};
-ghost use Rattle.text_sheet_spec.specs.Head.{refusalWords, refusedSheetLine, headLine};
+ghost use Rattle.text_sheet_spec.specs.Head.{ruleWords, refusalWords, refusedSheetLine, headLine};
 use sheet_spec::ReadSheet;
 
-// Puts what the number of a sheet's refusal means.
-fn put_meaning(out: &mut [u8], at: usize, k: u8) -> usize
-    ensures { λ r. ⌜ Adds (refusalWords k) (now (out .entry)) at (now (out .exit)) r ⌝ }
+// Puts what the number of a broken rule means.
+fn put_rule_meaning(out: &mut [u8], at: usize, k: u8) -> usize
+    ensures { λ r. ⌜ Adds (ruleWords k) (now (out .entry)) at (now (out .exit)) r ⌝ }
 {
-    if k == 1 {
-        return text::put(out, at, b"too short or its length field is wrong");
-    }
-    if k == 2 {
-        return text::put(out, at, b"version is not 1");
-    }
-    if k == 3 {
-        return text::put(out, at, b"events or nodes out of range");
-    }
-    if k == 4 {
-        return text::put(out, at, b"the bytes end inside a node or some remain");
-    }
     if k == 5 {
         return text::put(out, at, b"number of acceptances out of range");
     }
@@ -33,7 +21,29 @@ fn put_meaning(out: &mut [u8], at: usize, k: u8) -> usize
     if k == 8 {
         return text::put(out, at, b"a node cannot be reached");
     }
+    if k == 18 {
+        return text::put(out, at, b"a code is given twice");
+    }
     at
+}
+
+// Puts what the number of a sheet's refusal means.
+fn put_meaning(out: &mut [u8], at: usize, k: u8) -> usize
+    ensures { λ r. ⌜ Adds (refusalWords k) (now (out .entry)) at (now (out .exit)) r ⌝ }
+{
+    if k == 1 {
+        return text::put(out, at, b"too short or its length field is wrong");
+    }
+    if k == 2 {
+        return text::put(out, at, b"version is neither 1 nor 2");
+    }
+    if k == 3 {
+        return text::put(out, at, b"events or nodes out of range");
+    }
+    if k == 4 {
+        return text::put(out, at, b"the bytes end too early or some remain");
+    }
+    put_rule_meaning(out, at, k)
 }
 
 // Puts the line of a refused sheet.

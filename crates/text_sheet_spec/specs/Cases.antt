@@ -13,14 +13,15 @@ use Rattle.sheet_spec.specs.declared.Row.{Row}
 use Rattle.sheet_spec.specs.Kept.{successor, acceptance, acceptances, initials, mayStop, step}
 use Rattle.sheet_spec.specs.Rules.{rangesOk, countOk, successorOk, rowSuccessorsOk, successorsOk, ascends, noneInside, setOk, rowSetsOk, setsOk, reachedOk, codeNew, codesOk}
 use Rattle.sheet_spec.specs.Reading.{answer, readSheet}
+use Rattle.sheet_spec.specs.Examples.{codedReference, codedDevice}
 use Rattle.sheet_spec.specs.Spelling.{lengthField, nextAt, startOf, succOf, setsOf, rowAt, rowOf, sheetOf, codeOf, nodesAt}
 use Rattle.sheet_spec.specs.Refusals.{headFault, layoutFault, graphFault, bytesFault, codesFault}
 use Rattle.text_spec.specs.Lines.{ascii, decimalIn, decimal, numberLine, sheetLine, eventList}
 use Rattle.text_spec.specs.Sets.{eventsIn, members, setWords}
 use Rattle.text_spec.specs.Input.{cutInput}
 use Rattle.text_spec.specs.Joined.{joined}
-use Rattle.text_sheet_spec.specs.Head.{refusalWords, refusedSheetLine, headLine}
-use Rattle.text_sheet_spec.specs.Show.{eventLine, successorLine, acceptsLine, acceptanceLine, restLines, rowLines, nodeLines, showLines, showText}
+use Rattle.text_sheet_spec.specs.Head.{ruleWords, refusalWords, refusedSheetLine, headLine}
+use Rattle.text_sheet_spec.specs.Show.{codeLine, firstOk, codesLines, eventLine, successorLine, acceptsLine, acceptanceLine, restLines, rowLines, nodeLines, bodyLines, showLines, showText}
 use Rattle.text_sheet_spec.specs.Node.{placeWords, setList, probesLine, mayStopLine, deniedLine, optional, optionalLine, optionalText}
 
 -- three nodes with two events; node 2 may stop
@@ -31,19 +32,28 @@ threeNodes =
     0 ∷ 255 ∷ 1 ∷ 0 ∷ 1 ∷
     255 ∷ 255 ∷ 1 ∷ 0 ∷ 0 ∷ []
 
--- inputs: three nodes of which one may stop; no byte; version 2; 13 events; a byte too many; no acceptance; a successor
--- 1 of one node; a set with an event that has no successor; a node that nothing leads to
+-- inputs: three nodes of which one may stop; no byte; version 3; 13 events; a byte too many; no acceptance; a successor
+-- 1 of one node; a set with an event that has no successor; a node that nothing leads to. Of version 2: the example's
+-- reference with the codes 257 and 258; its device with the codes 1 and 2; the codes 65,535 and 0; the codes 1 and 3;
+-- codes cut off; one code for events 0 and 2, and nothing after the codes; bytes that are whole in version 1
 unfoldable pub inputs : List (List ℕ)
 inputs =
     threeNodes
     ∷ []
-    ∷ (0 ∷ 0 ∷ 0 ∷ 7 ∷ 2 ∷ 1 ∷ 1 ∷ 0 ∷ 1 ∷ 0 ∷ 1 ∷ [])
+    ∷ (0 ∷ 0 ∷ 0 ∷ 7 ∷ 3 ∷ 1 ∷ 1 ∷ 0 ∷ 1 ∷ 0 ∷ 1 ∷ [])
     ∷ (0 ∷ 0 ∷ 0 ∷ 7 ∷ 1 ∷ 13 ∷ 1 ∷ 0 ∷ 1 ∷ 0 ∷ 1 ∷ [])
     ∷ (0 ∷ 0 ∷ 0 ∷ 8 ∷ 1 ∷ 1 ∷ 1 ∷ 0 ∷ 1 ∷ 0 ∷ 1 ∷ 0 ∷ [])
     ∷ (0 ∷ 0 ∷ 0 ∷ 5 ∷ 1 ∷ 1 ∷ 1 ∷ 0 ∷ 0 ∷ [])
     ∷ (0 ∷ 0 ∷ 0 ∷ 7 ∷ 1 ∷ 1 ∷ 1 ∷ 1 ∷ 1 ∷ 0 ∷ 1 ∷ [])
     ∷ (0 ∷ 0 ∷ 0 ∷ 7 ∷ 1 ∷ 1 ∷ 1 ∷ 255 ∷ 1 ∷ 0 ∷ 1 ∷ [])
     ∷ (0 ∷ 0 ∷ 0 ∷ 11 ∷ 1 ∷ 1 ∷ 2 ∷ 0 ∷ 1 ∷ 0 ∷ 1 ∷ 0 ∷ 1 ∷ 0 ∷ 1 ∷ [])
+    ∷ codedReference
+    ∷ codedDevice
+    ∷ (0 ∷ 0 ∷ 0 ∷ 12 ∷ 2 ∷ 2 ∷ 1 ∷ 255 ∷ 255 ∷ 0 ∷ 0 ∷ 0 ∷ 255 ∷ 1 ∷ 0 ∷ 1 ∷ [])
+    ∷ (0 ∷ 0 ∷ 0 ∷ 12 ∷ 2 ∷ 2 ∷ 1 ∷ 0 ∷ 1 ∷ 0 ∷ 3 ∷ 0 ∷ 255 ∷ 1 ∷ 0 ∷ 1 ∷ [])
+    ∷ (0 ∷ 0 ∷ 0 ∷ 6 ∷ 2 ∷ 2 ∷ 1 ∷ 0 ∷ 1 ∷ 0 ∷ [])
+    ∷ (0 ∷ 0 ∷ 0 ∷ 9 ∷ 2 ∷ 3 ∷ 1 ∷ 1 ∷ 0 ∷ 0 ∷ 1 ∷ 1 ∷ 0 ∷ [])
+    ∷ (0 ∷ 0 ∷ 0 ∷ 7 ∷ 2 ∷ 1 ∷ 1 ∷ 0 ∷ 1 ∷ 0 ∷ 1 ∷ [])
     ∷ []
 
 -- what `show` prints for each of the inputs
@@ -51,18 +61,25 @@ unfoldable pub texts : List (List ℕ)
 texts =
     ascii "sheet 3 nodes 2 events\nnode 0\nevent 0 to 1\nevent 1 to 2\naccepts 1 ( 0 )\naccepts 2 ( 1 )\nnode 1\nevent 0 to 0\naccepts 1 ( 0 )\nnode 2\nmay stop\n"
     ∷ ascii "sheet refused 1 too short or its length field is wrong\n"
-    ∷ ascii "sheet refused 2 version is not 1\n"
+    ∷ ascii "sheet refused 2 version is neither 1 nor 2\n"
     ∷ ascii "sheet refused 3 events or nodes out of range\n"
-    ∷ ascii "sheet refused 4 the bytes end inside a node or some remain\n"
+    ∷ ascii "sheet refused 4 the bytes end too early or some remain\n"
     ∷ ascii "sheet refused 5 number of acceptances out of range\n"
     ∷ ascii "sheet refused 6 a successor is no node\n"
     ∷ ascii "sheet refused 7 a rule of acceptances is broken\n"
     ∷ ascii "sheet refused 8 a node cannot be reached\n"
+    ∷ ascii "sheet 2 nodes 2 events\ncode 0 257\ncode 1 258\nnode 0\nevent 0 to 1\nevent 1 to 1\naccepts 1 ( 0 )\naccepts 2 ( 1 )\nnode 1\nevent 0 to 0\nevent 1 to 0\naccepts 3 ( 0 1 )\n"
+    ∷ ascii "sheet 3 nodes 2 events\nnode 0\nevent 0 to 1\nevent 1 to 1\naccepts 3 ( 0 1 )\nnode 1\nevent 0 to 2\nevent 1 to 2\naccepts 3 ( 0 1 )\nnode 2\nevent 0 to 0\naccepts 1 ( 0 )\n"
+    ∷ ascii "sheet 1 nodes 2 events\ncode 0 65535\ncode 1 0\nnode 0\nevent 0 to 0\naccepts 1 ( 0 )\n"
+    ∷ ascii "sheet 1 nodes 2 events\ncode 0 1\ncode 1 3\nnode 0\nevent 0 to 0\naccepts 1 ( 0 )\n"
+    ∷ ascii "sheet refused 4 the bytes end too early or some remain\n"
+    ∷ ascii "sheet refused 18 a code is given twice\n"
+    ∷ ascii "sheet refused 4 the bytes end too early or some remain\n"
     ∷ []
 
 -- one equation has the texts of all inputs
 pub texts-hold : map showText inputs ≡ texts
-unfolding inputs texts threeNodes showText cutInput showLines nodeLines rowLines restLines acceptanceLine acceptsLine successorLine eventLine headLine refusedSheetLine refusalWords joined numberLine sheetLine setWords members eventsIn select gather eventList decimal decimalIn readSheet answer bytesFault headFault lengthField layoutFault nextAt startOf succOf setsOf rowAt rowOf sheetOf graphFault rangesOk countOk successorOk rowSuccessorsOk successorsOk ascends noneInside setOk rowSetsOk setsOk reachedOk successor acceptance acceptances initials mayStop step bit setOf has inside nearer leads walk all any upTo codesFault nodesAt codeOf codesOk codeNew
+unfolding inputs texts threeNodes codedReference codedDevice showText cutInput showLines bodyLines codesLines firstOk codeLine nodeLines rowLines restLines acceptanceLine acceptsLine successorLine eventLine headLine refusedSheetLine refusalWords ruleWords joined numberLine sheetLine setWords members eventsIn select gather eventList decimal decimalIn readSheet answer bytesFault headFault lengthField layoutFault nextAt startOf succOf setsOf rowAt rowOf sheetOf graphFault rangesOk countOk successorOk rowSuccessorsOk successorsOk ascends noneInside setOk rowSetsOk setsOk reachedOk successor acceptance acceptances initials mayStop step bit setOf has inside nearer leads walk all any upTo codesFault nodesAt codeOf codesOk codeNew
 texts-hold = refl
 
 -- the lines of `probe_list` for a list of probes, a node that may stop, and a refusal

@@ -9,16 +9,19 @@ use native.Mathlib.Nat.{mul-le-mul}
 use native.Mathlib.Decide.{ℕ-discrete}
 use native.Mathlib.Omega.{arith}
 use lib.Dec.{eqb}
-use lib.ListN.{length, getD, length-append}
+use lib.ListN.{length, getD, take, length-append, length-take, List·getD-eq-default}
+use lib.Seq.{getD-take}
 use lib.Pow.{pow-mono}
 use borrow.Author.Tests.{eqb-true}
 use Rattle.base.specs.Truth.{dec, lt-or-ge}
 use Rattle.sheet_spec.specs.declared.Sheet.{Sheet}
-use Rattle.sheet_spec.specs.Kept.{row, successor, acceptance, acceptances, mayStop}
+use Rattle.sheet_spec.specs.Kept.{codeAt, row, successor, acceptance, acceptances, mayStop}
+use Rattle.sheet_spec.specs.Form.{Bytes, SheetForm}
 use Rattle.sheet_spec.specs.Refusals.{sheetFault}
 use Rattle.sheet_spec.specs.Reading.{readSheet}
 use Rattle.sheet_spec.specs.AnswerLaws.{read-refusal, read-kept}
 use Rattle.sheet_spec.specs.ReadLaws.{read-numbers}
+use Rattle.sheet_spec.specs.EncodingLaws.{reads, sheetOf-form}
 use Rattle.sheet_spec.specs.CheckLaws.{check-below}
 use Rattle.sheet_spec.specs.Sound.{Sound}
 use Rattle.sheet_spec.specs.SoundLaws.{check-sound}
@@ -32,8 +35,8 @@ use Rattle.text_spec.specs.Input.{cutInput}
 use Rattle.text_spec.specs.LengthLaws.{number-length, sheet-length, events-length as set-events-length, set-length}
 use Rattle.text_spec.specs.Joined.{joined}
 use Rattle.text_spec.specs.JoinedLaws.{joined-length}
-use Rattle.text_sheet_spec.specs.Head.{refusalWords, refusedSheetLine, headLine}
-use Rattle.text_sheet_spec.specs.Show.{eventLine, successorLine, acceptsLine, acceptanceLine, restLines, rowLines, nodeLines, showLines, showText}
+use Rattle.text_sheet_spec.specs.Head.{ruleWords, refusalWords, refusedSheetLine, headLine}
+use Rattle.text_sheet_spec.specs.Show.{codeLine, firstOk, codesLines, eventLine, successorLine, acceptsLine, acceptanceLine, restLines, rowLines, nodeLines, bodyLines, showLines, showText}
 use Rattle.text_sheet_spec.specs.NodeLaws.{line-stop, line-probes, line-sheet, line-9}
 use Rattle.text_sheet_spec.specs.Node.{probeSpace, placeWords, setList, probesLine, mayStopLine, deniedLine, nodeLine, optional, optionalLine, optionalText, nodeText}
 
@@ -47,18 +50,23 @@ pick-length false x y k p q = q
 le-self : (n : ℕ) → n ≤ n
 le-self n = omega arith
 
-pub words-length : (k : ℕ) → length (refusalWords k) ≤ 42
+rule-length : (k : ℕ) → length (ruleWords k) ≤ 38
+unfolding ruleWords
+rule-length k =
+    pick-length (eqb k 5) _ _ 38 (omega arith)
+    (pick-length (eqb k 6) _ _ 38 (omega arith)
+    (pick-length (eqb k 7) _ _ 38 (omega arith)
+    (pick-length (eqb k 8) _ _ 38 (omega arith) (pick-length (eqb k 18) _ _ 38 (omega arith) (omega arith)))))
+
+pub words-length : (k : ℕ) → length (refusalWords k) ≤ 38
 unfolding refusalWords
 words-length k =
-    pick-length (eqb k 1) _ _ 42 (omega arith)
-    (pick-length (eqb k 2) _ _ 42 (omega arith)
-    (pick-length (eqb k 3) _ _ 42 (omega arith)
-    (pick-length (eqb k 4) _ _ 42 (omega arith)
-    (pick-length (eqb k 5) _ _ 42 (omega arith)
-    (pick-length (eqb k 6) _ _ 42 (omega arith)
-    (pick-length (eqb k 7) _ _ 42 (omega arith) (pick-length (eqb k 8) _ _ 42 (omega arith) (omega arith))))))))
+    pick-length (eqb k 1) _ _ 38 (omega arith)
+    (pick-length (eqb k 2) _ _ 38 (omega arith)
+    (pick-length (eqb k 3) _ _ 38 (omega arith)
+    (pick-length (eqb k 4) _ _ 38 (omega arith) (rule-length k))))
 
-refused-length : (k : ℕ) → k < 10 → length (refusedSheetLine k) ≤ 59
+refused-length : (k : ℕ) → k < 100 → length (refusedSheetLine k) ≤ 56
 unfolding refusedSheetLine
 refused-length k h =
     omega (
@@ -67,16 +75,16 @@ refused-length k h =
       length-append (decimal k) (ascii " " ++ (refusalWords k ++ ascii "\n")),
       length-append (ascii " ") (refusalWords k ++ ascii "\n"),
       length-append (refusalWords k) (ascii "\n"),
-      decimal-few 0 k h,
+      decimal-few 1 k h,
       words-length k,
     )
 
-pub head-length : (b : List ℕ) → length (headLine (readSheet b)) ≤ 59
+pub head-length : (b : List ℕ) → length (headLine (readSheet b)) ≤ 56
 unfolding headLine
 head-length b = go (eqb (readSheet b .refusal) 0) refl
   where
     go : (x : Bool) → eqb (readSheet b .refusal) 0 ≡ x
-        → length (cond x (sheetLine (ascii "sheet ") (readSheet b .sheet .n) (readSheet b .sheet .e)) (refusedSheetLine (readSheet b .refusal))) ≤ 59
+        → length (cond x (sheetLine (ascii "sheet ") (readSheet b .sheet .n) (readSheet b .sheet .e)) (refusedSheetLine (readSheet b .refusal))) ≤ 56
     go true e =
         let s = check-sound (readSheet b .sheet) (read-kept b (eqb-true (readSheet b .refusal) 0 e)) .ranges in
         omega (arith, sheet-length (ascii "sheet ") (readSheet b .sheet .n) (readSheet b .sheet .e) (omega (arith, s .n-high)) (omega (arith, s .e-high)))
@@ -144,33 +152,78 @@ module _ (s : Sheet) (h : sheetFault s ≡ 0) (v : ℕ) (l : v < s .n) where
         rest-length,
       )
 
--- every text of `show` has at most 39,867 bytes
-pub show-length : (input : List ℕ) → length (showText input) ≤ 39867
-unfolding showText showLines
-show-length input = go (cutInput input)
-  where
-    nodes : (b : List ℕ) → readSheet b .refusal ≡ 0 → length (joined (nodeLines (readSheet b .sheet)) (readSheet b .sheet .n)) ≤ 39808
-    nodes b e =
-        let h = read-kept b e in
-        let m : readSheet b .sheet .n * 1244 ≤ 32 * 1244 = mul-le-mul (check-sound (readSheet b .sheet) h .ranges .n-high) (le-self 1244) in
-        omega (arith, joined-length (nodeLines (readSheet b .sheet)) 1244 (readSheet b .sheet .n) (lines-length (readSheet b .sheet) h))
+-- ---- the text of `show`
 
-    go : (b : List ℕ) → length (headLine (readSheet b) ++ cond (eqb (readSheet b .refusal) 0) (joined (nodeLines (readSheet b .sheet)) (readSheet b .sheet .n)) []) ≤ 39867
-    go b =
+-- the sheet that is read of bytes without refusal has the machine's form
+read-form : (b : List ℕ) → Bytes b → readSheet b .refusal ≡ 0 → SheetForm (readSheet b .sheet)
+read-form b y h = rw (reads b (rw (read-refusal b) at h)) (sheetOf-form b y)
+
+-- what counts of bytes is bytes
+cut-bytes : (input : List ℕ) → Bytes input → Bytes (cutInput input)
+unfolding cutInput
+cut-bytes input y i = go (lt-or-ge i 4096)
+  where
+    go : (i < 4096) ⊎ (4096 ≤ i) → getD (take 4096 input) i 0 < 256
+    go (inl l) = rw (getD-take 4096 input i 0 l) (y i)
+    go (inr l) = rw (List·getD-eq-default (take 4096 input) 0 {n = i} (omega (arith, length-take 4096 input))) (omega arith)
+
+code-length : (codes : List ℕ) (i : ℕ) → i < 100 → codeAt codes i < 100000 → length (codeLine codes i) ≤ 14
+unfolding codeLine
+code-length codes i h k =
+    omega (
+      arith,
+      length-append (ascii "code ") (decimal i ++ (ascii " " ++ (decimal (codeAt codes i) ++ ascii "\n"))),
+      length-append (decimal i) (ascii " " ++ (decimal (codeAt codes i) ++ ascii "\n")),
+      length-append (ascii " ") (decimal (codeAt codes i) ++ ascii "\n"),
+      length-append (decimal (codeAt codes i)) (ascii "\n"),
+      decimal-few 1 i h,
+      decimal-few 4 (codeAt codes i) k,
+    )
+
+-- the lines of codes of 16 bits have at most 168 bytes
+codes-length : (e : ℕ) (codes : List ℕ) → e ≤ 12 → ((i : ℕ) → codeAt codes i < 65536) → length (codesLines e codes) ≤ 168
+unfolding codesLines
+codes-length e codes h f =
+    let m : e * 14 ≤ 12 * 14 = mul-le-mul h (le-self 14) in
+    pick-length (firstOk e codes) [] (joined (codeLine codes) e) 168 (omega arith)
+    (omega (arith, joined-length (codeLine codes) 14 e (λ i l. code-length codes i (omega arith) (omega (arith, f i)))))
+
+nodes-length : (s : Sheet) → sheetFault s ≡ 0 → length (joined (nodeLines s) (s .n)) ≤ 39808
+nodes-length s h =
+    let m : s .n * 1244 ≤ 32 * 1244 = mul-le-mul (check-sound s h .ranges .n-high) (le-self 1244) in
+    omega (arith, joined-length (nodeLines s) 1244 (s .n) (lines-length s h))
+
+body-length : (s : Sheet) → sheetFault s ≡ 0 → SheetForm s → length (bodyLines s) ≤ 39976
+unfolding bodyLines
+body-length s h o =
+    omega (
+      arith,
+      length-append (codesLines (s .e) (s .codes)) (joined (nodeLines s) (s .n)),
+      codes-length (s .e) (s .codes) (check-sound s h .ranges .e-high) (o .code-word),
+      nodes-length s h,
+    )
+
+-- every text of `show` has at most 40,032 bytes, whatever bytes the input has
+pub show-length : (input : List ℕ) → Bytes input → length (showText input) ≤ 40032
+unfolding showText showLines
+show-length input y = go (cutInput input) (cut-bytes input y)
+  where
+    go : (b : List ℕ) → Bytes b → length (headLine (readSheet b) ++ cond (eqb (readSheet b .refusal) 0) (bodyLines (readSheet b .sheet)) []) ≤ 40032
+    go b z =
         omega (
           arith,
-          length-append (headLine (readSheet b)) (cond (eqb (readSheet b .refusal) 0) (joined (nodeLines (readSheet b .sheet)) (readSheet b .sheet .n)) []),
+          length-append (headLine (readSheet b)) (cond (eqb (readSheet b .refusal) 0) (bodyLines (readSheet b .sheet)) []),
           head-length b,
           pick (eqb (readSheet b .refusal) 0) refl,
         )
       where
-        pick : (x : Bool) → eqb (readSheet b .refusal) 0 ≡ x → length (cond x (joined (nodeLines (readSheet b .sheet)) (readSheet b .sheet .n)) []) ≤ 39808
-        pick true e = nodes b (eqb-true (readSheet b .refusal) 0 e)
+        pick : (x : Bool) → eqb (readSheet b .refusal) 0 ≡ x → length (cond x (bodyLines (readSheet b .sheet)) []) ≤ 39976
+        pick true e = let h = eqb-true (readSheet b .refusal) 0 e in body-length (readSheet b .sheet) (read-kept b h) (read-form b z h)
         pick false e = omega arith
 
 -- every text of `show` fits where 65,536 bytes are kept
-pub show-fits : (input : List ℕ) → length (showText input) ≤ 65536
-show-fits input = omega (arith, show-length input)
+pub show-fits : (input : List ℕ) → Bytes input → length (showText input) ≤ 65536
+show-fits input y = omega (arith, show-length input y)
 
 -- ---- the line of a node's probes
 

@@ -1,22 +1,31 @@
--- Nothing to believe: laws. What `show` prints in each case, and that bytes behind 4,096 play no part.
-use mathlib.Core.Path.{_≡_, ap}
-use mathlib.Core.Logic.{_≢_}
+-- Nothing to believe: laws. What `show` prints in each case, when it prints catalogue codes, and that bytes behind 4,096
+-- play no part.
+use mathlib.Core.Path.{_≡_, sym, ap, _∙_}
+use mathlib.Core.Logic.{_⊎_, inl, inr, _≢_, _↔_}
 use mathlib.Core.Bool.{true, false}
 use mathlib.Core.List.{List, [], _++_, append-nil}
-use Prim.Native.Nat.{ℕ, _≤_}
-use lib.ListN.{length}
-use borrow.Author.Tests.{eq-eqb, ne-eqb}
+use Prim.Native.Nat.{ℕ, zero, suc, _+_, _≤_, _<_}
+use native.Mathlib.Omega.{arith}
+use lib.Dec.{eqb}
+use lib.ListN.{length, length-append}
+use borrow.Author.Tests.{eqb-true, eq-eqb, ne-eqb}
+use Rattle.base.specs.Truth.{dec}
+use Rattle.base.specs.Range.{all→, all←, all-stop}
 use Rattle.sheet_spec.specs.declared.Row.{Row}
+use Rattle.sheet_spec.specs.declared.Sheet.{Sheet}
 use Rattle.sheet_spec.specs.declared.ReadSheet.{ReadSheet}
-use Rattle.sheet_spec.specs.Kept.{successor, mayStop}
+use Rattle.sheet_spec.specs.Kept.{code, successor, mayStop}
+use Rattle.sheet_spec.specs.Spelling.{version}
 use Rattle.sheet_spec.specs.Reading.{readSheet}
-use Rattle.sheet_spec.specs.AnswerLaws.{read-kept}
+use Rattle.sheet_spec.specs.Encoding.{FirstCodes}
+use Rattle.sheet_spec.specs.AnswerLaws.{read-refusal, read-kept}
+use Rattle.sheet_spec.specs.EncodingLaws.{reads, version-1-codes}
 use Rattle.sheet_spec.specs.SoundLaws.{check-sound}
 use Rattle.text_spec.specs.Lines.{ascii, sheetLine}
 use Rattle.text_spec.specs.InputLaws.{cut-more}
 use Rattle.text_spec.specs.Joined.{joined}
 use Rattle.text_sheet_spec.specs.Head.{refusedSheetLine, headLine}
-use Rattle.text_sheet_spec.specs.Show.{eventLine, successorLine, acceptanceLine, restLines, nodeLines, showLines, showText}
+use Rattle.text_sheet_spec.specs.Show.{codeLine, firstOk, codesLines, eventLine, successorLine, acceptanceLine, restLines, nodeLines, bodyLines, showLines, showText}
 
 -- the first line of an accepted sheet, and of a refused one
 pub head-accepted : (a : ReadSheet) → a .refusal ≡ 0 → headLine a ≡ sheetLine (ascii "sheet ") (a .sheet .n) (a .sheet .e)
@@ -27,14 +36,65 @@ pub head-refused : (a : ReadSheet) → a .refusal ≢ 0 → headLine a ≡ refus
 unfolding headLine
 head-refused a h = rw (ne-eqb (a .refusal) 0 h)
 
--- after the first line stand the lines of each node of an accepted sheet; of another sheet nothing follows
-pub show-accepted : (a : ReadSheet) → a .refusal ≡ 0 → showLines a ≡ headLine a ++ joined (nodeLines (a .sheet)) (a .sheet .n)
-unfolding showLines
+-- after the first line stand the lines of the codes and those of each node of an accepted sheet; of another sheet nothing
+-- follows
+pub show-accepted : (a : ReadSheet) → a .refusal ≡ 0
+    → showLines a ≡ headLine a ++ (codesLines (a .sheet .e) (a .sheet .codes) ++ joined (nodeLines (a .sheet)) (a .sheet .n))
+unfolding showLines bodyLines
 show-accepted a h = rw (eq-eqb (a .refusal) 0 h)
 
 pub show-refused : (a : ReadSheet) → a .refusal ≢ 0 → showLines a ≡ headLine a
 unfolding showLines
 show-refused a h = rw (ne-eqb (a .refusal) 0 h) (append-nil (headLine a))
+
+-- codes of version 1 have no line
+pub codes-first : (e : ℕ) (codes : List ℕ) → firstOk e codes ≡ true → codesLines e codes ≡ []
+unfolding codesLines
+codes-first e codes t = rw t
+
+-- other codes have a line for each event, in order
+pub codes-other : (e : ℕ) (codes : List ℕ) → firstOk e codes ≡ false → codesLines e codes ≡ joined (codeLine codes) e
+unfolding codesLines
+codes-other e codes t = rw t
+
+-- texts one after another, of which each has a byte, are some text
+joined-some : (f : ℕ → List ℕ) (n i : ℕ) → i < n → ((j : ℕ) → 0 < length (f j)) → joined f n ≢ []
+unfolding joined
+joined-some f zero i l h p = omega arith
+joined-some f (suc n) i l h p = omega (arith, ap length p, length-append (joined f n) (f n), h n)
+
+line-some : (codes : List ℕ) (i : ℕ) → 0 < length (codeLine codes i)
+unfolding codeLine
+line-some codes i = omega arith
+
+module _ (s : Sheet) where
+  -- no code is printed exactly if every event i has the code i + 1
+  pub codes-none : (codesLines (s .e) (s .codes) ≡ []) ↔ FirstCodes s
+  unfolding firstOk
+  codes-none = (to, from)
+    where
+      to : codesLines (s .e) (s .codes) ≡ [] → FirstCodes s
+      to p i l = go (dec (firstOk (s .e) (s .codes)))
+        where
+          go : (firstOk (s .e) (s .codes) ≡ true) ⊎ (firstOk (s .e) (s .codes) ≡ false) → code s i ≡ i + 1
+          go (inl t) = eqb-true (code s i) (i + 1) (all→ (λ i. eqb (code s i) (i + 1)) (s .e) i t l)
+          go (inr t) = absurd (joined-some (codeLine (s .codes)) (s .e) i l (line-some (s .codes)) (sym (codes-other (s .e) (s .codes) t) ∙ p))
+
+      from : FirstCodes s → codesLines (s .e) (s .codes) ≡ []
+      from f = codes-first (s .e) (s .codes) (all← (λ i. eqb (code s i) (i + 1)) (s .e) (λ i l. eq-eqb (code s i) (i + 1) (f i l)))
+
+  -- where some event i has another code than i + 1, the codes of all events are printed, in order
+  pub codes-each : (i : ℕ) → i < s .e → code s i ≢ i + 1 → codesLines (s .e) (s .codes) ≡ joined (codeLine (s .codes)) (s .e)
+  unfolding firstOk
+  codes-each i l n = codes-other (s .e) (s .codes) (all-stop (λ i. eqb (code s i) (i + 1)) (s .e) i l (ne-eqb (code s i) (i + 1) n))
+
+-- of a version 1 sheet no code is printed
+pub version-1-shown : (b : List ℕ) → readSheet b .refusal ≡ 0 → version b ≡ 1
+    → showLines (readSheet b) ≡ headLine (readSheet b) ++ joined (nodeLines (readSheet b .sheet)) (readSheet b .sheet .n)
+version-1-shown b h v = rw (show-accepted (readSheet b) h, codes-none (readSheet b .sheet) .1 first)
+  where
+    first : FirstCodes (readSheet b .sheet)
+    first = let z = rw (read-refusal b) at h in rw (reads b z) (version-1-codes b z v)
 
 -- bytes behind 4,096 count as absent
 pub later-absent : (input more : List ℕ) → length input ≡ 4096 → showText (input ++ more) ≡ showText input

@@ -1,8 +1,7 @@
--- Each number has its words.
+-- Each number has its words; those of a broken rule are put by another function.
 use native.Mathlib.Omega.{arith}
 use borrow.Author.Tests.{ne-eqb}
 use Rattle.text_sheet_spec.specs.Head.{refusalWords}
-use Rattle.text_spec.specs.AddsLaws.{adds-none}
 use Rattle.text_sheet.proofs.put_meaning.Statement.{statement}
 use Rattle.text_sheet.proofs.put_meaning.Tie as tie
 
@@ -58,62 +57,16 @@ returns-4 : tie.Need-returns-4
 unfolding refusalWords
 returns-4 c = rw (c .before .before .before .before .before .if4 .taken) (c .before .before .put4 .ensures)
 
-slice-aggregate-put-5 : tie.Need-slice-aggregate-put-5
-slice-aggregate-put-5 c = omega arith
-
-put-requires-5 : tie.Need-put-requires-5
-put-requires-5 c κs = tt
+put-rule-meaning-requires : tie.Need-put-rule-meaning-requires
+put-rule-meaning-requires c κs = tt
 
 same-length-5 : tie.Need-same-length-5
 same-length-5 c = omega arith
 
 returns-5 : tie.Need-returns-5
 unfolding refusalWords
-returns-5 c = rw (c .before .before .before .before .before .if5 .taken) (c .before .before .put5 .ensures)
-
-slice-aggregate-put-6 : tie.Need-slice-aggregate-put-6
-slice-aggregate-put-6 c = omega arith
-
-put-requires-6 : tie.Need-put-requires-6
-put-requires-6 c κs = tt
-
-same-length-6 : tie.Need-same-length-6
-same-length-6 c = omega arith
-
-returns-6 : tie.Need-returns-6
-unfolding refusalWords
-returns-6 c = rw (c .before .before .before .before .before .if6 .taken) (c .before .before .put6 .ensures)
-
-slice-aggregate-put-7 : tie.Need-slice-aggregate-put-7
-slice-aggregate-put-7 c = omega arith
-
-put-requires-7 : tie.Need-put-requires-7
-put-requires-7 c κs = tt
-
-same-length-7 : tie.Need-same-length-7
-same-length-7 c = omega arith
-
-returns-7 : tie.Need-returns-7
-unfolding refusalWords
-returns-7 c = rw (c .before .before .before .before .before .if7 .taken) (c .before .before .put7 .ensures)
-
-slice-aggregate-put-8 : tie.Need-slice-aggregate-put-8
-slice-aggregate-put-8 c = omega arith
-
-put-requires-8 : tie.Need-put-requires-8
-put-requires-8 c κs = tt
-
-same-length-8 : tie.Need-same-length-8
-same-length-8 c = omega arith
-
-returns-8 : tie.Need-returns-8
-unfolding refusalWords
-returns-8 c = rw (c .before .before .before .before .before .if8 .taken) (c .before .before .put8 .ensures)
-
-returns-9 : tie.Need-returns-9
-unfolding refusalWords
-returns-9 c = let a = c .before .before .before .before .before .before .before .before .before .args in
-    rw (ne-eqb (a .k) 1 (c .before .before .before .before .before .before .before .if1 .left), ne-eqb (a .k) 2 (c .before .before .before .before .before .before .if2 .left), ne-eqb (a .k) 3 (c .before .before .before .before .before .if3 .left), ne-eqb (a .k) 4 (c .before .before .before .before .if4 .left), ne-eqb (a .k) 5 (c .before .before .before .if5 .left), ne-eqb (a .k) 6 (c .before .before .if6 .left), ne-eqb (a .k) 7 (c .before .if7 .left), ne-eqb (a .k) 8 (c .if8 .left)) (adds-none (a .out .now) (a .at))
+returns-5 c = let a = c .before .before .before .before .before .before .before .before .before .args in
+    rw (ne-eqb (a .k) 1 (c .before .before .before .before .before .before .before .if1 .left), ne-eqb (a .k) 2 (c .before .before .before .before .before .before .if2 .left), ne-eqb (a .k) 3 (c .before .before .before .before .before .if3 .left), ne-eqb (a .k) 4 (c .before .before .before .before .if4 .left)) (c .before .before .put-rule-meaning .ensures)
 
 pub put-meaning-spec : {M : Type 1} → statement M
 put-meaning-spec =
@@ -135,20 +88,6 @@ put-meaning-spec =
     put-requires-4
     same-length-4
     returns-4
-    slice-aggregate-put-5
-    put-requires-5
+    put-rule-meaning-requires
     same-length-5
-    returns-5
-    slice-aggregate-put-6
-    put-requires-6
-    same-length-6
-    returns-6
-    slice-aggregate-put-7
-    put-requires-7
-    same-length-7
-    returns-7
-    slice-aggregate-put-8
-    put-requires-8
-    same-length-8
-    returns-8
-    returns-9)
+    returns-5)
