@@ -1,12 +1,63 @@
 // The text of the program `show`: every byte that it prints, from the bytes that it reads. A function that puts a piece
 // takes the list and the place where the piece begins and answers the place after it.
-ghost use Prim.Native.Nat.{_≤_};
+ghost use mathlib.Core.Path.{_≡_};
+ghost use Prim.Native.Nat.{_≤_, _<_};
 ghost use Rattle.text_spec.specs.Adds.{Adds, Holds};
 ghost use Rattle.text_spec.specs.Joined.{joined};
+ghost use Rattle.text_sheet_spec.specs.Show.{codeLine, firstOk, codesLines};
 ghost use Rattle.text_sheet_spec.specs.Show.{eventLine, successorLine, acceptanceLine};
 ghost use Rattle.text_sheet_spec.specs.Show.{restLines, rowLines, nodeLines, showText};
 use sheet_spec::Row;
 use sheet_spec::Sheet;
+
+// ---- the lines of the codes
+
+// Whether each of the first e events has the code of version 1: i + 1 for event i.
+fn is_first(codes: &[u16; 12], e: u8) -> bool
+    requires { ⌜ e ≤ 12 ⌝ }
+    ensures { λ r. ⌜ r ≡ firstOk e (now (codes .entry)) ⌝ }
+{
+    let events = e as usize;
+    for i in 0..events {
+        if codes[i] != i as u16 + 1 {
+            return false;
+        }
+    }
+    true
+}
+
+// Puts the line of the code of event i.
+fn put_code_line(out: &mut [u8], at: usize, codes: &[u16; 12], i: u8) -> usize
+    requires { ⌜ i < 12 ⌝ }
+    ensures { λ r. ⌜ Adds (codeLine (now (codes .entry)) i) (now (out .entry)) at (now (out .exit)) r ⌝ }
+{
+    let place = base::wide(i);
+    let code = codes[place];
+    text::put_numbers(out, at, b"code ", i as u16, b" ", code, b"\n")
+}
+
+// Puts the lines of the codes of the first e events.
+fn put_code_lines(out: &mut [u8], at: usize, codes: &[u16; 12], e: u8) -> usize
+    requires { ⌜ e ≤ 12 ⌝ }
+    ensures { λ r. ⌜ Adds (joined (codeLine (now (codes .entry))) e) (now (out .entry)) at (now (out .exit)) r ⌝ }
+{
+    let mut next = at;
+    for i in 0..e {
+        next = put_code_line(out, next, codes, i);
+    }
+    next
+}
+
+// Puts the lines of the codes of the first e events, unless the codes are those of version 1.
+fn put_codes(out: &mut [u8], at: usize, codes: &[u16; 12], e: u8) -> usize
+    requires { ⌜ e ≤ 12 ⌝ }
+    ensures { λ r. ⌜ Adds (codesLines e (now (codes .entry))) (now (out .entry)) at (now (out .exit)) r ⌝ }
+{
+    if is_first(codes, e) {
+        return at;
+    }
+    put_code_lines(out, at, codes, e)
+}
 
 // ---- the lines of a node
 
@@ -108,5 +159,7 @@ pub fn put_show(input: &[u8], out: &mut [u8]) -> usize
     if a.refusal != 0 {
         return at;
     }
-    put_nodes(out, at, a.sheet)
+    let s = a.sheet;
+    let next = put_codes(out, at, &s.codes, s.e);
+    put_nodes(out, next, s)
 }

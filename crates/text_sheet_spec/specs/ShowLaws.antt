@@ -101,9 +101,13 @@ pub later-absent : (input more : List ℕ) → length input ≡ 4096 → showTex
 unfolding showText
 later-absent input more h = ap (λ (b : List ℕ). showLines (readSheet b)) (cut-more input more h)
 
--- a sheet that was read without refusal has at most 32 nodes
-pub read-nodes : (b : List ℕ) → readSheet b .refusal ≡ 0 → readSheet b .sheet .n ≤ 32
-read-nodes b h = check-sound (readSheet b .sheet) (read-kept b h) .ranges .n-high
+-- a sheet that was read without refusal has at most 12 events and 32 nodes
+module _ (b : List ℕ) (h : readSheet b .refusal ≡ 0) where
+  pub read-events : readSheet b .sheet .e ≤ 12
+  read-events = check-sound (readSheet b .sheet) (read-kept b h) .ranges .e-high
+
+  pub read-nodes : readSheet b .sheet .n ≤ 32
+  read-nodes = check-sound (readSheet b .sheet) (read-kept b h) .ranges .n-high
 
 -- an event without a successor has no line, any other one has
 pub successor-none : (r : Row) (i : ℕ) → successor r i ≡ 255 → successorLine r i ≡ []
