@@ -21,7 +21,7 @@ use Rattle.sheet_spec.specs.Encoding.{FirstCodes}
 use Rattle.sheet_spec.specs.AnswerLaws.{read-refusal, read-kept}
 use Rattle.sheet_spec.specs.EncodingLaws.{reads, version-1-codes}
 use Rattle.sheet_spec.specs.SoundLaws.{check-sound}
-use Rattle.text_spec.specs.Lines.{ascii, sheetLine}
+use Rattle.text_spec.specs.Lines.{ascii, numbersText, sheetLine}
 use Rattle.text_spec.specs.InputLaws.{cut-more}
 use Rattle.text_spec.specs.Joined.{joined}
 use Rattle.text_sheet_spec.specs.Head.{refusedSheetLine, headLine}
@@ -83,9 +83,10 @@ module _ (s : Sheet) where
       from : FirstCodes s → codesLines (s .e) (s .codes) ≡ []
       from f = codes-first (s .e) (s .codes) (all← (λ i. eqb (code s i) (i + 1)) (s .e) (λ i l. eq-eqb (code s i) (i + 1) (f i l)))
 
-  -- where some event i has another code than i + 1, the codes of all events are printed, in order
-  pub codes-each : (i : ℕ) → i < s .e → code s i ≢ i + 1 → codesLines (s .e) (s .codes) ≡ joined (codeLine (s .codes)) (s .e)
-  unfolding firstOk
+  -- where some event i has another code than i + 1, every event has a line with its number and its code, in order
+  pub codes-each : (i : ℕ) → i < s .e → code s i ≢ i + 1
+      → codesLines (s .e) (s .codes) ≡ joined (λ j. numbersText (ascii "code ") j (ascii " ") (code s j) (ascii "\n")) (s .e)
+  unfolding firstOk codeLine
   codes-each i l n = codes-other (s .e) (s .codes) (all-stop (λ i. eqb (code s i) (i + 1)) (s .e) i l (ne-eqb (code s i) (i + 1) n))
 
 -- of a version 1 sheet no code is printed
