@@ -203,7 +203,7 @@ body-length s h o =
       nodes-length s h,
     )
 
--- every text of `show` has at most 40,032 bytes, whatever bytes the input has
+-- every text of `show` for an input of bytes has at most 40,032 bytes
 pub show-length : (input : List ℕ) → Bytes input → length (showText input) ≤ 40032
 unfolding showText showLines
 show-length input y = go (cutInput input) (cut-bytes input y)
@@ -221,7 +221,7 @@ show-length input y = go (cutInput input) (cut-bytes input y)
         pick true e = let h = eqb-true (readSheet b .refusal) 0 e in body-length (readSheet b .sheet) (read-kept b h) (read-form b z h)
         pick false e = omega arith
 
--- every text of `show` fits where 65,536 bytes are kept
+-- every such text fits where 65,536 bytes are kept
 pub show-fits : (input : List ℕ) → Bytes input → length (showText input) ≤ 65536
 show-fits input y = omega (arith, show-length input y)
 
