@@ -1,5 +1,5 @@
--- Nothing to believe: laws. What `show` prints in each case, when it prints catalogue codes, and that bytes behind 4,096
--- play no part.
+-- Nothing to believe: laws. What `show` prints in each case, when it prints catalogue codes, and that bytes behind
+-- 4,096 play no part.
 use mathlib.Core.Path.{_≡_, sym, ap, _∙_}
 use mathlib.Core.Logic.{_⊎_, inl, inr, _≢_, _↔_}
 use mathlib.Core.Bool.{true, false}
@@ -36,8 +36,8 @@ pub head-refused : (a : ReadSheet) → a .refusal ≢ 0 → headLine a ≡ refus
 unfolding headLine
 head-refused a h = rw (ne-eqb (a .refusal) 0 h)
 
--- after the first line stand the lines of the codes and those of each node of an accepted sheet; of another sheet nothing
--- follows
+-- after the first line stand the lines of the codes and those of each node of an accepted sheet; of another sheet
+-- nothing follows
 pub show-accepted : (a : ReadSheet) → a .refusal ≡ 0
     → showLines a ≡ headLine a ++ (codesLines (a .sheet .e) (a .sheet .codes) ++ joined (nodeLines (a .sheet)) (a .sheet .n))
 unfolding showLines bodyLines
