@@ -7,7 +7,7 @@ use lib.Dec.{eqb}
 use borrow.Author.Tests.{eq-eqb, ne-eqb, not-true, not-false}
 use Rattle.base.specs.Loops.{Passing, stops, goes-on}
 use Rattle.sheet_spec.specs.Kept.{codeAt}
-use Rattle.sheet_spec.specs.Rules.{codeNew, codesAgree}
+use Rattle.sheet_spec.specs.Rules.{codeNew, codesAgree, codesFirst}
 use Rattle.sheet_spec.specs.Refusals.{sharedFault}
 
 -- event i has another code than event j
@@ -33,6 +33,18 @@ module _ (codes others : List ℕ) {e i : ℕ} (w : Passing (alike codes others)
 
   pub same : codeAt codes i ≡ codeAt others i → Passing (alike codes others) e (i + 1)
   same m = goes-on w l refl (rw (eq-eqb _ _ m))
+
+-- event i has its code of version 1
+abbrev pub isFirst : List ℕ → ℕ → Bool
+isFirst codes i = eqb (codeAt codes i) (i + 1)
+
+module _ (codes : List ℕ) {e i : ℕ} (w : Passing (isFirst codes) e i) (l : i < e) where
+  pub another : (codeAt codes i ≡ i + 1 → ⊥) → false ≡ codesFirst e codes
+  unfolding codesFirst
+  another n = stops w l refl (rw (ne-eqb _ _ n))
+
+  pub its-own : codeAt codes i ≡ i + 1 → Passing (isFirst codes) e (i + 1)
+  its-own m = goes-on w l refl (rw (eq-eqb _ _ m))
 
 -- the refusal of two lists, t being the answer of the test of the codes
 module _ (e other : ℕ) (codes others : List ℕ) where

@@ -5,7 +5,7 @@ ghost use mathlib.Core.Bool.{_||_};
 ghost use Prim.Native.Nat.{_≤_, _<_};
 ghost use lib.Dec.{eqb, ltb};
 ghost use Rattle.sheet_spec.specs.Kept.{codeAt};
-ghost use Rattle.sheet_spec.specs.Rules.{codeNew, codesOk, codesBlank, codesAgree};
+ghost use Rattle.sheet_spec.specs.Rules.{codeNew, codesOk, codesBlank, codesAgree, codesFirst};
 ghost use Rattle.sheet_spec.specs.Refusals.{sharedFault};
 
 // 18: whether no event before event `j` has its code.
@@ -87,4 +87,18 @@ pub fn shared_fault(e: u8, codes: &[u16; 12], other: u8, others: &[u16; 12]) -> 
         return 19;
     }
     0
+}
+
+// Whether each of the first `e` events has its code of version 1: i + 1 for event i.
+pub fn is_first(codes: &[u16; 12], e: u8) -> bool
+    requires { ⌜ e ≤ 12 ⌝ }
+    ensures { λ r. ⌜ r ≡ codesFirst e (now (codes .entry)) ⌝ }
+{
+    let used = e as usize;
+    for i in 0..used {
+        if codes[i] != i as u16 + 1 {
+            return false;
+        }
+    }
+    true
 }

@@ -13,7 +13,7 @@ use Rattle.sheet_spec.specs.Form.{Bytes, RowForm, SheetForm}
 use Rattle.sheet_spec.specs.Encoding.{two, four, encodeWords, encodeRow, encodeRows, encodeCodes, encodeBody, encode}
 
 -- every number of a list is below a bound
-abbrev Below : ℕ → List ℕ → Type 0
+abbrev pub Below : ℕ → List ℕ → Type 0
 Below m l = (i : ℕ) → getD l i 0 < m
 
 below-cons : (m x : ℕ) (l : List ℕ) → x < m → Below m l → Below m (x ∷ l)
@@ -24,7 +24,7 @@ below-append : (m : ℕ) (x y : List ℕ) → Below m x → Below m y → Below 
 below-append m [] y f g = g
 below-append m (a ∷ x) y f g = below-cons m a (x ++ y) (f 0) (below-append m x y (λ i. f (suc i)) g)
 
-below-take : (m n : ℕ) (l : List ℕ) → 0 < m → Below m l → Below m (take n l)
+pub below-take : (m n : ℕ) (l : List ℕ) → 0 < m → Below m l → Below m (take n l)
 below-take m zero l p f = λ i. p
 below-take m (suc n) [] p f = λ i. p
 below-take m (suc n) (x ∷ l) p f = below-cons m x (take n l) (f 0) (below-take m n l p (λ i. f (suc i)))

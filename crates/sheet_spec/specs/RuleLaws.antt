@@ -3,7 +3,7 @@ use mathlib.Core.Path.{_≡_, refl, sym, _∙_}
 use mathlib.Core.Logic.{_⊎_, inl, inr, _≢_}
 use mathlib.Core.Bool.{Bool, true, false, not, _&&_, cond}
 use mathlib.Core.List.{List, [], _∷_}
-use Prim.Native.Nat.{ℕ, zero, suc, _-_, _≤_, _<_}
+use Prim.Native.Nat.{ℕ, zero, suc, _+_, _-_, _≤_, _<_}
 use native.Mathlib.Omega.{arith}
 use native.Mathlib.Nat.{eq-or-lt-of-le}
 use lib.Dec.{eqb, ltb, leb}
@@ -18,7 +18,7 @@ use Rattle.walks.specs.Reach.{nearer, nearer-all}
 use Rattle.sheet_spec.specs.declared.Row.{Row}
 use Rattle.sheet_spec.specs.declared.Sheet.{Sheet}
 use Rattle.sheet_spec.specs.Kept.{codeAt, code, row, successor, acceptance, initials, Initial, step, graph, Walk}
-use Rattle.sheet_spec.specs.Rules.{between, rangesOk, codeNew, codesOk, countOk, countsOk, successorOk, rowSuccessorsOk, successorsOk, ascends, noneInside, setOk, rowSetsOk, setsOk, blank, unusedOk, blanksOk, codesBlank, reachedOk, codesAgree}
+use Rattle.sheet_spec.specs.Rules.{between, rangesOk, codeNew, codesOk, countOk, countsOk, successorOk, rowSuccessorsOk, successorsOk, ascends, noneInside, setOk, rowSetsOk, setsOk, blank, unusedOk, blanksOk, codesBlank, reachedOk, codesAgree, codesFirst}
 use Rattle.sheet_spec.specs.Faults.{RangeFault, CodeTwice, BadCount, CountFault, SuccessorFault, RowSetFault, descends, outside, includes, stops, SetFault, UnusedFault, event, place, node-successor, node-set, node-count, event-code, ReachFault}
 use Rattle.sheet_spec.specs.Sound.{Ranges}
 
@@ -62,6 +62,11 @@ codes-find e codes = finds-as (finds-all e (λ j h. finds-all j (λ i k. finds-n
 pub agree-finds : (e : ℕ) (codes others : List ℕ) → Finds (codesAgree e codes others) ((i : ℕ) × (i < e) × (codeAt codes i ≢ codeAt others i))
 unfolding codesAgree
 agree-finds e codes others = finds-all e (λ i h. finds-eq (codeAt codes i) (codeAt others i))
+
+-- the test of version 1's codes finds an event with another code
+pub first-finds : (e : ℕ) (codes : List ℕ) → Finds (codesFirst e codes) ((i : ℕ) × (i < e) × (codeAt codes i ≢ i + 1))
+unfolding codesFirst
+first-finds e codes = finds-all e (λ i h. finds-eq (codeAt codes i) (i + 1))
 
 -- 5: the test of a C, and that of all nodes, find their faults
 pub count-finds : (c : ℕ) → Finds (countOk c) (BadCount c)

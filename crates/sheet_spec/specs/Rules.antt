@@ -3,7 +3,7 @@
 -- the tests in order.
 use mathlib.Core.Bool.{Bool, not, _&&_, _||_, cond}
 use mathlib.Core.List.{List}
-use Prim.Native.Nat.{ℕ, _-_}
+use Prim.Native.Nat.{ℕ, _+_, _-_}
 use lib.Dec.{eqb, ltb, leb}
 use Rattle.base.specs.Range.{all}
 use Rattle.events.specs.Sets.{inside}
@@ -91,3 +91,7 @@ reachedOk s = all (nearer (graph s) (s .n)) (s .n)
 -- 19: each of the first e events has one code in both lists
 unfoldable pub codesAgree : ℕ → List ℕ → List ℕ → Bool
 codesAgree e codes others = all (λ i. eqb (codeAt codes i) (codeAt others i)) e
+
+-- each of the first e events has its code of version 1: i + 1 for event i
+unfoldable pub codesFirst : ℕ → List ℕ → Bool
+codesFirst e codes = all (λ i. eqb (codeAt codes i) (i + 1)) e

@@ -4,27 +4,13 @@ ghost use mathlib.Core.Path.{_≡_};
 ghost use Prim.Native.Nat.{_≤_, _<_};
 ghost use Rattle.text_spec.specs.Adds.{Adds, Holds};
 ghost use Rattle.text_spec.specs.Joined.{joined};
-ghost use Rattle.text_sheet_spec.specs.Show.{codeLine, firstOk, codesLines};
+ghost use Rattle.text_sheet_spec.specs.Show.{codeLine, codesLines};
 ghost use Rattle.text_sheet_spec.specs.Show.{eventLine, successorLine, acceptanceLine};
 ghost use Rattle.text_sheet_spec.specs.Show.{restLines, rowLines, nodeLines, showText};
 use sheet_spec::Row;
 use sheet_spec::Sheet;
 
 // ---- the lines of the codes
-
-// Whether each of the first e events has the code of version 1: i + 1 for event i.
-fn is_first(codes: &[u16; 12], e: u8) -> bool
-    requires { ⌜ e ≤ 12 ⌝ }
-    ensures { λ r. ⌜ r ≡ firstOk e (now (codes .entry)) ⌝ }
-{
-    let events = e as usize;
-    for i in 0..events {
-        if codes[i] != i as u16 + 1 {
-            return false;
-        }
-    }
-    true
-}
 
 // Puts the line of the code of event i.
 fn put_code_line(out: &mut [u8], at: usize, codes: &[u16; 12], i: u8) -> usize
@@ -53,7 +39,7 @@ fn put_codes(out: &mut [u8], at: usize, codes: &[u16; 12], e: u8) -> usize
     requires { ⌜ e ≤ 12 ⌝ }
     ensures { λ r. ⌜ Adds (codesLines e (now (codes .entry))) (now (out .entry)) at (now (out .exit)) r ⌝ }
 {
-    if is_first(codes, e) {
+    if sheet_codes::is_first(codes, e) {
         return at;
     }
     put_code_lines(out, at, codes, e)

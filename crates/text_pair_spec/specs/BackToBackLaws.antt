@@ -15,6 +15,7 @@ use Rattle.sheet_spec.specs.Form.{Bytes}
 use Rattle.sheet_spec.specs.Reading.{readSheet, accepted}
 use Rattle.sheet_spec.specs.Encoding.{BytesOf}
 use Rattle.sheet_spec.specs.AnswerLaws.{read-refusal}
+use Rattle.sheet_spec.specs.Octets.{below-take}
 use Rattle.sheet_spec.specs.EncodingLaws.{reads→, reads-as, accepted-exactly, bytes-length}
 use Rattle.text_spec.specs.Lines.{ascii, numberLine, sheetLine}
 use Rattle.text_spec.specs.Input.{cutInput}
@@ -27,11 +28,7 @@ use Rattle.text_pair_spec.specs.BackToBack.{AcceptedSheet, Begins, BackT
 
 -- a part of bytes is bytes
 take-bytes : (n : ℕ) (b : List ℕ) → Bytes b → Bytes (take n b)
-take-bytes n b y i = go (lt-or-ge i n)
-  where
-    go : (i < n) ⊎ (n ≤ i) → getD (take n b) i 0 < 256
-    go (inl l) = rw (getD-take n b i 0 l) (y i)
-    go (inr l) = rw (List·getD-eq-default (take n b) 0 {n = i} (omega (arith, length-take n b))) (omega arith)
+take-bytes n b y = below-take 256 n b (omega arith) y
 
 drop-bytes : (n : ℕ) (b : List ℕ) → Bytes b → Bytes (drop n b)
 drop-bytes n b y i = rw (getD-drop n b i 0) (y _)

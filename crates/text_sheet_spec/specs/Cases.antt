@@ -11,7 +11,7 @@ use Rattle.walks.specs.Graph.{walk}
 use Rattle.walks.specs.Reach.{nearer, leads}
 use Rattle.sheet_spec.specs.declared.Row.{Row}
 use Rattle.sheet_spec.specs.Kept.{successor, acceptance, acceptances, initials, mayStop, step}
-use Rattle.sheet_spec.specs.Rules.{rangesOk, countOk, successorOk, rowSuccessorsOk, successorsOk, ascends, noneInside, setOk, rowSetsOk, setsOk, reachedOk, codeNew, codesOk}
+use Rattle.sheet_spec.specs.Rules.{rangesOk, countOk, successorOk, rowSuccessorsOk, successorsOk, ascends, noneInside, setOk, rowSetsOk, setsOk, reachedOk, codeNew, codesOk, codesFirst}
 use Rattle.sheet_spec.specs.Reading.{answer, readSheet}
 use Rattle.sheet_spec.specs.Examples.{codedReference, codedDevice}
 use Rattle.sheet_spec.specs.Spelling.{lengthField, nextAt, startOf, succOf, setsOf, rowAt, rowOf, sheetOf, codeOf, nodesAt}
@@ -21,7 +21,7 @@ use Rattle.text_spec.specs.Sets.{eventsIn, members, setWords}
 use Rattle.text_spec.specs.Input.{cutInput}
 use Rattle.text_spec.specs.Joined.{joined}
 use Rattle.text_sheet_spec.specs.Head.{ruleWords, refusalWords, refusedSheetLine, headLine}
-use Rattle.text_sheet_spec.specs.Show.{codeLine, firstOk, codesLines, eventLine, successorLine, acceptsLine, acceptanceLine, restLines, rowLines, nodeLines, bodyLines, showLines, showText}
+use Rattle.text_sheet_spec.specs.Show.{codeLine, codesLines, eventLine, successorLine, acceptsLine, acceptanceLine, restLines, rowLines, nodeLines, bodyLines, showLines, showText}
 use Rattle.text_sheet_spec.specs.Node.{placeWords, setList, probesLine, mayStopLine, deniedLine, optional, optionalLine, optionalText}
 
 -- three nodes with two events; node 2 may stop
@@ -79,7 +79,7 @@ texts =
 
 -- one equation has the texts of all inputs
 pub texts-hold : map showText inputs ≡ texts
-unfolding inputs texts threeNodes codedReference codedDevice showText cutInput showLines bodyLines codesLines firstOk codeLine nodeLines rowLines restLines acceptanceLine acceptsLine successorLine eventLine headLine refusedSheetLine refusalWords ruleWords joined numberLine sheetLine setWords members eventsIn select gather eventList decimal decimalIn readSheet answer bytesFault headFault lengthField layoutFault nextAt startOf succOf setsOf rowAt rowOf sheetOf graphFault rangesOk countOk successorOk rowSuccessorsOk successorsOk ascends noneInside setOk rowSetsOk setsOk reachedOk successor acceptance acceptances initials mayStop step bit setOf has inside nearer leads walk all any upTo codesFault nodesAt codeOf codesOk codeNew
+unfolding inputs texts threeNodes codedReference codedDevice showText cutInput showLines bodyLines codesLines codesFirst codeLine nodeLines rowLines restLines acceptanceLine acceptsLine successorLine eventLine headLine refusedSheetLine refusalWords ruleWords joined numberLine sheetLine setWords members eventsIn select gather eventList decimal decimalIn readSheet answer bytesFault headFault lengthField layoutFault nextAt startOf succOf setsOf rowAt rowOf sheetOf graphFault rangesOk countOk successorOk rowSuccessorsOk successorsOk ascends noneInside setOk rowSetsOk setsOk reachedOk successor acceptance acceptances initials mayStop step bit setOf has inside nearer leads walk all any upTo codesFault nodesAt codeOf codesOk codeNew
 texts-hold = refl
 
 -- the lines of `probe_list` for a list of probes, a node that may stop, and a refusal

@@ -18,9 +18,11 @@ use Rattle.sheet_spec.specs.declared.Sheet.{Sheet}
 use Rattle.sheet_spec.specs.Kept.{codeAt, row, successor, acceptance, acceptances, mayStop}
 use Rattle.sheet_spec.specs.Form.{Bytes, SheetForm}
 use Rattle.sheet_spec.specs.Refusals.{sheetFault}
+use Rattle.sheet_spec.specs.Rules.{codesFirst}
 use Rattle.sheet_spec.specs.Reading.{readSheet}
 use Rattle.sheet_spec.specs.AnswerLaws.{read-refusal, read-kept}
 use Rattle.sheet_spec.specs.ReadLaws.{read-numbers}
+use Rattle.sheet_spec.specs.Octets.{below-take}
 use Rattle.sheet_spec.specs.EncodingLaws.{reads, sheetOf-form}
 use Rattle.sheet_spec.specs.CheckLaws.{check-below}
 use Rattle.sheet_spec.specs.Sound.{Sound}
@@ -36,7 +38,7 @@ use Rattle.text_spec.specs.LengthLaws.{number-length, sheet-length, events-leng
 use Rattle.text_spec.specs.Joined.{joined}
 use Rattle.text_spec.specs.JoinedLaws.{joined-length}
 use Rattle.text_sheet_spec.specs.Head.{ruleWords, refusalWords, refusedSheetLine, headLine}
-use Rattle.text_sheet_spec.specs.Show.{codeLine, firstOk, codesLines, eventLine, successorLine, acceptsLine, acceptanceLine, restLines, rowLines, nodeLines, bodyLines, showLines, showText}
+use Rattle.text_sheet_spec.specs.Show.{codeLine, codesLines, eventLine, successorLine, acceptsLine, acceptanceLine, restLines, rowLines, nodeLines, bodyLines, showLines, showText}
 use Rattle.text_sheet_spec.specs.NodeLaws.{line-stop, line-probes, line-sheet, line-9}
 use Rattle.text_sheet_spec.specs.Node.{probeSpace, placeWords, setList, probesLine, mayStopLine, deniedLine, nodeLine, optional, optionalLine, optionalText, nodeText}
 
@@ -161,11 +163,7 @@ read-form b y h = rw (reads b (rw (read-refusal b) at h)) (sheetOf-form b y)
 -- what counts of bytes is bytes
 cut-bytes : (input : List ℕ) → Bytes input → Bytes (cutInput input)
 unfolding cutInput
-cut-bytes input y i = go (lt-or-ge i 4096)
-  where
-    go : (i < 4096) ⊎ (4096 ≤ i) → getD (take 4096 input) i 0 < 256
-    go (inl l) = rw (getD-take 4096 input i 0 l) (y i)
-    go (inr l) = rw (List·getD-eq-default (take 4096 input) 0 {n = i} (omega (arith, length-take 4096 input))) (omega arith)
+cut-bytes input y = below-take 256 4096 input (omega arith) y
 
 code-length : (codes : List ℕ) (i : ℕ) → i < 100 → codeAt codes i < 100000 → length (codeLine codes i) ≤ 14
 unfolding codeLine
@@ -185,7 +183,7 @@ codes-length : (e : ℕ) (codes : List ℕ) → e ≤ 12 → ((i : ℕ) → code
 unfolding codesLines
 codes-length e codes h f =
     let m : e * 14 ≤ 12 * 14 = mul-le-mul h (le-self 14) in
-    pick-length (firstOk e codes) [] (joined (codeLine codes) e) 168 (omega arith)
+    pick-length (codesFirst e codes) [] (joined (codeLine codes) e) 168 (omega arith)
     (omega (arith, joined-length (codeLine codes) 14 e (λ i l. code-length codes i (omega arith) (omega (arith, f i)))))
 
 nodes-length : (s : Sheet) → sheetFault s ≡ 0 → length (joined (nodeLines s) (s .n)) ≤ 39808

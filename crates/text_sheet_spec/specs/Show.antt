@@ -1,14 +1,14 @@
 -- The text that `show` prints, as a function of its input: the first line, the lines of the catalogue codes where they
 -- are not those of version 1 (02, K1), and the lines of each node in order.
-use mathlib.Core.Bool.{Bool, cond}
+use mathlib.Core.Bool.{cond}
 use mathlib.Core.List.{List, [], _++_}
-use Prim.Native.Nat.{ℕ, _+_}
+use Prim.Native.Nat.{ℕ}
 use lib.Dec.{eqb}
-use Rattle.base.specs.Range.{all}
 use Rattle.sheet_spec.specs.declared.Row.{Row}
 use Rattle.sheet_spec.specs.declared.Sheet.{Sheet}
 use Rattle.sheet_spec.specs.declared.ReadSheet.{ReadSheet}
 use Rattle.sheet_spec.specs.Kept.{codeAt, row, successor, acceptance, mayStop}
+use Rattle.sheet_spec.specs.Rules.{codesFirst}
 use Rattle.sheet_spec.specs.Reading.{readSheet}
 use Rattle.text_spec.specs.Lines.{ascii, numberLine, numbersText}
 use Rattle.text_spec.specs.Sets.{setWords}
@@ -20,13 +20,9 @@ use Rattle.text_sheet_spec.specs.Head.{headLine}
 unfoldable pub codeLine : List ℕ → ℕ → List ℕ
 codeLine codes i = numbersText (ascii "code ") i (ascii " ") (codeAt codes i) (ascii "\n")
 
--- the codes of the first e events are those of version 1: i + 1 for event i
-unfoldable pub firstOk : ℕ → List ℕ → Bool
-firstOk e codes = all (λ i. eqb (codeAt codes i) (i + 1)) e
-
 -- the lines of the codes of the first e events in order, none where they are those of version 1
 unfoldable pub codesLines : ℕ → List ℕ → List ℕ
-codesLines e codes = cond (firstOk e codes) [] (joined (codeLine codes) e)
+codesLines e codes = cond (codesFirst e codes) [] (joined (codeLine codes) e)
 
 -- the line of an event that leads to node w: `event i to w`
 unfoldable pub eventLine : ℕ → ℕ → List ℕ

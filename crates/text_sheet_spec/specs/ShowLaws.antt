@@ -6,15 +6,17 @@ use mathlib.Core.Bool.{true, false}
 use mathlib.Core.List.{List, [], _++_, append-nil}
 use Prim.Native.Nat.{ℕ, zero, suc, _+_, _≤_, _<_}
 use native.Mathlib.Omega.{arith}
-use lib.Dec.{eqb}
 use lib.ListN.{length, length-append}
-use borrow.Author.Tests.{eqb-true, eq-eqb, ne-eqb}
-use Rattle.base.specs.Truth.{dec}
-use Rattle.base.specs.Range.{all→, all←, all-stop}
+use borrow.Author.Tests.{eq-eqb, ne-eqb}
+use Rattle.base.specs.Truth.{dec, not-i}
+use Rattle.base.specs.Finds.{finds-none}
 use Rattle.sheet_spec.specs.declared.Row.{Row}
 use Rattle.sheet_spec.specs.declared.Sheet.{Sheet}
 use Rattle.sheet_spec.specs.declared.ReadSheet.{ReadSheet}
 use Rattle.sheet_spec.specs.Kept.{code, successor, mayStop}
+use Rattle.sheet_spec.specs.Rules.{codesFirst}
+use Rattle.sheet_spec.specs.RuleLaws.{first-finds}
+use Rattle.sheet_spec.specs.Chains.{settled}
 use Rattle.sheet_spec.specs.Spelling.{version}
 use Rattle.sheet_spec.specs.Reading.{readSheet}
 use Rattle.sheet_spec.specs.Encoding.{FirstCodes}
@@ -25,7 +27,7 @@ use Rattle.text_spec.specs.Lines.{ascii, numbersText, sheetLine}
 use Rattle.text_spec.specs.InputLaws.{cut-more}
 use Rattle.text_spec.specs.Joined.{joined}
 use Rattle.text_sheet_spec.specs.Head.{refusedSheetLine, headLine}
-use Rattle.text_sheet_spec.specs.Show.{codeLine, firstOk, codesLines, eventLine, successorLine, acceptanceLine, restLines, nodeLines, bodyLines, showLines, showText}
+use Rattle.text_sheet_spec.specs.Show.{codeLine, codesLines, eventLine, successorLine, acceptanceLine, restLines, nodeLines, bodyLines, showLines, showText}
 
 -- the first line of an accepted sheet, and of a refused one
 pub head-accepted : (a : ReadSheet) → a .refusal ≡ 0 → headLine a ≡ sheetLine (ascii "sheet ") (a .sheet .n) (a .sheet .e)
@@ -48,12 +50,12 @@ unfolding showLines
 show-refused a h = rw (ne-eqb (a .refusal) 0 h) (append-nil (headLine a))
 
 -- codes of version 1 have no line
-pub codes-first : (e : ℕ) (codes : List ℕ) → firstOk e codes ≡ true → codesLines e codes ≡ []
+pub codes-first : (e : ℕ) (codes : List ℕ) → codesFirst e codes ≡ true → codesLines e codes ≡ []
 unfolding codesLines
 codes-first e codes t = rw t
 
 -- other codes have a line for each event, in order
-pub codes-other : (e : ℕ) (codes : List ℕ) → firstOk e codes ≡ false → codesLines e codes ≡ joined (codeLine codes) e
+pub codes-other : (e : ℕ) (codes : List ℕ) → codesFirst e codes ≡ false → codesLines e codes ≡ joined (codeLine codes) e
 unfolding codesLines
 codes-other e codes t = rw t
 
@@ -70,24 +72,23 @@ line-some codes i = omega arith
 module _ (s : Sheet) where
   -- no code is printed exactly if every event i has the code i + 1
   pub codes-none : (codesLines (s .e) (s .codes) ≡ []) ↔ FirstCodes s
-  unfolding firstOk
   codes-none = (to, from)
     where
       to : codesLines (s .e) (s .codes) ≡ [] → FirstCodes s
-      to p i l = go (dec (firstOk (s .e) (s .codes)))
+      to p i l = go (dec (codesFirst (s .e) (s .codes)))
         where
-          go : (firstOk (s .e) (s .codes) ≡ true) ⊎ (firstOk (s .e) (s .codes) ≡ false) → code s i ≡ i + 1
-          go (inl t) = eqb-true (code s i) (i + 1) (all→ (λ i. eqb (code s i) (i + 1)) (s .e) i t l)
+          go : (codesFirst (s .e) (s .codes) ≡ true) ⊎ (codesFirst (s .e) (s .codes) ≡ false) → code s i ≡ i + 1
+          go (inl t) = settled (code s i) (i + 1) (λ n. first-finds (s .e) (s .codes) .clear t (i, l, n))
           go (inr t) = absurd (joined-some (codeLine (s .codes)) (s .e) i l (line-some (s .codes)) (sym (codes-other (s .e) (s .codes) t) ∙ p))
 
       from : FirstCodes s → codesLines (s .e) (s .codes) ≡ []
-      from f = codes-first (s .e) (s .codes) (all← (λ i. eqb (code s i) (i + 1)) (s .e) (λ i l. eq-eqb (code s i) (i + 1) (f i l)))
+      from f = codes-first (s .e) (s .codes) (finds-none (first-finds (s .e) (s .codes)) (λ w. w .2 (f (w .0) (w .1))))
 
   -- where some event i has another code than i + 1, every event has a line with its number and its code, in order
   pub codes-each : (i : ℕ) → i < s .e → code s i ≢ i + 1
       → codesLines (s .e) (s .codes) ≡ joined (λ j. numbersText (ascii "code ") j (ascii " ") (code s j) (ascii "\n")) (s .e)
-  unfolding firstOk codeLine
-  codes-each i l n = codes-other (s .e) (s .codes) (all-stop (λ i. eqb (code s i) (i + 1)) (s .e) i l (ne-eqb (code s i) (i + 1) n))
+  unfolding codeLine
+  codes-each i l n = codes-other (s .e) (s .codes) (not-i (λ t. first-finds (s .e) (s .codes) .clear t (i, l, n)))
 
 -- of a version 1 sheet no code is printed
 pub version-1-shown : (b : List ℕ) → readSheet b .refusal ≡ 0 → version b ≡ 1

@@ -2,10 +2,10 @@
 use Prim.Native.Nat.{_-_}
 use native.Mathlib.Omega.{arith}
 use Rattle.base.specs.Loops.{Passing, starts, ends}
-use Rattle.text_sheet_spec.specs.Show.{firstOk}
-use Rattle.show_lines.proofs.Rounds.{isFirst, another, its-own}
-use Rattle.show_lines.proofs.is_first.Statement.{statement}
-use Rattle.show_lines.proofs.is_first.Tie as tie
+use Rattle.sheet_spec.specs.Rules.{codesFirst}
+use Rattle.sheet_codes.proofs.Steps.{isFirst, another, its-own}
+use Rattle.sheet_codes.proofs.is_first.Statement.{statement}
+use Rattle.sheet_codes.proofs.is_first.Tie as tie
 
 abbrev Inv-loop : tie.InvT-loop
 Inv-loop codes e events i₀ i = Passing (isFirst codes) e i
@@ -41,7 +41,7 @@ loop-again : tie.Need-loop-again Inv-loop μ-loop
 loop-again c = search its-own
 
 returns-2 : tie.Need-returns-2 Inv-loop μ-loop
-unfolding firstOk
+unfolding codesFirst
 returns-2 c = search ends
 
 pub is-first-spec : {M : Type 1} → statement M
