@@ -49,10 +49,11 @@ inputs =
     ∷ (0 ∷ 0 ∷ 15 ∷ 253 ∷ replicate 4093 0)
     ∷ []
 
--- what `compare` prints for each of the inputs: a stray after the empty trace; refines; unequal E; two sheets of version
--- 2 with other codes; a sheet in version 1 and in version 2, which agree; no byte of a second sheet; a byte after the
--- second sheet; no byte; under 4 bytes; a first sheet of 4 bytes, which is too short; a length field that exceeds the
--- input; a first sheet that ends with the last of 4,096 bytes (its version is 0), and one that ends behind them
+-- what `compare` prints for each of the inputs: a stray after the empty trace; refines; unequal E; two sheets of
+-- version 2 with other codes; a sheet in version 1 and in version 2, which agree; no byte of a second sheet; a byte
+-- after the second sheet; no byte; under 4 bytes; a first sheet of 4 bytes, which is too short; a length field that
+-- exceeds the input; a first sheet that ends with the last of 4,096 bytes (its version is 0), and one that ends behind
+-- them
 unfoldable pub texts : List (List ℕ)
 texts =
     ascii "reference 1 nodes 2 events\ndevice 1 nodes 2 events\nviolates after 0 cleared 0\ntrace\nstray 1\n"

@@ -27,7 +27,8 @@ use Rattle.suite_lines_spec.specs.Lines.{testLine, testLines, passedOf, 
 use Rattle.suite_lines_spec.specs.Program.{verdictList, judgedLines, suiteText}
 
 -- inputs: 01's example; its reference against itself; unequal E; two sheets of version 2 with other codes; 01's example
--- with the device in version 2, which agrees; no byte of a device; no byte at all; a length field that exceeds the input
+-- with the device in version 2, which agrees; no byte of a device; no byte at all; a length field that exceeds the
+-- input
 unfoldable pub inputs : List (List ℕ)
 inputs =
     (exampleReference ++ exampleDevice)

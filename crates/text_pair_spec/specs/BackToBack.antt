@@ -1,5 +1,6 @@
 -- Nothing to believe: words for laws alone. What an input is, in words of bytes and sheets: accepted sheets, one after
--- another, each in a version in which it can be written. It knows nothing of the split nor of reading; the laws say what these inputs give. No contract uses it.
+-- another, each in a version in which it can be written. It knows nothing of the split nor of reading; the laws say
+-- what these inputs give. No contract uses it.
 use mathlib.Core.Path.{_≡_}
 use mathlib.Core.List.{List, _++_}
 use Prim.Native.Nat.{ℕ}
