@@ -30,7 +30,7 @@ use verdicts_spec::Verdict;
 
 // ---- sheets
 
-// The sheet that the bytes spell; or the number of the refusal, 1 to 8, and 0 in every other place.
+// The sheet that the bytes spell; or the number of the refusal, 1 to 8 or 18, and 0 in every other place.
 #[no_mangle]
 pub extern "C" fn bench_read(bytes: &[u8]) -> ReadSheet
     ensures { λ r. ⌜ r ≡ readSheet (now (bytes .entry)) ⌝ }
@@ -38,7 +38,7 @@ pub extern "C" fn bench_read(bytes: &[u8]) -> ReadSheet
     sheet::read(bytes)
 }
 
-// The refusal of a kept sheet with any content: 3 or 5 to 8, 0 for none.
+// The refusal of a kept sheet with any content: 3, 18 or 5 to 8, 0 for none.
 #[no_mangle]
 pub extern "C" fn bench_check(s: Sheet) -> u8
     ensures { λ r. ⌜ r ≡ sheetFault s ⌝ }
