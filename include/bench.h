@@ -13,9 +13,9 @@
  * of its answer is 0; only bench_step gives the record back as it came.
  *
  * The stack that a call needs, measured on worst cases and rounded up, in bytes, with the copies of the sheets that are
- * handed over: bench_check 7,000; bench_read 9,000; bench_open 12,000; bench_step and bench_report 14,000; bench_list
- * 17,000; bench_judge, bench_judge_all and bench_compare 20,000. The compiled library has no recursion, so no call
- * needs more for larger sheets or longer traces.
+ * handed over: bench_check and bench_read 9,000; bench_open 14,000; bench_step and bench_report 16,000; bench_list
+ * 19,000; bench_judge and bench_judge_all 22,000; bench_compare 25,000. The compiled library has no recursion, so no
+ * call needs more for larger sheets or longer traces.
  */
 #ifndef BENCH_H
 #define BENCH_H

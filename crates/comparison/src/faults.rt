@@ -16,7 +16,9 @@ pub(crate) fn fault_on(reference: Sheet, device: Sheet, words: usize, places: us
     if other != 0 {
         return other;
     }
-    let shared = sheet_codes::shared_fault(reference.e, &reference.codes, device.e, &device.codes);
+    let mine = reference.codes;
+    let theirs = device.codes;
+    let shared = sheet_codes::shared_fault(reference.e, &mine, device.e, &theirs);
     if shared != 0 {
         return shared;
     }

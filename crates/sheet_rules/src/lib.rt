@@ -123,7 +123,8 @@ pub fn sheet_fault(s: Sheet) -> u8
     if !ranges_ok(s.e, s.n) {
         return 3;
     }
-    if !sheet_codes::is_distinct(&s.codes, s.e) {
+    let codes = s.codes;
+    if !sheet_codes::is_distinct(&codes, s.e) {
         return 18;
     }
     if !counts_ok(s) {
@@ -138,7 +139,7 @@ pub fn sheet_fault(s: Sheet) -> u8
     if !blanks_ok(s) {
         return 7;
     }
-    if !sheet_codes::is_blank_from(&s.codes, s.e) {
+    if !sheet_codes::is_blank_from(&codes, s.e) {
         return 7;
     }
     if !reached::reached_ok(s) {

@@ -22,7 +22,9 @@ pub fn judge(reference: Sheet, device: Sheet, k: u16, trace_only: bool) -> Verdi
     if other != 0 {
         return Verdict::Denied(other);
     }
-    let shared = sheet_codes::shared_fault(reference.e, &reference.codes, device.e, &device.codes);
+    let own = reference.codes;
+    let others = device.codes;
+    let shared = sheet_codes::shared_fault(reference.e, &own, device.e, &others);
     if shared != 0 {
         return Verdict::Denied(shared);
     }
@@ -56,7 +58,9 @@ pub fn judge_all(reference: Sheet, device: Sheet, trace_only: bool, out: &mut [u
     if second != 0 {
         return Suite::Denied(second);
     }
-    let shared = sheet_codes::shared_fault(reference.e, &reference.codes, device.e, &device.codes);
+    let own = reference.codes;
+    let others = device.codes;
+    let shared = sheet_codes::shared_fault(reference.e, &own, device.e, &others);
     if shared != 0 {
         return Suite::Denied(shared);
     }
