@@ -22,8 +22,8 @@ use Rattle.walks.specs.Pairs.{pairDistance, pairTrace, pairCleared, pairDistanc
 use Rattle.sheet_spec.specs.declared.Row.{Row}
 use Rattle.sheet_spec.specs.declared.Sheet.{Sheet}
 use Rattle.sheet_spec.specs.Kept.{graph, acceptance, acceptances, initials}
-use Rattle.sheet_spec.specs.Refusals.{sheetFault, Agree}
-use Rattle.sheet_spec.specs.PairFaults.{PairWays, pair-ways}
+use Rattle.sheet_spec.specs.Refusals.{sheetFault, Agree, PairWays}
+use Rattle.sheet_spec.specs.PairFaults.{pair-ways}
 use Rattle.sheet_spec.specs.SoundLaws.{nodes-most, check-sound}
 use Rattle.probes_spec.specs.declared.Missed.{Missed}
 use Rattle.probes_spec.specs.declared.Missed.the-variants.{Nothing, Found}

@@ -13,8 +13,8 @@ use lib.ListN.{take, length-replicate}
 use Rattle.sheet_spec.specs.declared.Sheet.{Sheet}
 use Rattle.sheet_spec.specs.declared.ReadSheet.{ReadSheet}
 use Rattle.sheet_spec.specs.Form.{Bytes}
-use Rattle.sheet_spec.specs.Refusals.{sheetFault, Agree, CodesDiffer}
-use Rattle.sheet_spec.specs.PairFaults.{PairWays, pair-ways}
+use Rattle.sheet_spec.specs.Refusals.{sheetFault, Agree, CodesDiffer, PairWays}
+use Rattle.sheet_spec.specs.PairFaults.{pair-ways}
 use Rattle.sheet_spec.specs.Reading.{readSheet}
 use Rattle.sheet_spec.specs.SoundLaws.{check-sound}
 use Rattle.refinement_spec.specs.Refinement.{ViolationIn, RefinesIn}

@@ -17,7 +17,7 @@ use Rattle.base.specs.Refusal.{unless, orElse, unless→, unless←, unless-hit
 use Rattle.sheet_spec.specs.declared.Sheet.{Sheet}
 use Rattle.sheet_spec.specs.Kept.{codeAt, code}
 use Rattle.sheet_spec.specs.Rules.{codesAgree}
-use Rattle.sheet_spec.specs.Refusals.{sheetFault, sharedFault, pairFault, Own, NotOwn, BothAccepted, Agree, CodesDiffer}
+use Rattle.sheet_spec.specs.Refusals.{sheetFault, sharedFault, pairFault, Own, NotOwn, BothAccepted, Agree, CodesDiffer, PairWays}
 use Rattle.sheet_spec.specs.RuleLaws.{agree-finds}
 use Rattle.sheet_spec.specs.CheckLaws.{check-other, own-other}
 use Rattle.sheet_spec.specs.Chains.{further, finally, settled}
@@ -64,10 +64,6 @@ module _ (e : ℕ) (codes : List ℕ) (e′ : ℕ) (codes′ : List ℕ) where
   pub shared-other : {m : ℕ} → 11 ≢ m → 19 ≢ m → m ≢ 0 → sharedFault e codes e′ codes′ ≢ m
   unfolding sharedFault
   shared-other p q z = unless-other (eqb e e′) p (unless-other (codesAgree e codes codes′) q (λ x. omega (arith, z)))
-
--- two sheets agree, or their E differ, or they have one E and some event has another code
-abbrev pub PairWays : Sheet → Sheet → Type 0
-PairWays P Q = Agree P Q ⊎ ((P .e ≢ Q .e) ⊎ ((P .e ≡ Q .e) × CodesDiffer P Q))
 
 pub pair-ways : (P Q : Sheet) → PairWays P Q
 pair-ways P Q = go (ℕ-discrete (P .e) (Q .e)) (dec (codesAgree (P .e) (P .codes) (Q .codes)))

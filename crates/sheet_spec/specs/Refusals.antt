@@ -77,6 +77,10 @@ Agree P Q = (P .e ≡ Q .e) × ((i : ℕ) → i < P .e → code P i ≡ code Q i
 abbrev pub CodesDiffer : Sheet → Sheet → Type 0
 CodesDiffer P Q = (i : ℕ) × (i < P .e) × (code P i ≢ code Q i)
 
+-- two sheets agree, or their E differ, or they have one E and some event has another code
+abbrev pub PairWays : Sheet → Sheet → Type 0
+PairWays P Q = Agree P Q ⊎ ((P .e ≢ Q .e) ⊎ ((P .e ≡ Q .e) × CodesDiffer P Q))
+
 -- a number of a sheet's own: one that its refusal can have
 abbrev pub Own : ℕ → Type 0
 Own m = (0 < m) × ((m ≤ 8) ⊎ (m ≡ 18))

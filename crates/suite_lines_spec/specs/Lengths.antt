@@ -8,8 +8,8 @@ use native.Mathlib.Omega.{arith}
 use lib.Dec.{eqb}
 use lib.ListN.{length, getD, length-append}
 use Rattle.sheet_spec.specs.declared.Sheet.{Sheet}
-use Rattle.sheet_spec.specs.Refusals.{sheetFault}
-use Rattle.sheet_spec.specs.PairFaults.{PairWays, pair-ways}
+use Rattle.sheet_spec.specs.Refusals.{sheetFault, PairWays}
+use Rattle.sheet_spec.specs.PairFaults.{pair-ways}
 use Rattle.text_spec.specs.Lines.{ascii, decimal, numberLine}
 use Rattle.text_spec.specs.DecimalLaws.{decimal-few}
 use Rattle.text_spec.specs.LengthLaws.{number-length}
