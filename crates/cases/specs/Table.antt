@@ -1,12 +1,13 @@
 -- Nothing to believe: 01's cases (P) as one table, to be read beside 01 and in its order: each row is a call or a whole
 -- run, beside it stand the numbers that it answers, and one equation has them all. Comments that begin with 01 have the
--- words of its case. The rows `adding` are for 02, K5, the rows `lending` for K7. Sheets come as bytes, through the
--- definition of reading. The rows compute through the definitions that the contracts cite, the probe lists among them.
+-- words of its case. The rows `adding` are for 02, K5, the rows `lending` for K7, and the last for K1. Sheets come as
+-- bytes, through the definition of reading. The rows compute through the definitions that the contracts cite, the probe
+-- lists among them.
 use mathlib.Core.Path.{_≡_, refl}
 use mathlib.Core.Bool.{Bool, true, false}
 use mathlib.Core.List.{List, [], _∷_, _++_, map}
 use Prim.Native.Nat.{ℕ, _+_, _-_, _*_}
-use lib.ListN.{length, replicate}
+use lib.ListN.{length, replicate, drop}
 use Rattle.base.specs.Range.{all, any, first}
 use Rattle.base.specs.Count.{count}
 use Rattle.base.specs.Table.{upTo}
@@ -22,7 +23,7 @@ use Rattle.walks.specs.Pairs.{onCodes, pairDistance, pairTrace, pairCleared}
 use Rattle.sheet_spec.specs.declared.Row.{Row}
 use Rattle.sheet_spec.specs.declared.Sheet.{Sheet}
 use Rattle.sheet_spec.specs.declared.ReadSheet.{ReadSheet}
-use Rattle.sheet_spec.specs.Kept.{successor, acceptance, acceptances, initials, mayStop, step}
+use Rattle.sheet_spec.specs.Kept.{recoded, successor, acceptance, acceptances, initials, mayStop, step}
 use Rattle.sheet_spec.specs.Rules.{rangesOk, countOk, countsOk, successorsOk, rowSuccessorsOk, successorOk, setsOk, rowSetsOk, setOk, ascends, noneInside, blank, unusedOk, blanksOk, reachedOk, codeNew, codesAgree, codesBlank, codesOk}
 use Rattle.sheet_spec.specs.Refusals.{headFault, layoutFault, graphFault, bytesFault, sheetFault, codesFault, sharedFault}
 use Rattle.sheet_spec.specs.Reading.{readSheet, answer}
@@ -38,11 +39,12 @@ use Rattle.tests_spec.specs.declared.Stepped.{Stepped}
 use Rattle.tests_spec.specs.Flags.{flag, flagOf}
 use Rattle.tests_spec.specs.Runs.{allEvents, outside, probesAt, chosen, offerOf, newRun, openFault, openOf, recordOk, eventFault, reportFault, movedBy, endedRun, answerOf, stepOf}
 use Rattle.verdicts_spec.specs.Verdicts.{failsFrom, verdictFault, verdictOf}
+use Rattle.verdicts_spec.specs.Suites.{testCount, suiteFault}
 use Rattle.tests_spec.specs.Numbers.{Said, said}
 use Rattle.verdicts_spec.specs.Numbers.{Judgement, judged}
 use Rattle.comparison_spec.specs.Comparison.{pairCount, nearest, nearestTrace, clearedOf, lastRow, refusalNamed, named, comparisonOf, compareFault, outcomeOf, traceAfter, workAfter}
 use Rattle.comparison_spec.specs.Numbers.{Compared, compared}
-use Rattle.sheet_spec.specs.Examples.{exampleReference, exampleDevice, onlyZero, onlyOne, mayLoop, mustLoop, stopped, sheet}
+use Rattle.sheet_spec.specs.Examples.{exampleReference, exampleDevice, codedReference, codedDevice, onlyZero, onlyOne, mayLoop, mustLoop, stopped, sheet}
 
 -- a row of the table
 pub data Case : Type 0 where
@@ -62,6 +64,11 @@ pub data Case : Type 0 where
   -- the refusal of a comparison with a work list of so many words, which hold 7, and a trace list of so many places;
   -- and what the work list then holds (02, K7)
   lending : List ℕ → List ℕ → ℕ → ℕ → Case
+  -- the refusal of a kept sheet: the one of these bytes, with these codes and 0 in the other places (02, K1)
+  checking : List ℕ → List ℕ → Case
+  -- the refusals of two such sheets, the reference first, by each call that takes two: the comparison with empty lists,
+  -- the verdict for k 1,024, all verdicts in an empty list (02, K1)
+  pairing : List ℕ → List ℕ → List ℕ → List ℕ → Case
 
 -- sets below 256 as bytes, two for each
 unfoldable pub setBytes : List ℕ → List ℕ
@@ -72,14 +79,18 @@ setBytes (x ∷ xs) = 0 ∷ x ∷ setBytes xs
 unfoldable pub accepting : List ℕ → List ℕ
 accepting sets = 0 ∷ 0 ∷ 0 ∷ (7 + 2 * length sets) ∷ 1 ∷ 3 ∷ 1 ∷ 0 ∷ 0 ∷ 0 ∷ length sets ∷ setBytes sets
 
+-- the bytes of the device of 01's example in version 2, with the codes in these bytes
+unfoldable pub deviceWith : List ℕ → List ℕ
+deviceWith bytes = 0 ∷ 0 ∷ 0 ∷ 22 ∷ 2 ∷ 2 ∷ 3 ∷ (bytes ++ drop 7 exampleDevice)
+
 -- the numbers of rows, one row after the other: twelve successors, sixteen sets and C
 unfoldable pub rowNumbers : List Row → List ℕ
 rowNumbers [] = []
 rowNumbers (r ∷ rs) = r .succ ++ (r .sets ++ (r .c ∷ rowNumbers rs))
 
--- the numbers of a reading: the refusal, E, N, and all 32 rows
+-- the numbers of a reading: the refusal, E, N, the twelve codes, and all 32 rows
 unfoldable pub readNumbers : ReadSheet → List ℕ
-readNumbers a = a .refusal ∷ a .sheet .e ∷ a .sheet .n ∷ rowNumbers (a .sheet .rows)
+readNumbers a = a .refusal ∷ a .sheet .e ∷ a .sheet .n ∷ (a .sheet .codes ++ rowNumbers (a .sheet .rows))
 
 -- the numbers of a probe call: the refusal, how many probes there are, and what the lent list then holds
 unfoldable pub listNumbers : Sheet → ℕ → List ℕ → List ℕ
@@ -114,6 +125,18 @@ work = replicate 28 7
 unfoldable pub trace : List ℕ
 trace = replicate 8 9
 
+-- numbers, and a filler behind them up to a length
+unfoldable pub filled : ℕ → ℕ → List ℕ → List ℕ
+filled size filler l = l ++ replicate (size - length l) filler
+
+-- a kept sheet: the one of these bytes, with these codes and 0 in the other places
+unfoldable pub keptWith : List ℕ → List ℕ → Sheet
+keptWith b codes = recoded (sheet b) (filled 12 0 codes)
+
+-- the refusals of two kept sheets by each call that takes two, which lack their lists, and k is 1,024
+unfoldable pub pairNumbers : Sheet → Sheet → List ℕ
+pairNumbers P Q = compareFault P Q [] [] ∷ verdictFault P Q 1024 ∷ suiteFault P Q [] ∷ []
+
 -- what a row answers
 unfoldable pub numbersOf : Case → List ℕ
 numbersOf (reading b) = readNumbers (readSheet b)
@@ -124,10 +147,8 @@ numbersOf (running P k h traceOnly reports) = answersOf (sheet P) (openOf traceO
 numbersOf (comparing P Q traceOnly) = comparedNumbers (compared (outcomeOf traceOnly (sheet P) (sheet Q) work trace)) ++ (traceAfter traceOnly (sheet P) (sheet Q) work trace ++ workAfter (sheet P) (sheet Q) work trace)
 numbersOf (lending P Q words places) =
     compareFault (sheet P) (sheet Q) (replicate words 7) (replicate places 9) ∷ workAfter (sheet P) (sheet Q) (replicate words 7) (replicate places 9)
-
--- numbers, and a filler behind them up to a length
-unfoldable pub filled : ℕ → ℕ → List ℕ → List ℕ
-filled size filler l = l ++ replicate (size - length l) filler
+numbersOf (checking b codes) = sheetFault (keptWith b codes) ∷ []
+numbersOf (pairing P codes Q others) = pairNumbers (keptWith P codes) (keptWith Q others)
 
 -- the numbers of a kept node with these successors and these sets: unused successors are 255, unused sets 0, then C
 unfoldable pub keptNode : List ℕ → List ℕ → List ℕ
@@ -138,13 +159,15 @@ unfoldable pub joined : List (List ℕ) → List ℕ
 joined [] = []
 joined (l ∷ ls) = l ++ joined ls
 
--- what an accepted reading answers: no refusal, E, N, the nodes in use, and unused nodes up to 32
-unfoldable pub kept : ℕ → ℕ → List (List ℕ) → List ℕ
-kept e n nodes = 0 ∷ e ∷ n ∷ (joined nodes ++ joined (replicate (32 - length nodes) (keptNode [] [])))
+-- what an accepted reading answers: no refusal, E, N, the codes in use and 0 up to twelve, the nodes in use, and unused
+-- nodes up to 32
+unfoldable pub kept : ℕ → ℕ → List ℕ → List (List ℕ) → List ℕ
+kept e n codes nodes =
+    0 ∷ e ∷ n ∷ (filled 12 0 codes ++ (joined nodes ++ joined (replicate (32 - length nodes) (keptNode [] []))))
 
--- what a refused reading answers: the refusal, then 0 for E, N and the 29 numbers of each of 32 rows
+-- what a refused reading answers: the refusal, then 0 for E, N, twelve codes and the 29 numbers of each of 32 rows
 unfoldable pub unread : ℕ → List ℕ
-unread refusal = refusal ∷ replicate (2 + 32 * 29) 0
+unread refusal = refusal ∷ replicate (2 + 12 + 32 * 29) 0
 
 -- what a row of a comparison answers: its numbers, the trace list with this trace at its front, and the work list with
 -- so many words that are 0; the rest of both lists is untouched
@@ -160,24 +183,24 @@ lent refusal zeros left = refusal ∷ (replicate zeros 0 ++ replicate left 7)
 unfoldable pub table : List (Case × List ℕ)
 table =
     -- the reference of 01's example: two nodes, two events
-    (reading exampleReference, kept 2 2 (keptNode (1 ∷ 1 ∷ []) (1 ∷ 2 ∷ []) ∷ keptNode (0 ∷ 0 ∷ []) (3 ∷ []) ∷ []))
+    (reading exampleReference, kept 2 2 (1 ∷ 2 ∷ []) (keptNode (1 ∷ 1 ∷ []) (1 ∷ 2 ∷ []) ∷ keptNode (0 ∷ 0 ∷ []) (3 ∷ []) ∷ []))
     -- the device of 01's example: three nodes, two events
     ∷ (
       reading exampleDevice,
-      kept 2 3 (keptNode (1 ∷ 1 ∷ []) (3 ∷ []) ∷ keptNode (2 ∷ 2 ∷ []) (3 ∷ []) ∷ keptNode (0 ∷ 255 ∷ []) (1 ∷ []) ∷ []),
+      kept 2 3 (1 ∷ 2 ∷ []) (keptNode (1 ∷ 1 ∷ []) (3 ∷ []) ∷ keptNode (2 ∷ 2 ∷ []) (3 ∷ []) ∷ keptNode (0 ∷ 255 ∷ []) (1 ∷ []) ∷ []),
     )
     -- one node that loops on event 0 alone, of two
-    ∷ (reading onlyZero, kept 2 1 (keptNode (0 ∷ 255 ∷ []) (1 ∷ []) ∷ []))
+    ∷ (reading onlyZero, kept 2 1 (1 ∷ 2 ∷ []) (keptNode (0 ∷ 255 ∷ []) (1 ∷ []) ∷ []))
     -- one node that loops on event 1 alone, of two
-    ∷ (reading onlyOne, kept 2 1 (keptNode (255 ∷ 0 ∷ []) (2 ∷ []) ∷ []))
+    ∷ (reading onlyOne, kept 2 1 (1 ∷ 2 ∷ []) (keptNode (255 ∷ 0 ∷ []) (2 ∷ []) ∷ []))
     -- one node that loops on its one event, with acceptance 0
-    ∷ (reading mayLoop, kept 1 1 (keptNode (0 ∷ []) (0 ∷ []) ∷ []))
+    ∷ (reading mayLoop, kept 1 1 (1 ∷ []) (keptNode (0 ∷ []) (0 ∷ []) ∷ []))
     -- one node that loops on its one event, with acceptance 1
-    ∷ (reading mustLoop, kept 1 1 (keptNode (0 ∷ []) (1 ∷ []) ∷ []))
+    ∷ (reading mustLoop, kept 1 1 (1 ∷ []) (keptNode (0 ∷ []) (1 ∷ []) ∷ []))
     -- one node without successors, with acceptance 0
-    ∷ (reading stopped, kept 1 1 (keptNode (255 ∷ []) (0 ∷ []) ∷ []))
+    ∷ (reading stopped, kept 1 1 (1 ∷ []) (keptNode (255 ∷ []) (0 ∷ []) ∷ []))
     -- a sheet of the probe rows: one node that loops on three events, with acceptances 3, 5, 6
-    ∷ (reading (accepting (3 ∷ 5 ∷ 6 ∷ [])), kept 3 1 (keptNode (0 ∷ 0 ∷ 0 ∷ []) (3 ∷ 5 ∷ 6 ∷ []) ∷ []))
+    ∷ (reading (accepting (3 ∷ 5 ∷ 6 ∷ [])), kept 3 1 (1 ∷ 2 ∷ 3 ∷ []) (keptNode (0 ∷ 0 ∷ 0 ∷ []) (3 ∷ 5 ∷ 6 ∷ []) ∷ []))
     -- sets that do not ascend break a set rule, 7; any other part of a refusal is 0
     ∷ (reading (accepting (6 ∷ 3 ∷ [])), unread 7)
     -- 01: acceptances 3 give probes 1, 2 (no refusal, their number, the probes, and three places that are untouched)
@@ -329,9 +352,82 @@ table =
     ∷ (lending onlyZero onlyOne 2 0, lent 0 2 0)
     -- 02, K7: one word is too few for one pair
     ∷ (lending onlyZero onlyOne 1 0, lent 12 0 1)
+    -- 02, K1: the reference in version 2: after N, one two-byte code for each event
+    ∷ (
+      reading codedReference,
+      kept 2 2 (257 ∷ 258 ∷ []) (keptNode (1 ∷ 1 ∷ []) (1 ∷ 2 ∷ []) ∷ keptNode (0 ∷ 0 ∷ []) (3 ∷ []) ∷ []),
+    )
+    -- 02, K1: a version 2 device with other codes; a code may be 0, and the high byte comes first
+    ∷ (
+      reading (deviceWith (255 ∷ 254 ∷ 0 ∷ 0 ∷ [])),
+      kept 2 3 (65534 ∷ 0 ∷ []) (keptNode (1 ∷ 1 ∷ []) (3 ∷ []) ∷ keptNode (2 ∷ 2 ∷ []) (3 ∷ []) ∷ keptNode (0 ∷ 255 ∷ []) (1 ∷ []) ∷ []),
+    )
+    -- 02, K1: refusal 2 now means neither version: 3, and 0
+    ∷ (reading (0 ∷ 0 ∷ 0 ∷ 7 ∷ 3 ∷ 1 ∷ 1 ∷ 0 ∷ 1 ∷ 0 ∷ 1 ∷ []), unread 2)
+    ∷ (reading (0 ∷ 0 ∷ 0 ∷ 7 ∷ 0 ∷ 1 ∷ 1 ∷ 0 ∷ 1 ∷ 0 ∷ 1 ∷ []), unread 2)
+    -- 02, K1: codes cut off count as 4: the second ends after one byte, and a third where two are equal
+    ∷ (reading (0 ∷ 0 ∷ 0 ∷ 6 ∷ 2 ∷ 2 ∷ 1 ∷ 0 ∷ 1 ∷ 0 ∷ []), unread 4)
+    ∷ (reading (0 ∷ 0 ∷ 0 ∷ 8 ∷ 2 ∷ 3 ∷ 1 ∷ 0 ∷ 1 ∷ 0 ∷ 1 ∷ 0 ∷ []), unread 4)
+    -- 02, K1: a code given twice is refused with 18, after the codes are known to be complete: they are, and nothing
+    -- else is there; codes that differ leave the node that is not there, 4
+    ∷ (reading (0 ∷ 0 ∷ 0 ∷ 7 ∷ 2 ∷ 2 ∷ 1 ∷ 0 ∷ 1 ∷ 0 ∷ 1 ∷ []), unread 18)
+    ∷ (reading (0 ∷ 0 ∷ 0 ∷ 7 ∷ 2 ∷ 2 ∷ 1 ∷ 0 ∷ 1 ∷ 0 ∷ 2 ∷ []), unread 4)
+    -- 02, K1: and before the nodes are walked: the C of node 0 is 0; codes that differ leave 5
+    ∷ (reading (0 ∷ 0 ∷ 0 ∷ 10 ∷ 2 ∷ 2 ∷ 1 ∷ 0 ∷ 1 ∷ 0 ∷ 1 ∷ 0 ∷ 0 ∷ 0 ∷ []), unread 18)
+    ∷ (reading (0 ∷ 0 ∷ 0 ∷ 10 ∷ 2 ∷ 2 ∷ 1 ∷ 0 ∷ 1 ∷ 0 ∷ 2 ∷ 0 ∷ 0 ∷ 0 ∷ []), unread 5)
+    -- 02, K1: a version 1 sheet counts as having code i + 1 for event i: it agrees with a version 2 device that has
+    -- those codes, and the answer is that of 01's example
+    ∷ (
+      comparing exampleReference codedDevice false,
+      lists (0 ∷ 23 ∷ 5 ∷ 5 ∷ 0 ∷ 2 ∷ 1 ∷ []) (0 ∷ 0 ∷ 0 ∷ 0 ∷ 0 ∷ []) 12,
+    )
+    -- 02, K1: two version 2 sheets with equal codes
+    ∷ (
+      comparing codedReference (deviceWith (1 ∷ 1 ∷ 1 ∷ 2 ∷ [])) false,
+      lists (0 ∷ 23 ∷ 5 ∷ 5 ∷ 0 ∷ 2 ∷ 1 ∷ []) (0 ∷ 0 ∷ 0 ∷ 0 ∷ 0 ∷ []) 12,
+    )
+    -- 02, K1: a comparison of sheets with unequal codes is refused with 19, and both lists are untouched; by traces
+    -- alone too
+    ∷ (comparing codedReference codedDevice false, lists (19 ∷ 0 ∷ 0 ∷ 0 ∷ 0 ∷ 0 ∷ 0 ∷ []) [] 0)
+    ∷ (comparing codedReference codedDevice true, lists (19 ∷ 0 ∷ 0 ∷ 0 ∷ 0 ∷ 0 ∷ 0 ∷ []) [] 0)
+    -- 02, K1: version 2 with version 1, whose codes are others
+    ∷ (comparing codedReference exampleDevice false, lists (19 ∷ 0 ∷ 0 ∷ 0 ∷ 0 ∷ 0 ∷ 0 ∷ []) [] 0)
+    -- 02, K1: the same two codes, each of the other event; and only the last event with another code
+    ∷ (comparing codedReference (deviceWith (1 ∷ 2 ∷ 1 ∷ 1 ∷ [])) false, lists (19 ∷ 0 ∷ 0 ∷ 0 ∷ 0 ∷ 0 ∷ 0 ∷ []) [] 0)
+    ∷ (comparing codedReference (deviceWith (1 ∷ 1 ∷ 1 ∷ 3 ∷ [])) false, lists (19 ∷ 0 ∷ 0 ∷ 0 ∷ 0 ∷ 0 ∷ 0 ∷ []) [] 0)
+    -- 02, K1: 19 comes directly after 11: where E differs too it is 11
+    ∷ (comparing codedReference stopped false, lists (11 ∷ 0 ∷ 0 ∷ 0 ∷ 0 ∷ 0 ∷ 0 ∷ []) [] 0)
+    -- 02, K1: a verdict on sheets that agree in codes, and on others, for a test and a trace-only one
+    ∷ (verdict exampleReference codedDevice 5 false, 0 ∷ 12 ∷ [])
+    ∷ (verdict codedReference codedDevice 5 false, 19 ∷ 0 ∷ [])
+    ∷ (verdict codedReference codedDevice 5 true, 19 ∷ 0 ∷ [])
+    -- 02, K1: of a verdict 19 comes before 14
+    ∷ (verdict codedReference codedDevice 1024 false, 19 ∷ 0 ∷ [])
+    -- 02, K1: of a comparison 19 comes before 12, and the list is untouched
+    ∷ (lending codedReference codedDevice 0 0, lent 19 0 0)
+    ∷ (lending codedReference codedDevice 11 5, lent 19 0 11)
+    -- 02, K1: later calls check 18 again; the two zeros of a sheet without codes are one code twice
+    ∷ (checking exampleReference (7 ∷ 7 ∷ []), 18 ∷ [])
+    ∷ (checking exampleReference [], 18 ∷ [])
+    -- 02, K1: unused codes hold 0, which may be used too, and a wrong one counts as 7; 18 comes before it
+    ∷ (checking exampleReference (0 ∷ 7 ∷ []), 0 ∷ [])
+    ∷ (checking exampleReference (1 ∷ 2 ∷ 3 ∷ []), 7 ∷ [])
+    ∷ (checking exampleReference (7 ∷ 7 ∷ 3 ∷ []), 18 ∷ [])
+    -- 02, K1: sheets that agree get the refusals of the calls themselves: 12, 14 and 10
+    ∷ (pairing exampleReference (5 ∷ 9 ∷ []) exampleDevice (5 ∷ 9 ∷ []), 12 ∷ 14 ∷ 10 ∷ [])
+    -- 02, K1: unequal codes get 19 before them
+    ∷ (pairing exampleReference (5 ∷ 9 ∷ []) exampleDevice (9 ∷ 5 ∷ []), 19 ∷ 19 ∷ 19 ∷ [])
+    -- 02, K1: E differs and so does a code: 11
+    ∷ (pairing exampleReference (5 ∷ 9 ∷ []) stopped (6 ∷ []), 11 ∷ 11 ∷ 11 ∷ [])
+    -- 02, K1: 18 is the sheet writer's: of the reference it comes before a device's 7, and a reference's 7 before it
+    ∷ (pairing exampleReference (7 ∷ 7 ∷ []) exampleDevice (1 ∷ 2 ∷ 3 ∷ []), 18 ∷ 18 ∷ 18 ∷ [])
+    ∷ (pairing exampleReference (1 ∷ 2 ∷ 3 ∷ []) exampleDevice (7 ∷ 7 ∷ []), 7 ∷ 7 ∷ 7 ∷ [])
+    -- 02, K1: of a device it comes before 19, and before 11
+    ∷ (pairing exampleReference (1 ∷ 2 ∷ []) exampleDevice (7 ∷ 7 ∷ []), 18 ∷ 18 ∷ 18 ∷ [])
+    ∷ (pairing stopped (1 ∷ []) exampleDevice (7 ∷ 7 ∷ []), 18 ∷ 18 ∷ 18 ∷ [])
     ∷ []
 
 -- every row answers what 01 and 02 say
 pub cases-hold : map (λ (c : Case × List ℕ). numbersOf (c .0)) table ≡ map (λ (c : Case × List ℕ). c .1) table
-unfolding setBytes accepting rowNumbers listNumbers filled keptNode joined kept unread nodeProbes listFault listedNumbers listedOf listAfter numbersOf table lists lent workAfter readNumbers numbers judgedNumbers recordNumbers answersOf comparedNumbers work trace sheet exampleReference exampleDevice onlyZero onlyOne mayLoop mustLoop stopped readSheet answer bytesFault headFault lengthField layoutFault nextAt startOf succOf setsOf rowAt rowOf sheetOf graphFault rangesOk countOk countsOk successorsOk rowSuccessorsOk successorOk setsOk rowSetsOk setOk ascends noneInside blank unusedOk blanksOk reachedOk sheetFault successor acceptance acceptances initials mayStop step bit has inside meets insert setOf walk nearer leads meetsIn distance later choice leastFrom leastTrace cleared code pairNext product onCodes pairDistance pairTrace pairCleared all any first count upTo hits isProbe gather select probes missing orNext firstMissing firstMissed strays hasStray firstStray covers hasRefusal violates violating allEvents outside probesAt chosen flag flagOf offerOf newRun recordOk openFault openOf endedRun eventFault reportFault movedBy answerOf stepOf failsFrom verdictFault verdictOf nearest said judged pairCount nearestTrace clearedOf lastRow refusalNamed named comparisonOf compareFault outcomeOf traceAfter compared codesFault nodesAt codeOf codesOk codeNew codesBlank sharedFault codesAgree
+unfolding setBytes accepting deviceWith keptWith pairNumbers testCount suiteFault codedReference codedDevice rowNumbers listNumbers filled keptNode joined kept unread nodeProbes listFault listedNumbers listedOf listAfter numbersOf table lists lent workAfter readNumbers numbers judgedNumbers recordNumbers answersOf comparedNumbers work trace sheet exampleReference exampleDevice onlyZero onlyOne mayLoop mustLoop stopped readSheet answer bytesFault headFault lengthField layoutFault nextAt startOf succOf setsOf rowAt rowOf sheetOf graphFault rangesOk countOk countsOk successorsOk rowSuccessorsOk successorOk setsOk rowSetsOk setOk ascends noneInside blank unusedOk blanksOk reachedOk sheetFault successor acceptance acceptances initials mayStop step bit has inside meets insert setOf walk nearer leads meetsIn distance later choice leastFrom leastTrace cleared code pairNext product onCodes pairDistance pairTrace pairCleared all any first count upTo hits isProbe gather select probes missing orNext firstMissing firstMissed strays hasStray firstStray covers hasRefusal violates violating allEvents outside probesAt chosen flag flagOf offerOf newRun recordOk openFault openOf endedRun eventFault reportFault movedBy answerOf stepOf failsFrom verdictFault verdictOf nearest said judged pairCount nearestTrace clearedOf lastRow refusalNamed named comparisonOf compareFault outcomeOf traceAfter compared codesFault nodesAt codeOf codesOk codeNew codesBlank sharedFault codesAgree
 cases-hold = refl
