@@ -7,9 +7,9 @@ use lib.Dec.{eqb, ltb}
 use lib.ListN.{set}
 use Rattle.sheet_spec.specs.declared.Row.{Row}
 use Rattle.sheet_spec.specs.declared.Sheet.{Sheet}
-use Rattle.sheet_spec.specs.Kept.{row}
+use Rattle.sheet_spec.specs.Kept.{code, recoded, row}
 use Rattle.sheet_spec.specs.Reading.{readSheet}
-use Rattle.sheet_spec.specs.Examples.{exampleReference, exampleDevice, onlyZero, onlyOne, mayLoop, mustLoop, stopped}
+use Rattle.sheet_spec.specs.Examples.{exampleReference, exampleDevice, codedReference, codedDevice, onlyZero, onlyOne, mayLoop, mustLoop, stopped}
 
 -- a sheet of two nodes and two events: event 0 leads to a node that has no successor
 unfoldable pub leadsToEnd : List ℕ
@@ -54,7 +54,9 @@ sampleBytes which =
     (cond (eqb which 10) sixteenOthers
     (cond (eqb which 11) fourTriples
     (cond (eqb which 12) leadsBack
-    (cond (eqb which 13) loopsOnBoth (smallBytes which)))))
+    (cond (eqb which 13) loopsOnBoth
+    (cond (eqb which 16) codedReference
+    (cond (eqb which 17) codedDevice (smallBytes which)))))))
 
 -- the sheet that a number names
 unfoldable pub sampleOf : ℕ → Sheet
@@ -62,7 +64,7 @@ sampleOf which = readSheet (sampleBytes which) .sheet
 
 -- a sheet with a node more, a copy of node 0, where there is room
 unfoldable pub withNewNode : Sheet → Sheet
-withNewNode s = cond (ltb (s .n) 32) (record { rows = set (s .rows) (s .n) (row s 0); e = s .e; n = s .n + 1 }) s
+withNewNode s = cond (ltb (s .n) 32) (record { rows = set (s .rows) (s .n) (row s 0); e = s .e; n = s .n + 1; codes = s .codes }) s
 
 -- a row with another C
 unfoldable pub withCount : Row → ℕ → Row
@@ -70,13 +72,19 @@ withCount r c = record { succ = r .succ; sets = r .sets; c = c }
 
 -- a sheet with another row v
 unfoldable pub withRow : Sheet → ℕ → Row → Sheet
-withRow s v r = record { rows = set (s .rows) v r; e = s .e; n = s .n }
+withRow s v r = record { rows = set (s .rows) v r; e = s .e; n = s .n; codes = s .codes }
 
--- a sheet with the change that deserves a refusal; as it is for any other number
+-- a sheet with another code of event 1
+unfoldable pub withCode : Sheet → ℕ → Sheet
+withCode s x = recoded s (set (s .codes) 1 x)
+
+-- a sheet with the change that deserves a refusal, 18 and 19 if it has two events; as it is for any other number
 unfoldable pub changedTo : Sheet → ℕ → Sheet
 changedTo s refusal =
-    cond (eqb refusal 3) (record { rows = s .rows; e = 13; n = s .n })
+    cond (eqb refusal 3) (record { rows = s .rows; e = 13; n = s .n; codes = s .codes })
     (cond (eqb refusal 5) (withRow s 0 (withCount (row s 0) 17))
     (cond (eqb refusal 6) (withRow s 0 (record { succ = set (row s 0 .succ) 0 40; sets = row s 0 .sets; c = row s 0 .c }))
     (cond (eqb refusal 7) (withRow s 31 (withCount (row s 31) 1))
-    (cond (eqb refusal 8) (withNewNode s) s))))
+    (cond (eqb refusal 8) (withNewNode s)
+    (cond (eqb refusal 18) (withCode s (code s 0))
+    (cond (eqb refusal 19) (withCode s 500) s))))))

@@ -1,8 +1,8 @@
-// The sheets that the Run programs name by two numbers: which sheet, and which refusal of its own it is changed to
-// deserve.
+// The sheets that the Run programs name by two numbers: which sheet, and which refusal it is changed to deserve, of its
+// own or, 19, beside a sheet with its codes.
 ghost use mathlib.Core.Path.{_≡_};
 ghost use Rattle.sheet_spec.specs.Reading.{readSheet};
-ghost use Rattle.cases_samples.specs.Samples.{smallBytes, sampleBytes, withNewNode, changedTo, sampleOf};
+ghost use Rattle.cases_samples.specs.Samples.{smallBytes, sampleBytes, withNewNode, withCode, changedTo, sampleOf};
 use sheet_spec::Sheet;
 
 // The sheet of these bytes, of zeros if they are refused.
@@ -37,7 +37,8 @@ fn small_sample(which: u16) -> Sheet
 // One node that loops on 12 events: 9 with the sixteen acceptances 3, 5, 6, 9, 10, 12, 17, 18, 20, 24, 33, 34, 36, 40,
 // 48, 65; 10 with 3, 5, 6, 9, 10, 12, 257, 258, 260, 264, 513, 514, 1025, 1026, 2049, 3072; 11 with 7, 56, 448, 3584.
 // Of two events, 12 loops on event 0 and goes on event 1 to a node that has only event 0, which leads back; 13 loops on
-// both. Else a small sheet.
+// both. 16 and 17 are 01's reference and device in version 2, with the codes 257 and 258, and 1 and 2. Else a small
+// sheet. (The numbers 14 and 15 are left to the programs.)
 fn some_sample(which: u16) -> Sheet
     ensures { λ r. ⌜ r ≡ readSheet (sampleBytes which) .sheet ⌝ }
 {
@@ -53,6 +54,12 @@ fn some_sample(which: u16) -> Sheet
         ),
         12 => kept(b"\x00\x00\x00\x0D\x01\x02\x02\x00\x01\x01\x00\x01\x00\xFF\x01\x00\x01"),
         13 => kept(b"\x00\x00\x00\x08\x01\x02\x01\x00\x00\x01\x00\x01"),
+        16 => kept(
+            b"\x00\x00\x00\x13\x02\x02\x02\x01\x01\x01\x02\x01\x01\x02\x00\x01\x00\x02\x00\x00\x01\x00\x03",
+        ),
+        17 => kept(
+            b"\x00\x00\x00\x16\x02\x02\x03\x00\x01\x00\x02\x01\x01\x01\x00\x03\x02\x02\x01\x00\x03\x00\xFF\x01\x00\x01",
+        ),
         _ => small_sample(which),
     }
 }
@@ -72,8 +79,18 @@ fn with_new_node(s: Sheet) -> Sheet
     t
 }
 
+// The sheet with another code of event 1.
+fn with_code(s: Sheet, x: u16) -> Sheet
+    ensures { λ r. ⌜ r ≡ withCode s x ⌝ }
+{
+    let mut t = s;
+    t.codes[1] = x;
+    t
+}
+
 // The sheet, changed to deserve a refusal: 3 by its E, 5 by the C of node 0, 6 by a successor 40, 7 by the C of an
-// unused node, 8 by a node that is not reached.
+// unused node, 8 by a node that is not reached; if it has two events, 18 by the code of event 0 for event 1, and 19 by
+// the code 500 for event 1.
 fn changed(s: Sheet, refusal: u16) -> Sheet
     ensures { λ r. ⌜ r ≡ changedTo s refusal ⌝ }
 {
@@ -99,6 +116,12 @@ fn changed(s: Sheet, refusal: u16) -> Sheet
         }
         8 => {
             return with_new_node(s);
+        }
+        18 => {
+            return with_code(s, s.codes[0]);
+        }
+        19 => {
+            return with_code(s, 500);
         }
         _ => {}
     }

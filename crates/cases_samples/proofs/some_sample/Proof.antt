@@ -1,6 +1,7 @@
 -- `cases_samples::some_sample`: each number has its bytes.
 use native.Mathlib.Omega.{arith}
 use borrow.Author.Tests.{ne-eqb}
+use Rattle.sheet_spec.specs.Examples.{codedReference, codedDevice}
 use Rattle.cases_samples.specs.Samples.{sixteenPairs, sixteenOthers, fourTriples, leadsBack, loopsOnBoth, sampleBytes}
 use Rattle.cases_samples.proofs.some_sample.Statement.{statement}
 use Rattle.cases_samples.proofs.some_sample.Tie as tie
@@ -35,6 +36,18 @@ slice-aggregate-kept-5 c = omega arith
 kept-requires-5 : tie.Need-kept-requires-5
 kept-requires-5 c κs = tt
 
+slice-aggregate-kept-6 : tie.Need-slice-aggregate-kept-6
+slice-aggregate-kept-6 c = omega arith
+
+kept-requires-6 : tie.Need-kept-requires-6
+kept-requires-6 c κs = tt
+
+slice-aggregate-kept-7 : tie.Need-slice-aggregate-kept-7
+slice-aggregate-kept-7 c = omega arith
+
+kept-requires-7 : tie.Need-kept-requires-7
+kept-requires-7 c κs = tt
+
 small-sample-requires : tie.Need-small-sample-requires
 small-sample-requires c κs = tt
 
@@ -59,16 +72,26 @@ unfolding sampleBytes loopsOnBoth
 returns-5 c = rw (c .before .before .match .keys5) (c .kept5 .ensures)
 
 returns-6 : tie.Need-returns-6
+unfolding sampleBytes codedReference
+returns-6 c = rw (c .before .before .match .keys6) (c .kept6 .ensures)
+
+returns-7 : tie.Need-returns-7
+unfolding sampleBytes codedDevice
+returns-7 c = rw (c .before .before .match .keys7) (c .kept7 .ensures)
+
+returns-8 : tie.Need-returns-8
 unfolding sampleBytes
-returns-6 c =
+returns-8 c =
     let x = c .before .before .args .which in
     let n = c .before .match .rest in
     rw (
-      ne-eqb x 9 (λ e. n .0 .0 .0 .0 .1 e),
-      ne-eqb x 10 (λ e. n .0 .0 .0 .1 e),
-      ne-eqb x 11 (λ e. n .0 .0 .1 e),
-      ne-eqb x 12 (λ e. n .0 .1 e),
-      ne-eqb x 13 (λ e. n .1 e),
+      ne-eqb x 9 (λ e. n .0 .0 .0 .0 .0 .0 .1 e),
+      ne-eqb x 10 (λ e. n .0 .0 .0 .0 .0 .1 e),
+      ne-eqb x 11 (λ e. n .0 .0 .0 .0 .1 e),
+      ne-eqb x 12 (λ e. n .0 .0 .0 .1 e),
+      ne-eqb x 13 (λ e. n .0 .0 .1 e),
+      ne-eqb x 16 (λ e. n .0 .1 e),
+      ne-eqb x 17 (λ e. n .1 e),
     ) (c .small-sample .ensures)
 
 pub some-sample-spec : {M : Type 1} → statement M
@@ -85,10 +108,16 @@ some-sample-spec =
     kept-requires-4
     slice-aggregate-kept-5
     kept-requires-5
+    slice-aggregate-kept-6
+    kept-requires-6
+    slice-aggregate-kept-7
+    kept-requires-7
     small-sample-requires
     returns
     returns-2
     returns-3
     returns-4
     returns-5
-    returns-6)
+    returns-6
+    returns-7
+    returns-8)
