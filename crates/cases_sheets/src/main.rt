@@ -1,5 +1,5 @@
-// The Run cases of a sheet (01, "A sheet", refusals 1 to 8, "Cases"), and of adding an event to a set (02, K5). Each
-// line of standard input is a case: its name, a colon, and numbers, of which the first says what is done:
+// The Run cases of a sheet (01, "A sheet", refusals 1 to 8, "Cases"; 02, K1), and of adding an event to a set (02, K5).
+// Each line of standard input is a case: its name, a colon, and numbers, of which the first says what is done:
 //   1, bytes                       the bytes are read
 //   2, i x j y                     the sample below is read with x at place i and y at place j
 //   3, E N C cut len               the sheet of a plan, which is described below, is read
@@ -9,11 +9,16 @@
 //   7, bytes; 8, E N C cut len     the places that hold 255 and 0 in the answer of 1 or of 3 are counted
 //   9                              the sheet of a refused answer is checked
 //   10, set event                  the event, below 16, is added to the set
+//   11, E N C cut len j            the sheet of a plan in version 2 is read; event j has the code of event 0
+//   12, changes                    the largest sheet of version 2, kept, is checked after them
+//   13, E N C cut len j            the places that hold 255 and 0 in the answer of 11 are counted
+//   14, bytes; 15, E N C cut len j the codes in the answer of 1 or of 11
 // Numbers that are not there count as 0, which is what the sample has at place 0: so `2 i x` changes one place only.
-// A change is four numbers: 1 for a successor, 2 for a set, 3 for a C, 4 for E, 5 for N; a node, a place and the value.
+// A change is four numbers: 1 for a successor, 2 for a set, 3 for a C, 4 for E, 5 for N, 6 for a code; a node, a place
+// and the value.
 // Each case writes its name and its answer. Reading writes `refused` and the number, or `accepted` and E and N. A check
-// writes its number. A count writes how many successors hold the value, how many sets and how many Cs hold 0, and E
-// and N. Adding writes the set.
+// writes its number. A count writes how many successors hold the value, how many sets, how many Cs and how many codes
+// hold 0, and E and N. Adding writes the set. Codes are written in order, all twelve.
 ghost use Prim.Native.Nat.{_≤_};
 use cases_lines::Line;
 use libc::STDIN_FILENO;
@@ -100,17 +105,28 @@ fn with_n(s: Sheet, x: u8) -> Sheet {
     t
 }
 
+// The sheet with x as the code of event i.
+fn with_code(s: Sheet, i: usize, x: u16) -> Sheet {
+    let mut t = s;
+    if i < 12 {
+        t.codes[i] = x;
+    }
+    t
+}
+
 // ---- sheets of many nodes
 
 // A description of a sheet in which every node has the same C, event 0 leads from each node to the next, and every
 // other event leads to node 0; only from node `cut` event 0 leads to itself. `len` is the number of bytes that are
-// there.
+// there. In version 2 event i has the code 500 + i, but event `twice` has that of event 0.
 struct Plan {
+    version: u8,
     e: u8,
     n: u8,
     c: u8,
     cut: u8,
     len: u16,
+    twice: u8,
 }
 
 // Byte i of the sheet of a plan, before its nodes.
@@ -123,7 +139,7 @@ fn head_byte(p: Plan, i: usize) -> u8 {
     match i {
         2 => (field / 256) as u8,
         3 => (field % 256) as u8,
-        4 => 1,
+        4 => p.version,
         5 => p.e,
         6 => p.n,
         _ => 0,
@@ -166,6 +182,28 @@ fn node_byte(p: Plan, v: usize, k: usize) -> u8 {
     set_byte(k - e - 1)
 }
 
+// Byte k of the codes of a plan.
+fn code_byte(p: Plan, k: usize) -> u8 {
+    if k % 2 == 0 {
+        return 1;
+    }
+    let event = k / 2;
+    if event == base::wide(p.twice) {
+        return 244;
+    }
+    if event < 12 { 244 + event as u8 } else { 0 }
+}
+
+// How many bytes the codes of a plan have.
+fn codes_size(p: Plan) -> usize
+    ensures { λ r. ⌜ r ≤ 510 ⌝ }
+{
+    if p.version == 2 {
+        return base::wide(p.e) * 2;
+    }
+    0
+}
+
 // Byte i of the sheet of a plan.
 fn plan_byte(p: Plan, i: usize) -> u8 {
     if i < 7 {
@@ -174,8 +212,13 @@ fn plan_byte(p: Plan, i: usize) -> u8 {
     let e = base::wide(p.e);
     let c = base::wide(p.c);
     let size = e + 1 + c * 2;
+    let codes = codes_size(p);
     let k = i - 7;
-    node_byte(p, k / size, k % size)
+    if k < codes {
+        return code_byte(p, k);
+    }
+    let at = k - codes;
+    node_byte(p, at / size, at % size)
 }
 
 // The first 2,048 bytes of the sheet of a plan whose nodes go on.
@@ -196,14 +239,16 @@ fn planned(p: Plan) -> ReadSheet {
     sheet::read(&bytes[..n])
 }
 
-// The largest sheet: 12 events, 32 nodes and C 16.
-fn largest() -> ReadSheet {
+// The largest sheet of a version, which has so many bytes: 12 events, 32 nodes and C 16.
+fn largest(version: u8, len: u16) -> ReadSheet {
     let p = Plan {
+        version: version,
         e: 12,
         n: 32,
         c: 16,
         cut: 255,
-        len: 1447,
+        len: len,
+        twice: 0,
     };
     planned(p)
 }
@@ -224,11 +269,11 @@ fn alike(x: u8, y: u8) -> usize
     if x == y { 1 } else { 0 }
 }
 
-// 1 for the empty set, 0 for another.
-fn empty(set: u16) -> usize
+// 1 for 0, 0 for another set or code.
+fn empty(x: u16) -> usize
     ensures { λ r. ⌜ r ≤ 1 ⌝ }
 {
-    if set == 0 { 1 } else { 0 }
+    if x == 0 { 1 } else { 0 }
 }
 
 // How many successors of a row hold x.
@@ -271,6 +316,16 @@ fn tally_of(s: Sheet, x: u8) -> Tally {
         sets: sets,
         counts: counts,
     }
+}
+
+// How many codes hold 0.
+fn codes_empty(codes: [u16; 12]) -> usize {
+    let mut count: usize = 0;
+    for i in 0..12 {
+        let x = codes[i];
+        count += empty(x);
+    }
+    count
 }
 
 // ---- the numbers of a line
@@ -317,19 +372,22 @@ fn sample_of(line: Line) -> ReadSheet {
     )
 }
 
-// The plan of a line.
-fn plan_of(line: Line) -> Plan {
+// The plan of a line in a version.
+fn plan_of(line: Line, version: u8) -> Plan {
     let e = cases_lines::small(line, 1);
     let n = cases_lines::small(line, 2);
     let c = cases_lines::small(line, 3);
     let cut = cases_lines::small(line, 4);
     let len = cases_lines::number(line, 5);
+    let twice = cases_lines::small(line, 6);
     Plan {
+        version: version,
         e: e,
         n: n,
         c: c,
         cut: cut,
         len: len,
+        twice: twice,
     }
 }
 
@@ -347,6 +405,7 @@ fn with(s: Sheet, line: Line, i: usize) -> Sheet {
         3 => with_count(s, v, x),
         4 => with_e(s, x),
         5 => with_n(s, x),
+        6 => with_code(s, at, cases_lines::number(line, i + 3)),
         _ => s,
     }
 }
@@ -373,15 +432,31 @@ fn tell_kept(a: ReadSheet, line: Line) {
     cases_lines::say_count(base::wide(sheet::check(t)));
 }
 
-// Writes how many successors of an answer hold x, how many of its sets and Cs hold 0, and E and N.
+// Writes how many successors of an answer hold x, how many of its sets, Cs and codes hold 0, and E and N.
 fn tell_places(a: ReadSheet, x: u8) {
     let s = a.sheet;
+    let codes = s.codes;
     let p = tally_of(s, x);
     cases_lines::say_count(p.succs);
     cases_lines::say_count(p.sets);
     cases_lines::say_count(p.counts);
+    cases_lines::say_count(codes_empty(codes));
     cases_lines::say_count(base::wide(s.e));
     cases_lines::say_count(base::wide(s.n));
+}
+
+// Writes codes.
+fn say_codes(codes: [u16; 12]) {
+    for i in 0..12 {
+        cases_lines::say_number(codes[i]);
+    }
+}
+
+// Writes the codes of an answer.
+fn tell_codes(a: ReadSheet) {
+    let s = a.sheet;
+    let codes = s.codes;
+    say_codes(codes);
 }
 
 // Writes the set of a line with its event added; an event from 16 on has no place in a set, and nothing is written.
@@ -399,13 +474,18 @@ fn answer(line: Line) {
     match cases_lines::number(line, 0) {
         1 => tell(spelt(line)),
         2 => tell(sample_of(line)),
-        3 => tell(planned(plan_of(line))),
+        3 => tell(planned(plan_of(line, 1))),
         4 => tell_kept(sample(), line),
-        5 => tell_kept(largest(), line),
+        5 => tell_kept(largest(1, 1447), line),
         6 => tell_places(sample_of(line), 0),
         7 => tell_places(spelt(line), 255),
-        8 => tell_places(planned(plan_of(line)), 255),
+        8 => tell_places(planned(plan_of(line, 1)), 255),
         10 => tell_added(line),
+        11 => tell(planned(plan_of(line, 2))),
+        12 => tell_kept(largest(2, 1471), line),
+        13 => tell_places(planned(plan_of(line, 2)), 255),
+        14 => tell_codes(spelt(line)),
+        15 => tell_codes(planned(plan_of(line, 2))),
         _ => tell_kept(sheet::read(b""), cases_lines::new_line()),
     }
     cases_lines::say(b"\n");
