@@ -1,12 +1,12 @@
-// The Run cases of the two calls that are lent lists (01, "Probes", "A comparison", refusals 9 to 13; 02, K7). Each
+// The Run cases of the two calls that are lent lists (01, "Probes", "A comparison", refusals 9 to 13; 02, K1, K7). Each
 // line of standard input is a case: its name, a colon, and numbers, of which the first says what is called:
 //   1, sheet, node len                    the probe list, with len places
 //   2, sheet, sheet, traces words places  the comparison, with a work list and a trace list of these lengths
 //   3, sheet, sheet, traces words places  the comparison, with long lists of these lengths
-// A sheet is two numbers: which one, and which refusal of its own it is changed to deserve, 0 for none. Sheets 14 and
-// 15, of 32 nodes, are made here and are not changed; the others are those of `cases_samples`. Numbers that are not
-// there count as 0. The lists are parts of 128 places, long ones of 3,200 words and of 1,152 bytes, enough for 32 x 32
-// pairs. All places hold the highest number before the call.
+// A sheet is two numbers: which one, and which refusal it is changed to deserve, 0 for none. Sheets 14 and 15, of 32
+// nodes, are made here and are not changed; the others are those of `cases_samples`. Numbers that are not there count
+// as 0. The lists are parts of 128 places, long ones of 3,200 words and of 1,152 bytes, enough for 32 x 32 pairs. All
+// places hold the highest number before the call.
 // Each case writes its name and its answer. A refusal is `denied` and the number. The probe list gives the count, the
 // first and the last probe and the sum of all; then comes how many of the 128 places are as before. A comparison gives
 // `refines` and cleared, or `stray` with d, cleared and the event, or `refusal` with d, cleared, the probe and the

@@ -1,13 +1,13 @@
-// The Run cases of tests (01, "Test k and a live run", refusals 9 to 11 and 14 to 17). Each line of standard input is a
-// case: its name, a colon, and numbers, of which the first says what is called:
+// The Run cases of tests (01, "Test k and a live run", refusals 9 to 11 and 14 to 17; 02, K1). Each line of standard
+// input is a case: its name, a colon, and numbers, of which the first says what is called:
 //   1, sheet, k h traces                           a test is opened
 //   2, sheet, k h traces ended node depth, report  a report on that record
 //   3, sheet, k h traces, reports                  a test is opened, and each report is made
 //   4, sheet, k h traces, n report                 a test is opened, and the report is made n times and once more
 //   5, sheet, sheet, k traces                      the verdict on the second sheet by the first
 //   6, sheet, sheet, traces len                    all verdicts on the second sheet, with a list of len places
-// A sheet is two numbers: which one of those of `cases_samples`, and which refusal of its own it is changed to deserve,
-// 0 for none. A report is an event, or 256 for blocked. Numbers that are not there count as 0.
+// A sheet is two numbers: which one of those of `cases_samples`, and which refusal it is changed to deserve, 0 for
+// none. A report is an event, or 256 for blocked. Numbers that are not there count as 0.
 // Each case writes its name and its answers. A refusal is `denied` and the number. An opening and a report write the
 // answer and, after a bar, the record: k, h, traces, ended, node, depth; of a report that is made many times only the
 // last is written. All verdicts at once write how many there are, and after a bar 16 places, of which the first len are
