@@ -1,8 +1,9 @@
--- Nothing to believe: cases. The lines of the program `probe_list`: of 01's example reference, of three nodes of which
--- one may stop, and of two nodes with optional events.
+-- Nothing to believe: cases. The lines of the program `probe_list`: of 01's example reference in both versions, of three
+-- nodes of which one may stop, and of two nodes with optional events.
 use mathlib.Core.Path.{_≡_, refl}
 use mathlib.Core.List.{List, [], _∷_, map}
 use Prim.Native.Nat.{ℕ}
+use lib.ListN.{replicate}
 use Rattle.base.specs.Range.{all, any}
 use Rattle.base.specs.Table.{upTo}
 use Rattle.base.specs.Gather.{gather, select}
@@ -10,7 +11,7 @@ use Rattle.events.specs.Bit.{bit, setOf}
 use Rattle.events.specs.Sets.{has, inside, meets}
 use Rattle.walks.specs.Graph.{walk}
 use Rattle.walks.specs.Reach.{nearer, leads}
-use Rattle.sheet_spec.specs.Kept.{successor, acceptance, acceptances, initials, mayStop, step}
+use Rattle.sheet_spec.specs.Kept.{recoded, successor, acceptance, acceptances, initials, mayStop, step}
 use Rattle.sheet_spec.specs.Rules.{rangesOk, countOk, countsOk, successorOk, rowSuccessorsOk, successorsOk, ascends, noneInside, setOk, rowSetsOk, setsOk, blank, unusedOk, blanksOk, reachedOk, codeNew, codesBlank, codesOk}
 use Rattle.sheet_spec.specs.Refusals.{headFault, layoutFault, graphFault, bytesFault, sheetFault, codesFault}
 use Rattle.sheet_spec.specs.Reading.{answer, readSheet}
@@ -22,13 +23,19 @@ use Rattle.text_spec.specs.Sets.{eventsIn, members, setWords}
 use Rattle.text_spec.specs.Joined.{joined}
 use Rattle.text_sheet_spec.specs.Node.{probeSpace, placeWords, setList, probesLine, mayStopLine, deniedLine, nodeLine, optional, optionalLine, optionalText, nodeText}
 use Rattle.text_sheet_spec.specs.Cases.{threeNodes}
-use Rattle.sheet_spec.specs.Examples.{exampleReference, sheet}
+use Rattle.sheet_spec.specs.Examples.{exampleReference, codedReference, sheet}
 
 -- 01's example reference has two nodes; there is no node 2
 pub reference-lines : map (nodeText (sheet exampleReference)) (0 ∷ 1 ∷ 2 ∷ [])
     ≡ (ascii "node 0 probes 3 ( 0 1 )\n" ∷ ascii "node 1 probes 1 ( 0 ) 2 ( 1 )\n" ∷ ascii "node 2 refused 9\n" ∷ [])
 unfolding exampleReference sheet nodeText optionalText optionalLine optional nodeLine probesLine mayStopLine deniedLine setList placeWords probeSpace joined nodeProbes listFault setWords members eventsIn eventList decimal decimalIn readSheet answer bytesFault headFault lengthField layoutFault nextAt startOf succOf setsOf rowAt rowOf sheetOf graphFault rangesOk countOk countsOk successorOk rowSuccessorsOk successorsOk ascends noneInside setOk rowSetsOk setsOk blank unusedOk blanksOk reachedOk sheetFault successor acceptance acceptances initials mayStop step bit setOf has inside meets nearer leads walk all any upTo hits isProbe gather select probes codesFault nodesAt codeOf codesOk codeNew codesBlank
 reference-lines = refl
+
+-- the codes of version 2 play no part in its lines
+pub coded-lines : map (nodeText (sheet codedReference)) (0 ∷ 1 ∷ [])
+    ≡ (ascii "node 0 probes 3 ( 0 1 )\n" ∷ ascii "node 1 probes 1 ( 0 ) 2 ( 1 )\n" ∷ [])
+unfolding codedReference sheet nodeText optionalText optionalLine optional nodeLine probesLine mayStopLine deniedLine setList placeWords probeSpace joined nodeProbes listFault setWords members eventsIn eventList decimal decimalIn readSheet answer bytesFault headFault lengthField layoutFault nextAt startOf succOf setsOf rowAt rowOf sheetOf graphFault rangesOk countOk countsOk successorOk rowSuccessorsOk successorsOk ascends noneInside setOk rowSetsOk setsOk blank unusedOk blanksOk reachedOk sheetFault successor acceptance acceptances initials mayStop step bit setOf has inside meets nearer leads walk all any upTo hits isProbe gather select probes codesFault nodesAt codeOf codesOk codeNew codesBlank
+coded-lines = refl
 
 -- three nodes, of which the last may stop
 pub three-lines : map (nodeText (sheet threeNodes)) (0 ∷ 1 ∷ 2 ∷ [])
@@ -50,3 +57,9 @@ optional-lines = refl
 pub refused-lines : map (nodeText (sheet [])) (0 ∷ 255 ∷ []) ≡ (ascii "node 0 refused 3\n" ∷ ascii "node 255 refused 3\n" ∷ [])
 unfolding sheet nodeText nodeLine deniedLine probeSpace listFault decimal decimalIn readSheet answer bytesFault headFault lengthField sheetFault rangesOk codesOk codeNew codesBlank
 refused-lines = refl
+
+-- a kept sheet whose two events have one code: each node is refused with 18
+pub code-twice-lines : map (nodeText (recoded (sheet exampleReference) (replicate 12 0))) (0 ∷ 255 ∷ [])
+    ≡ (ascii "node 0 refused 18\n" ∷ ascii "node 255 refused 18\n" ∷ [])
+unfolding exampleReference sheet nodeText nodeLine deniedLine probeSpace listFault decimal decimalIn readSheet answer bytesFault headFault lengthField layoutFault nextAt startOf succOf setsOf rowAt rowOf sheetOf graphFault rangesOk countOk countsOk successorOk rowSuccessorsOk successorsOk ascends noneInside setOk rowSetsOk setsOk blank unusedOk blanksOk reachedOk sheetFault successor acceptance acceptances initials mayStop step bit setOf has inside meets nearer leads walk all any upTo codesFault nodesAt codeOf codesOk codeNew codesBlank
+code-twice-lines = refl

@@ -1,5 +1,6 @@
--- Nothing to believe: cases. The text of the program `compare` on 01's example, whole, and on a pair that names a
--- refused probe after the empty trace.
+-- Nothing to believe: cases. The text of the program `compare` on 01's example, whole, on the same with the device in
+-- version 2, and on a pair that names a refused probe after the empty trace; and where codes differ or one is given
+-- twice.
 use mathlib.Core.Path.{_≡_, refl}
 use mathlib.Core.List.{List, [], _∷_, _++_, map}
 use Prim.Native.Nat.{ℕ}
@@ -30,7 +31,7 @@ use Rattle.text_pair_spec.specs.Split.{firstEnd, firstSheet, secondSheet}
 use Rattle.text_pair_spec.specs.Program.{deviceLines, sheetsLines, inputLines, pairText}
 use Rattle.compare_lines_spec.specs.Lines.{violatesLine, traceLine, refusedProbeLine, outcomeLines}
 use Rattle.compare_lines_spec.specs.Program.{workList, traceList, comparedLines, compareText}
-use Rattle.sheet_spec.specs.Examples.{exampleReference, exampleDevice, mustLoop, stopped}
+use Rattle.sheet_spec.specs.Examples.{exampleReference, exampleDevice, codedReference, codedDevice, mustLoop, stopped}
 
 -- the input of 01's example
 unfoldable pub exampleInput : List ℕ
@@ -40,14 +41,33 @@ exampleInput = exampleReference ++ exampleDevice
 unfoldable pub exampleText : List ℕ
 exampleText = ascii "reference 2 nodes 2 events\ndevice 3 nodes 2 events\nviolates after 5 cleared 5\ntrace 0 0 0 0 0\nrefused 2 by 1\n"
 
--- inputs: 01's example, and a device that may stop where the reference may not
+-- one node that loops on two events, which have one code
+unfoldable pub codeTwice : List ℕ
+codeTwice = 0 ∷ 0 ∷ 0 ∷ 12 ∷ 2 ∷ 2 ∷ 1 ∷ 0 ∷ 9 ∷ 0 ∷ 9 ∷ 0 ∷ 0 ∷ 1 ∷ 0 ∷ 3 ∷ []
+
+-- inputs: 01's example; with the device in version 2, where the codes agree; with the reference in version 2, where they
+-- do not; a device that may stop where the reference may not; a code twice in the reference, and in the device
 unfoldable pub inputs : List (List ℕ)
-inputs = exampleInput ∷ (mustLoop ++ stopped) ∷ []
+inputs =
+    exampleInput
+    ∷ (exampleReference ++ codedDevice)
+    ∷ (codedReference ++ exampleDevice)
+    ∷ (mustLoop ++ stopped)
+    ∷ (codeTwice ++ stopped)
+    ∷ (stopped ++ codeTwice)
+    ∷ []
 
 -- what `compare` prints for each of the inputs
 unfoldable pub texts : List (List ℕ)
-texts = exampleText ∷ ascii "reference 1 nodes 1 events\ndevice 1 nodes 1 events\nviolates after 0 cleared 0\ntrace\nrefused 1 by 0\n" ∷ []
+texts =
+    exampleText
+    ∷ exampleText
+    ∷ ascii "reference 2 nodes 2 events\ndevice 3 nodes 2 events\ncomparison refused 19\n"
+    ∷ ascii "reference 1 nodes 1 events\ndevice 1 nodes 1 events\nviolates after 0 cleared 0\ntrace\nrefused 1 by 0\n"
+    ∷ ascii "reference refused 18\n"
+    ∷ ascii "reference 1 nodes 1 events\ndevice refused 18\n"
+    ∷ []
 
 pub texts-hold : map compareText inputs ≡ texts
-unfolding inputs texts exampleInput exampleReference exampleDevice exampleText mustLoop stopped compareText pairText cutInput inputLines firstSheet secondSheet firstEnd lengthField sheetsLines deviceLines comparedLines workList traceList outcomeLines numberLine sheetLine violatesLine eventList traceLine refusedProbeLine decimal decimalIn readSheet answer bytesFault headFault layoutFault nextAt startOf succOf setsOf rowAt rowOf sheetOf graphFault rangesOk countOk countsOk successorOk rowSuccessorsOk successorsOk ascends noneInside setOk rowSetsOk setsOk blank unusedOk blanksOk reachedOk sheetFault successor acceptance acceptances initials step bit setOf has inside meets nearer leads walk all any first upTo count outcomeOf traceAfter compareFault comparisonOf named refusalNamed lastRow clearedOf nearestTrace nearest pairCount pairDistance pairTrace pairCleared onCodes product pairNext code cleared meetsIn distance later choice leastFrom leastTrace strays hasStray firstStray covers hasRefusal violates violating hits isProbe gather select probes missing orNext firstMissing firstMissed codesFault nodesAt codeOf codesOk codeNew codesBlank sharedFault codesAgree
+unfolding inputs texts codeTwice exampleInput exampleReference exampleDevice codedReference codedDevice exampleText mustLoop stopped compareText pairText cutInput inputLines firstSheet secondSheet firstEnd lengthField sheetsLines deviceLines comparedLines workList traceList outcomeLines numberLine sheetLine violatesLine eventList traceLine refusedProbeLine decimal decimalIn readSheet answer bytesFault headFault layoutFault nextAt startOf succOf setsOf rowAt rowOf sheetOf graphFault rangesOk countOk countsOk successorOk rowSuccessorsOk successorsOk ascends noneInside setOk rowSetsOk setsOk blank unusedOk blanksOk reachedOk sheetFault successor acceptance acceptances initials step bit setOf has inside meets nearer leads walk all any first upTo count outcomeOf traceAfter compareFault comparisonOf named refusalNamed lastRow clearedOf nearestTrace nearest pairCount pairDistance pairTrace pairCleared onCodes product pairNext code cleared meetsIn distance later choice leastFrom leastTrace strays hasStray firstStray covers hasRefusal violates violating hits isProbe gather select probes missing orNext firstMissing firstMissed codesFault nodesAt codeOf codesOk codeNew codesBlank sharedFault codesAgree
 texts-hold = refl
