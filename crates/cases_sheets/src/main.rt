@@ -391,6 +391,20 @@ fn plan_of(line: Line, version: u8) -> Plan {
     }
 }
 
+// The sheet with the change of E, N or a code, at a place, that stands from number i on.
+fn with_outside(s: Sheet, line: Line, i: usize, at: usize) -> Sheet {
+    if i >= 60 {
+        return s;
+    }
+    let x = cases_lines::small(line, i + 3);
+    match cases_lines::number(line, i) {
+        4 => with_e(s, x),
+        5 => with_n(s, x),
+        6 => with_code(s, at, cases_lines::number(line, i + 3)),
+        _ => s,
+    }
+}
+
 // The sheet with the change that stands from number i on.
 fn with(s: Sheet, line: Line, i: usize) -> Sheet {
     if i >= 60 {
@@ -403,14 +417,17 @@ fn with(s: Sheet, line: Line, i: usize) -> Sheet {
         1 => with_succ(s, v, at, x),
         2 => with_set(s, v, at, cases_lines::number(line, i + 3)),
         3 => with_count(s, v, x),
-        4 => with_e(s, x),
-        5 => with_n(s, x),
-        6 => with_code(s, at, cases_lines::number(line, i + 3)),
-        _ => s,
+        _ => with_outside(s, line, i, at),
     }
 }
 
 // ---- answers
+
+// Writes E and N.
+fn say_size(e: u8, n: u8) {
+    cases_lines::say_count(base::wide(e));
+    cases_lines::say_count(base::wide(n));
+}
 
 // Writes the answer of reading.
 fn tell(a: ReadSheet) {
@@ -420,8 +437,7 @@ fn tell(a: ReadSheet) {
     } else {
         let s = a.sheet;
         cases_lines::say(b" accepted");
-        cases_lines::say_count(base::wide(s.e));
-        cases_lines::say_count(base::wide(s.n));
+        say_size(s.e, s.n);
     }
 }
 
@@ -432,17 +448,20 @@ fn tell_kept(a: ReadSheet, line: Line) {
     cases_lines::say_count(base::wide(sheet::check(t)));
 }
 
+// Writes a tally.
+fn say_tally(p: Tally) {
+    cases_lines::say_count(p.succs);
+    cases_lines::say_count(p.sets);
+    cases_lines::say_count(p.counts);
+}
+
 // Writes how many successors of an answer hold x, how many of its sets, Cs and codes hold 0, and E and N.
 fn tell_places(a: ReadSheet, x: u8) {
     let s = a.sheet;
     let codes = s.codes;
-    let p = tally_of(s, x);
-    cases_lines::say_count(p.succs);
-    cases_lines::say_count(p.sets);
-    cases_lines::say_count(p.counts);
+    say_tally(tally_of(s, x));
     cases_lines::say_count(codes_empty(codes));
-    cases_lines::say_count(base::wide(s.e));
-    cases_lines::say_count(base::wide(s.n));
+    say_size(s.e, s.n);
 }
 
 // Writes codes.
@@ -469,6 +488,18 @@ fn tell_added(line: Line) {
     }
 }
 
+// Answers a line about version 2 or about codes, and any other as 9.
+fn answer_codes(line: Line) {
+    match cases_lines::number(line, 0) {
+        11 => tell(planned(plan_of(line, 2))),
+        12 => tell_kept(largest(2, 1471), line),
+        13 => tell_places(planned(plan_of(line, 2)), 255),
+        14 => tell_codes(spelt(line)),
+        15 => tell_codes(planned(plan_of(line, 2))),
+        _ => tell_kept(sheet::read(b""), cases_lines::new_line()),
+    }
+}
+
 // Answers a line.
 fn answer(line: Line) {
     match cases_lines::number(line, 0) {
@@ -481,12 +512,7 @@ fn answer(line: Line) {
         7 => tell_places(spelt(line), 255),
         8 => tell_places(planned(plan_of(line, 1)), 255),
         10 => tell_added(line),
-        11 => tell(planned(plan_of(line, 2))),
-        12 => tell_kept(largest(2, 1471), line),
-        13 => tell_places(planned(plan_of(line, 2)), 255),
-        14 => tell_codes(spelt(line)),
-        15 => tell_codes(planned(plan_of(line, 2))),
-        _ => tell_kept(sheet::read(b""), cases_lines::new_line()),
+        _ => answer_codes(line),
     }
     cases_lines::say(b"\n");
 }
