@@ -1,6 +1,7 @@
 -- Nothing to believe: for the programs of cases. The sheets that the Run programs name are accepted, no other number
--- names one, and the change for a refusal deserves it, that for 19 beside the sheet as it was. (The three sheets of 12 events are left out: to compute with
--- them takes too much memory; that they are accepted is seen when the programs run.)
+-- names one, and the change for a refusal deserves it, that for 19 beside the sheet as it was. (The three sheets of 12
+-- events are left out: to compute with them takes too much memory; that they are accepted is seen when the programs
+-- run.)
 use mathlib.Core.Path.{_≡_, refl}
 use mathlib.Core.List.{List, [], _∷_, map}
 use Prim.Native.Nat.{ℕ}

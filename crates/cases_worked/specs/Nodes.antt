@@ -1,5 +1,5 @@
--- Nothing to believe: cases. The lines of the program `probe_list`: of 01's example reference in both versions, of three
--- nodes of which one may stop, and of two nodes with optional events.
+-- Nothing to believe: cases. The lines of the program `probe_list`: of 01's example reference in both versions, of
+-- three nodes of which one may stop, and of two nodes with optional events; and of a kept sheet with a code twice.
 use mathlib.Core.Path.{_≡_, refl}
 use mathlib.Core.List.{List, [], _∷_, map}
 use Prim.Native.Nat.{ℕ}

@@ -45,8 +45,8 @@ exampleText = ascii "reference 2 nodes 2 events\ndevice 3 nodes 2 events\nviolat
 unfoldable pub codeTwice : List ℕ
 codeTwice = 0 ∷ 0 ∷ 0 ∷ 12 ∷ 2 ∷ 2 ∷ 1 ∷ 0 ∷ 9 ∷ 0 ∷ 9 ∷ 0 ∷ 0 ∷ 1 ∷ 0 ∷ 3 ∷ []
 
--- inputs: 01's example; with the device in version 2, where the codes agree; with the reference in version 2, where they
--- do not; a device that may stop where the reference may not; a code twice in the reference, and in the device
+-- inputs: 01's example; with the device in version 2, where the codes agree; with the reference in version 2, where
+-- they do not; a device that may stop where the reference may not; a code twice in the reference, and in the device
 unfoldable pub inputs : List (List ℕ)
 inputs =
     exampleInput
