@@ -7,3 +7,4 @@ pub mod FirstMissed
 pub mod FirstMissedLaws
 pub mod Listing
 pub mod ListingLaws
+pub mod Recoded

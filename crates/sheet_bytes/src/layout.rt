@@ -1,10 +1,9 @@
 // How a sheet stands in its bytes (01, the refusals 1 to 5; 02, K1): its length, version and ranges, where its nodes
 // begin, and one walk over them. Reads past the end give 0.
 ghost use mathlib.Core.Path.{_≡_};
-ghost use mathlib.Core.Bool.{_||_};
 ghost use Prim.Native.Nat.{_+_, _≤_, _<_};
-ghost use lib.Dec.{eqb};
 ghost use Rattle.sheet_spec.specs.Spelling.{byte, word, nodesAt, nextAt};
+ghost use Rattle.sheet_spec.specs.Rules.{versionOk};
 ghost use Rattle.sheet_spec.specs.Refusals.{headFault, layoutFault};
 ghost use Rattle.sheet_bytes.specs.LayoutShapes.{lengthOk};
 
@@ -40,7 +39,7 @@ fn length_ok(bytes: &[u8]) -> bool
 
 // 2: whether the version is 1 or 2.
 fn version_ok(version: u8) -> bool
-    ensures { λ r. ⌜ r ≡ eqb version 1 || eqb version 2 ⌝ }
+    ensures { λ r. ⌜ r ≡ versionOk version ⌝ }
 {
     if version == 1 {
         return true;

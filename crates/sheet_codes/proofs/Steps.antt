@@ -7,7 +7,7 @@ use lib.Dec.{eqb}
 use borrow.Author.Tests.{eq-eqb, ne-eqb, not-true, not-false}
 use Rattle.base.specs.Loops.{Passing, stops, goes-on}
 use Rattle.sheet_spec.specs.Kept.{codeAt}
-use Rattle.sheet_spec.specs.Rules.{codeNew, codesAgree, codesFirst}
+use Rattle.sheet_spec.specs.Rules.{codeNew, codesAgree, firstCodesOk}
 use Rattle.sheet_spec.specs.Refusals.{sharedFault}
 
 -- event i has another code than event j
@@ -39,8 +39,8 @@ abbrev pub isFirst : List ℕ → ℕ → Bool
 isFirst codes i = eqb (codeAt codes i) (i + 1)
 
 module _ (codes : List ℕ) {e i : ℕ} (w : Passing (isFirst codes) e i) (l : i < e) where
-  pub another : (codeAt codes i ≡ i + 1 → ⊥) → false ≡ codesFirst e codes
-  unfolding codesFirst
+  pub another : (codeAt codes i ≡ i + 1 → ⊥) → false ≡ firstCodesOk e codes
+  unfolding firstCodesOk
   another n = stops w l refl (rw (ne-eqb _ _ n))
 
   pub its-own : codeAt codes i ≡ i + 1 → Passing (isFirst codes) e (i + 1)

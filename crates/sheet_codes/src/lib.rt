@@ -1,11 +1,11 @@
-// The catalogue codes of events (02, K1): all that is tested of them, over lent lists. A code may be any number. A lent
-// list does not tell that it has no 13th place, so the tests of the first `e` events take an E in range.
+// The catalogue codes of events (02, K1): all that is tested of them, over lent lists. A code may be any number. The
+// proofs do not know that a lent list has twelve places, so the tests of the first `e` events ask for an E up to 12.
 ghost use mathlib.Core.Path.{_≡_};
 ghost use mathlib.Core.Bool.{_||_};
 ghost use Prim.Native.Nat.{_≤_, _<_};
 ghost use lib.Dec.{eqb, ltb};
 ghost use Rattle.sheet_spec.specs.Kept.{codeAt};
-ghost use Rattle.sheet_spec.specs.Rules.{codeNew, codesOk, codesBlank, codesAgree, codesFirst};
+ghost use Rattle.sheet_spec.specs.Rules.{codeNew, codesOk, codesBlank, codesAgree, firstCodesOk};
 ghost use Rattle.sheet_spec.specs.Refusals.{sharedFault};
 
 // 18: whether no event before event `j` has its code.
@@ -92,7 +92,7 @@ pub fn shared_fault(e: u8, codes: &[u16; 12], other: u8, others: &[u16; 12]) -> 
 // Whether each of the first `e` events has its code of version 1: i + 1 for event i.
 pub fn is_first(codes: &[u16; 12], e: u8) -> bool
     requires { ⌜ e ≤ 12 ⌝ }
-    ensures { λ r. ⌜ r ≡ codesFirst e (now (codes .entry)) ⌝ }
+    ensures { λ r. ⌜ r ≡ firstCodesOk e (now (codes .entry)) ⌝ }
 {
     let used = e as usize;
     for i in 0..used {

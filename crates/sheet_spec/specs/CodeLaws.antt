@@ -1,8 +1,7 @@
 -- Nothing to believe: laws. Codes play no part in a sheet beside 18 and 7: with other codes it gets the same refusal,
--- as far as neither codes are refused. So with the codes of version 1 an accepted sheet is accepted too. Crates above
+-- where neither list of codes is refused. So with the codes of version 1 an accepted sheet is accepted too. Crates above
 -- say the same of verdicts and comparisons.
 use mathlib.Core.Path.{_≡_, refl, _∙_}
-use mathlib.Core.Logic.{_≢_}
 use mathlib.Core.Bool.{true, cond}
 use mathlib.Core.List.{List}
 use Prim.Native.Nat.{ℕ, _+_, _≤_, _<_}
@@ -11,12 +10,14 @@ use lib.Dec.{ltb}
 use borrow.Author.Tests.{lt-ltb, le-ltb, ne-eqb}
 use Rattle.base.specs.Finds.{finds-none}
 use Rattle.base.specs.Table.{getD-upTo, upTo-ext}
+use Rattle.sheet_spec.specs.declared.Row.{Row}
 use Rattle.sheet_spec.specs.declared.Sheet.{Sheet}
-use Rattle.sheet_spec.specs.Kept.{codeAt, firstCodes, recoded, step}
+use Rattle.sheet_spec.specs.Kept.{codeAt, firstCodes, sheetWith, recoded, step}
 use Rattle.sheet_spec.specs.Spelling.{version, eventCount, codeOf, codesOf}
 use Rattle.sheet_spec.specs.Rules.{codesOk, countsOk, successorsOk, setsOk, blanksOk, codesBlank, reachedOk}
+use Rattle.sheet_spec.specs.Encoding.{HasFirstCodes}
 use Rattle.sheet_spec.specs.Refusals.{sheetFault, Agree}
-use Rattle.sheet_spec.specs.Faults.{CodeTwice, GoodCodes}
+use Rattle.sheet_spec.specs.Faults.{GoodCodes}
 use Rattle.sheet_spec.specs.RuleLaws.{codes-find, blank-code-finds}
 use Rattle.sheet_spec.specs.SoundLaws.{check-sound}
 
@@ -47,9 +48,13 @@ first-good e h = ((λ w. w .4 (omega (arith, used (w .0) (w .2), used (w .1) (w 
     free : (i : ℕ) → e ≤ i → i < 12 → codeAt (firstCodes e) i ≡ 0
     free i k l = getD-upTo (λ i. cond (ltb i e) (i + 1) 0) 12 i 0 l ∙ rw (le-ltb i e k)
 
+-- the sheet of given rows has the codes of version 1
+pub with-first : (rows : List Row) (e n : ℕ) → e ≤ 12 → HasFirstCodes (sheetWith rows e n)
+with-first rows e n h i l = getD-upTo (λ i. cond (ltb i e) (i + 1) 0) 12 i 0 (omega arith) ∙ rw (lt-ltb i e l)
+
 -- an accepted sheet is accepted with the codes of version 1
-pub plain-accepted : (s : Sheet) → sheetFault s ≡ 0 → sheetFault (recoded s (firstCodes (s .e))) ≡ 0
-plain-accepted s h = recoded-fault s (firstCodes (s .e)) (accepted-codes s h) (first-good (s .e) (check-sound s h .ranges .e-high)) ∙ h
+pub first-accepted : (s : Sheet) → sheetFault s ≡ 0 → sheetFault (recoded s (firstCodes (s .e))) ≡ 0
+first-accepted s h = recoded-fault s (firstCodes (s .e)) (accepted-codes s h) (first-good (s .e) (check-sound s h .ranges .e-high)) ∙ h
 
 -- of two sheets alike but for codes the one, with the codes of the other, is the other
 pub recoded-is : (s t : Sheet) → s .rows ≡ t .rows → s .e ≡ t .e → s .n ≡ t .n → recoded s (t .codes) ≡ t

@@ -47,13 +47,13 @@ unfoldable pub encode : ℕ → Sheet → List ℕ
 encode version s = four (length (encodeBody version s)) ++ encodeBody version s
 
 -- the codes of a sheet are 1 to E: event i has i + 1
-abbrev pub FirstCodes : Sheet → Type 0
-FirstCodes s = (i : ℕ) → i < s .e → code s i ≡ i + 1
+abbrev pub HasFirstCodes : Sheet → Type 0
+HasFirstCodes s = (i : ℕ) → i < s .e → code s i ≡ i + 1
 
 -- a sheet can be written in this version: any in version 2, one whose codes are 1 to E in version 1
 abbrev pub Writable : ℕ → Sheet → Type 0
-Writable version s = (version ≡ 2) ⊎ ((version ≡ 1) × FirstCodes s)
+Writable version s = (version ≡ 2) ⊎ ((version ≡ 1) × HasFirstCodes s)
 
 -- these are the bytes of a sheet: in version 2, or in version 1 if its codes are 1 to E
 abbrev pub BytesOf : List ℕ → Sheet → Type 0
-BytesOf b s = (b ≡ encode 2 s) ⊎ ((b ≡ encode 1 s) × FirstCodes s)
+BytesOf b s = (version : ℕ) × Writable version s × (b ≡ encode version s)

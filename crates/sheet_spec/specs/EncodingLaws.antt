@@ -11,12 +11,12 @@ use native.Mathlib.Omega.{arith}
 use lib.ListN.{length, drop}
 use Rattle.sheet_spec.specs.declared.Sheet.{Sheet}
 use Rattle.sheet_spec.specs.declared.ReadSheet.{ReadSheet}
-use Rattle.sheet_spec.specs.Refusals.{headFault, layoutFault, bytesFault, sheetFault}
+use Rattle.sheet_spec.specs.Refusals.{headFault, layoutFault, bytesFault, sheetFault, Agree}
 use Rattle.sheet_spec.specs.Kept.{code}
 use Rattle.sheet_spec.specs.Form.{Bytes, SheetForm}
 use Rattle.sheet_spec.specs.Reading.{answer, readSheet, accepted}
 use Rattle.sheet_spec.specs.Spelling.{word, lengthField, version, eventCount, nodeCount, nodesAt, sheetOf}
-use Rattle.sheet_spec.specs.Encoding.{four, encode, FirstCodes, Writable, BytesOf}
+use Rattle.sheet_spec.specs.Encoding.{four, encode, HasFirstCodes, Writable, BytesOf}
 use Rattle.sheet_spec.specs.Places.{accepts, code-at-1, code-at-2, accepted-length, accepted-first}
 use Rattle.sheet_spec.specs.Accepted.{read-accepted}
 use Rattle.sheet_spec.specs.Spelled as spelled
@@ -42,9 +42,14 @@ pub read-back : (v : ℕ) (s : Sheet) → Writable v s → SheetForm s → sheet
 read-back v s w o h = reads (encode v s) (encode-accepted v s w o h) ∙ ap accepted (sheetOf-encode v s w o h)
 
 -- "a version 1 sheet counts as having code i + 1 for event i" (02, K1)
-pub version-1-codes : (b : List ℕ) → bytesFault b ≡ 0 → version b ≡ 1 → FirstCodes (sheetOf b)
+pub version-1-codes : (b : List ℕ) → bytesFault b ≡ 0 → version b ≡ 1 → HasFirstCodes (sheetOf b)
 unfolding sheetOf
 version-1-codes b h v i l = code-at-1 b (λ p. omega arith) i (omega (arith, l, accepts b h .ranged .e-high)) l
+
+-- so two version 1 sheets with one E agree
+pub version-1-agree : (a b : List ℕ) → bytesFault a ≡ 0 → bytesFault b ≡ 0 → version a ≡ 1 → version b ≡ 1 → eventCount a ≡ eventCount b → Agree (sheetOf a) (sheetOf b)
+unfolding sheetOf
+version-1-agree a b g h v w e = (e, λ i l. version-1-codes a g v i l ∙ sym (version-1-codes b h w i (omega (arith, l, e))))
 
 -- a version 2 sheet has for each event the code in its two bytes after N
 pub version-2-codes : (b : List ℕ) → bytesFault b ≡ 0 → version b ≡ 2 → (i : ℕ) → i < eventCount b → code (sheetOf b) i ≡ word b (7 + i * 2)
@@ -53,16 +58,15 @@ version-2-codes b h v i l = code-at-2 b v i (omega (arith, l, accepts b h .range
 
 -- accepted bytes are the bytes of the sheet that they spell in a version in which it can be written
 written : (b : List ℕ) → Bytes b → bytesFault b ≡ 0 → BytesOf b (sheetOf b)
-written b y h = go (accepts b h .headed .version-is)
+written b y h = (version b, go (accepts b h .headed .version-is), sym (encode-sheetOf b y h))
   where
-    go : (version b ≡ 1) ⊎ (version b ≡ 2) → BytesOf b (sheetOf b)
-    go (inl v) = inr (sym (ap (λ (x : ℕ). encode x (sheetOf b)) (sym v) ∙ encode-sheetOf b y h), version-1-codes b h v)
-    go (inr v) = inl (sym (ap (λ (x : ℕ). encode x (sheetOf b)) (sym v) ∙ encode-sheetOf b y h))
+    go : (version b ≡ 1) ⊎ (version b ≡ 2) → Writable (version b) (sheetOf b)
+    go (inl v) = inr (v, version-1-codes b h v)
+    go (inr v) = inl v
 
 -- the bytes of an accepted sheet are read as it
 pub reads-as : (b : List ℕ) (s : Sheet) → BytesOf b s → SheetForm s → sheetFault s ≡ 0 → readSheet b ≡ accepted s
-reads-as b s (inl e) o h = rw e (read-back 2 s (inl refl) o h)
-reads-as b s (inr (e, f)) o h = rw e (read-back 1 s (inr (refl, f)) o h)
+reads-as b s (v, w, e) o h = rw e (read-back v s w o h)
 
 -- bytes are read as a sheet exactly if it is not refused and they are its bytes in version 2, or in version 1 if its
 -- codes are 1 to E
@@ -90,8 +94,8 @@ encode-spelled = spelled.encode-spelled
 pub sheetOf-form : (b : List ℕ) → Bytes b → SheetForm (sheetOf b)
 sheetOf-form = formed.sheetOf-form
 
--- bytes are accepted exactly if they are the bytes, in version 2 or as far as its codes are 1 to E in version 1, of a
--- sheet of the machine's form that is not refused
+-- bytes are accepted exactly if they are the bytes, in version 2, or in version 1 if its codes are 1 to E, of a sheet
+-- of the machine's form that is not refused
 pub accepted-exactly : (b : List ℕ) → Bytes b
     → (bytesFault b ≡ 0) ↔ ((s : Sheet) × SheetForm s × (sheetFault s ≡ 0) × BytesOf b s)
 accepted-exactly b y = (to, from)
@@ -106,7 +110,7 @@ accepted-exactly b y = (to, from)
 pub encode-length : (v : ℕ) (s : Sheet) → Writable v s → SheetForm s → sheetFault s ≡ 0 → length (encode v s) ≤ 1471
 encode-length v s w o h = accepted-length (encode v s) (encode-accepted v s w o h)
 
-pub first-length : (s : Sheet) → FirstCodes s → SheetForm s → sheetFault s ≡ 0 → length (encode 1 s) ≤ 1447
+pub first-length : (s : Sheet) → HasFirstCodes s → SheetForm s → sheetFault s ≡ 0 → length (encode 1 s) ≤ 1447
 first-length s f o h = accepted-first (encode 1 s) (encode-accepted 1 s (inr (refl, f)) o h) (λ p. omega (arith, version-written 1 s))
 
 pub bytes-length : (b : List ℕ) (s : Sheet) → BytesOf b s → SheetForm s → sheetFault s ≡ 0 → length b ≤ 1471

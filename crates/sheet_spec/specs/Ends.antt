@@ -13,7 +13,6 @@ use Rattle.base.specs.Finds.{finds-none}
 use Rattle.base.specs.Table.{upTo, length-upTo, getD-upTo}
 use Rattle.sheet_spec.specs.declared.Row.{Row}
 use Rattle.sheet_spec.specs.Kept.{noRow}
-use Rattle.sheet_spec.specs.Rules.{countOk}
 use Rattle.sheet_spec.specs.Form.{Bytes, RowForm}
 use Rattle.sheet_spec.specs.Spelling.{eventCount, nodeCount, nodesAt, countAt, nextAt, startOf, rowAt}
 use Rattle.sheet_spec.specs.Refusals.{layoutFault}

@@ -1,7 +1,7 @@
 -- Nothing to believe: words for laws alone. What breaks the rules of a sheet (01, "Who can cause a refusal"; 02, K1),
--- said with "there is" and "for every" over nodes, places, events and lists, with no test in it; then what has no fault
--- up to a number, for bytes and for a kept sheet. CheckLaws and ReadLaws say that each refusal is given exactly for its
--- fault.
+-- said with "there is" and "for every" over nodes, places, events and lists, with no test in it but where the nodes
+-- begin (`nodesAt`); then what has no fault up to a number, for bytes and for a kept sheet. CheckLaws and ReadLaws say
+-- that each refusal is given exactly for its fault.
 use mathlib.Core.Path.{_≡_}
 use mathlib.Core.Logic.{_⊎_, _≢_}
 use mathlib.Core.List.{List, _++_}

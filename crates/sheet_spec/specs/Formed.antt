@@ -11,7 +11,7 @@ use Rattle.base.specs.Truth.{lt-or-ge}
 use Rattle.base.specs.Table.{upTo, length-upTo, getD-upTo}
 use Rattle.sheet_spec.specs.Kept.{noRow}
 use Rattle.sheet_spec.specs.Form.{Bytes, RowForm, SheetForm}
-use Rattle.sheet_spec.specs.Spelling.{word, version, eventCount, nodeCount, codeOf, countAt, startOf, succOf, setsOf, rowAt, unusedRow, rowOf, sheetOf}
+use Rattle.sheet_spec.specs.Spelling.{version, eventCount, nodeCount, codeOf, countAt, startOf, succOf, setsOf, rowAt, unusedRow, rowOf, sheetOf}
 
 -- a table of numbers below m
 table-below : (f : ℕ → ℕ) (n m : ℕ) → 0 < m → ((i : ℕ) → i < n → f i < m) → (i : ℕ) → getD (upTo f n) i 0 < m

@@ -13,7 +13,7 @@ use borrow.Author.Tests.{eqb-true, eq-eqb}
 use Rattle.base.specs.Truth.{dec}
 use Rattle.base.specs.Range.{all→, all←}
 use Rattle.base.specs.Finds.{finds-eq}
-use Rattle.base.specs.Refusal.{unless, orElse, unless→, unless←, unless-hit, unless-pass, unless-other, orElse-some, orElse-first, orElse-then, orElse-either, orElse-other}
+use Rattle.base.specs.Refusal.{orElse, unless→, unless←, unless-hit, unless-pass, unless-other, orElse-some, orElse-first, orElse-then, orElse-either, orElse-other}
 use Rattle.sheet_spec.specs.declared.Sheet.{Sheet}
 use Rattle.sheet_spec.specs.Kept.{codeAt, code}
 use Rattle.sheet_spec.specs.Rules.{codesAgree}

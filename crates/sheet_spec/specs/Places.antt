@@ -3,7 +3,7 @@
 -- refused puts each node whole into the bytes, one after another from behind the codes to the end.
 use mathlib.Core.Path.{_≡_, _∙_}
 use mathlib.Core.Logic.{_⊎_, inl, inr, _≢_}
-use mathlib.Core.Bool.{true, _&&_, _||_}
+use mathlib.Core.Bool.{true, _&&_}
 use mathlib.Core.List.{List}
 use Prim.Native.Nat.{ℕ, zero, suc, _+_, _-_, _*_, _≤_, _<_}
 use native.Mathlib.Nat.{sub-zero}
@@ -16,7 +16,7 @@ use Rattle.base.specs.Truth.{and-l, and-r, or-e}
 use Rattle.base.specs.Refusal.{unless→, orElse→}
 use Rattle.base.specs.Table.{getD-upTo}
 use Rattle.sheet_spec.specs.Kept.{codeAt}
-use Rattle.sheet_spec.specs.Rules.{rangesOk, codesOk, countOk}
+use Rattle.sheet_spec.specs.Rules.{versionOk, rangesOk, codesOk, countOk}
 use Rattle.sheet_spec.specs.RuleLaws.{between→, ranges→}
 use Rattle.sheet_spec.specs.Sound.{Ranges}
 use Rattle.sheet_spec.specs.Spelling.{word, lengthField, version, eventCount, nodeCount, nodesAt, codeOf, codesOf, countAt, nextAt, startOf, sheetOf}
@@ -34,7 +34,7 @@ pub head : (b : List ℕ) → headFault b ≡ 0 → Head b
 unfolding headFault
 head b h =
     let x = unless→ (leb 7 (length b) && eqb (lengthField b + 4) (length b)) 0 _ h in
-    let y = unless→ (eqb (version b) 1 || eqb (version b) 2) 1 _ (x .1) in
+    let y = unless→ (versionOk (version b)) 1 _ (x .1) in
     record {
       long = leb-true 7 (length b) (and-l (leb 7 (length b)) (eqb (lengthField b + 4) (length b)) (x .0));
       length-is = eqb-true (lengthField b + 4) (length b) (and-r (leb 7 (length b)) (eqb (lengthField b + 4) (length b)) (x .0));

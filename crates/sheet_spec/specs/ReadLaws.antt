@@ -3,7 +3,7 @@
 -- "after the codes are known to be complete and before the nodes are walked").
 use mathlib.Core.Path.{_≡_, refl, sym, _∙_}
 use mathlib.Core.Logic.{_⊎_, inl, inr, _≢_, _↔_, Iff·trans, Iff·and, Iff·rfl}
-use mathlib.Core.Bool.{_&&_, _||_}
+use mathlib.Core.Bool.{_&&_}
 use mathlib.Core.List.{List}
 use Prim.Native.Nat.{ℕ, _+_, _≤_, _<_}
 use native.Mathlib.Omega.{arith}
@@ -15,7 +15,7 @@ use Rattle.base.specs.Truth.{lt-or-ge}
 use Rattle.base.specs.Finds.{Finds, finds-as, finds-le, finds-eq, finds-and, finds-or}
 use Rattle.base.specs.Refusal.{unless, orElse, unless-hit, unless-pass, unless-other, unless-none, orElse-first, orElse-then, orElse-either, orElse-other}
 use Rattle.sheet_spec.specs.declared.Sheet.{Sheet}
-use Rattle.sheet_spec.specs.Rules.{rangesOk, codesOk, successorsOk, setsOk, reachedOk}
+use Rattle.sheet_spec.specs.Rules.{versionOk, rangesOk, codesOk, successorsOk, setsOk, reachedOk}
 use Rattle.sheet_spec.specs.Spelling.{lengthField, version, eventCount, nodeCount, nodesAt, codesOf, sheetOf}
 use Rattle.sheet_spec.specs.Refusals.{headFault, codesFault, layoutFault, graphFault, bytesFault, Own}
 use Rattle.sheet_spec.specs.Faults.{RangeFault, CodeTwice, SuccessorFault, SetFault, ReachFault, LengthFault, VersionFault, CodesCut, BytesCodeTwice, CutFault, BytesCountFault, ReadClear1, ReadClear2, ReadClear3, ReadClear18, ReadClear5, ReadClear6, ReadClear7}
@@ -48,7 +48,7 @@ module _ (b : List ℕ) where
   abbrev codesPart : ℕ
   codesPart = orElse (codesFault b) nodesPart
 
-  version-finds : Finds (eqb (version b) 1 || eqb (version b) 2) (VersionFault b)
+  version-finds : Finds (versionOk (version b)) (VersionFault b)
   version-finds = finds-or (finds-eq (version b) 1) (finds-eq (version b) 2)
 
   size-finds : Finds (leb 7 (length b) && eqb (lengthField b + 4) (length b)) (LengthFault b)
@@ -157,7 +157,7 @@ module _ (b : List ℕ) where
   pub read-1 : (bytesFault b ≡ 1) ↔ LengthFault b
   unfolding headFault
   read-1 = Iff·trans (in-head 1 (omega arith) (omega arith))
-      (unless-hit 1 _ size-finds (unless-other (eqb (version b) 1 || eqb (version b) 2) (λ p. omega arith) (unless-other (rangesOk (eventCount b) (nodeCount b)) (λ p. omega arith) (λ p. omega arith))))
+      (unless-hit 1 _ size-finds (unless-other (versionOk (version b)) (λ p. omega arith) (unless-other (rangesOk (eventCount b) (nodeCount b)) (λ p. omega arith) (λ p. omega arith))))
 
   pub read-2 : (bytesFault b ≡ 2) ↔ (ReadClear1 b × VersionFault b)
   unfolding headFault

@@ -3,7 +3,7 @@
 -- 3, 18 and 5 to 8. In both, a number is given where its test fails and no earlier one does; 0 is no refusal.
 use mathlib.Core.Path.{_≡_}
 use mathlib.Core.Logic.{_⊎_, _≢_}
-use mathlib.Core.Bool.{_&&_, _||_}
+use mathlib.Core.Bool.{_&&_}
 use mathlib.Core.List.{List}
 use Prim.Native.Nat.{ℕ, zero, suc, _+_, _≤_, _<_}
 use lib.Dec.{eqb, ltb, leb}
@@ -12,13 +12,13 @@ use Rattle.base.specs.Refusal.{unless, orElse}
 use Rattle.sheet_spec.specs.declared.Sheet.{Sheet}
 use Rattle.sheet_spec.specs.Kept.{code}
 use Rattle.sheet_spec.specs.Spelling.{lengthField, version, eventCount, nodeCount, nodesAt, codesOf, countAt, nextAt, sheetOf}
-use Rattle.sheet_spec.specs.Rules.{rangesOk, codesOk, countOk, countsOk, successorsOk, setsOk, blanksOk, codesBlank, reachedOk, codesAgree}
+use Rattle.sheet_spec.specs.Rules.{versionOk, rangesOk, codesOk, countOk, countsOk, successorsOk, setsOk, blanksOk, codesBlank, reachedOk, codesAgree}
 
 -- 1, 2, 3: the refusal of the bytes up to N
 unfoldable pub headFault : List ℕ → ℕ
 headFault b =
     unless (leb 7 (length b) && eqb (lengthField b + 4) (length b)) 1
-    (unless (eqb (version b) 1 || eqb (version b) 2) 2
+    (unless (versionOk (version b)) 2
     (unless (rangesOk (eventCount b) (nodeCount b)) 3 0))
 
 -- 4, 18: the refusal of the codes: cut off; one given twice

@@ -9,7 +9,7 @@ use native.Mathlib.Nat.{eq-or-lt-of-le}
 use lib.Dec.{eqb, ltb, leb}
 use borrow.Author.Tests.{leb-true, ltb-true, lt-ltb, le-ltb, eqb-true, eqb-false, ne-eqb, not-true}
 use Rattle.base.specs.Truth.{dec, clash, and-l, and-r, lt-or-ge}
-use Rattle.base.specs.Range.{all, all→, not-all}
+use Rattle.base.specs.Range.{all, all→}
 use Rattle.base.specs.Finds.{Finds, finds-as, finds-none, finds-le, finds-lt, finds-eq, finds-and, finds-or, finds-all, finds-not}
 use Rattle.events.specs.Bit.{bit, bit≤1, bits-zero, bit-high, setOf, setOf-lt, bit-setOf, Within, within-le}
 use Rattle.events.specs.Sets.{inside, inside→, inside-not, inside-missing}
@@ -18,7 +18,7 @@ use Rattle.walks.specs.Reach.{nearer, nearer-all}
 use Rattle.sheet_spec.specs.declared.Row.{Row}
 use Rattle.sheet_spec.specs.declared.Sheet.{Sheet}
 use Rattle.sheet_spec.specs.Kept.{codeAt, code, row, successor, acceptance, initials, Initial, step, graph, Walk}
-use Rattle.sheet_spec.specs.Rules.{between, rangesOk, codeNew, codesOk, countOk, countsOk, successorOk, rowSuccessorsOk, successorsOk, ascends, noneInside, setOk, rowSetsOk, setsOk, blank, unusedOk, blanksOk, codesBlank, reachedOk, codesAgree, codesFirst}
+use Rattle.sheet_spec.specs.Rules.{between, rangesOk, codeNew, codesOk, countOk, countsOk, successorOk, rowSuccessorsOk, successorsOk, ascends, noneInside, setOk, rowSetsOk, setsOk, blank, unusedOk, blanksOk, codesBlank, reachedOk, codesAgree, firstCodesOk}
 use Rattle.sheet_spec.specs.Faults.{RangeFault, CodeTwice, BadCount, CountFault, SuccessorFault, RowSetFault, descends, outside, includes, stops, SetFault, UnusedFault, event, place, node-successor, node-set, node-count, event-code, ReachFault}
 use Rattle.sheet_spec.specs.Sound.{Ranges}
 
@@ -64,8 +64,8 @@ unfolding codesAgree
 agree-finds e codes others = finds-all e (λ i h. finds-eq (codeAt codes i) (codeAt others i))
 
 -- the test of version 1's codes finds an event with another code
-pub first-finds : (e : ℕ) (codes : List ℕ) → Finds (codesFirst e codes) ((i : ℕ) × (i < e) × (codeAt codes i ≢ i + 1))
-unfolding codesFirst
+pub first-finds : (e : ℕ) (codes : List ℕ) → Finds (firstCodesOk e codes) ((i : ℕ) × (i < e) × (codeAt codes i ≢ i + 1))
+unfolding firstCodesOk
 first-finds e codes = finds-all e (λ i h. finds-eq (codeAt codes i) (i + 1))
 
 -- 5: the test of a C, and that of all nodes, find their faults

@@ -16,6 +16,10 @@ use Rattle.sheet_spec.specs.Kept.{codeAt, row, successor, acceptance, in
 abbrev pub between : ℕ → ℕ → ℕ → Bool
 between low high x = leb low x && leb x high
 
+-- 2: the version is 1 or 2
+abbrev pub versionOk : ℕ → Bool
+versionOk version = eqb version 1 || eqb version 2
+
 -- 3: E is 1 to 12, N is 1 to 32
 unfoldable pub rangesOk : ℕ → ℕ → Bool
 rangesOk e n = between 1 12 e && between 1 32 n
@@ -93,5 +97,5 @@ unfoldable pub codesAgree : ℕ → List ℕ → List ℕ → Bool
 codesAgree e codes others = all (λ i. eqb (codeAt codes i) (codeAt others i)) e
 
 -- each of the first e events has its code of version 1: i + 1 for event i
-unfoldable pub codesFirst : ℕ → List ℕ → Bool
-codesFirst e codes = all (λ i. eqb (codeAt codes i) (i + 1)) e
+unfoldable pub firstCodesOk : ℕ → List ℕ → Bool
+firstCodesOk e codes = all (λ i. eqb (codeAt codes i) (i + 1)) e

@@ -1,7 +1,7 @@
 -- Nothing to believe: laws. A sheet that is not refused is what 01 says of an accepted one, item by item: what upper
 -- crates use of it.
 use mathlib.Core.Path.{_≡_}
-use mathlib.Core.Logic.{_⊎_, inl, inr, _≢_}
+use mathlib.Core.Logic.{_⊎_, inl, inr}
 use mathlib.Core.Bool.{true}
 use mathlib.Core.List.{List}
 use Prim.Native.Nat.{ℕ, _*_, _≤_, _<_}

@@ -18,7 +18,7 @@ use Rattle.base.specs.Table.{upTo}
 use Rattle.sheet_spec.specs.declared.Row.{Row}
 use Rattle.sheet_spec.specs.declared.Sheet.{Sheet}
 use Rattle.sheet_spec.specs.Kept.{noRow, code, row, successor, acceptance}
-use Rattle.sheet_spec.specs.Rules.{rangesOk, codesOk, countOk, countsOk, blank, unusedOk, blanksOk, codesBlank}
+use Rattle.sheet_spec.specs.Rules.{versionOk, rangesOk, codesOk, countOk, countsOk, blank, unusedOk, blanksOk, codesBlank}
 use Rattle.sheet_spec.specs.Refusals.{headFault, codesFault, layoutFault, bytesFault, sheetFault}
 use Rattle.sheet_spec.specs.Form.{SheetForm}
 use Rattle.sheet_spec.specs.Spelling.{byte, word, lengthField, version, eventCount, nodeCount, nodesAt, codeOf, codesOf, countAt, nextAt, startOf, succOf, setsOf, rowAt, unusedRow, rowOf, sheetOf}
@@ -29,7 +29,7 @@ use Rattle.sheet_spec.specs.Accepted.{Passes, passes, graph-passed}
 use Rattle.sheet_spec.specs.Slices.{getD-inside, upTo-is, getD-tail, drop-tail, length-tail}
 
 -- two rows with the same fields are one row
-row-path : (x y : Row) → x .succ ≡ y .succ → x .sets ≡ y .sets → x .c ≡ y .c → x ≡ y
+pub row-path : (x y : Row) → x .succ ≡ y .succ → x .sets ≡ y .sets → x .c ≡ y .c → x ≡ y
 row-path x y p q r = λ i. record { succ = p i; sets = q i; c = r i }
 
 -- what a row that is left blank holds from a place on
@@ -217,7 +217,7 @@ module _ (v : ℕ) (s : Sheet) where
   rest-written = refl
 
 -- a version in which a sheet can be written is 1 or 2
-version-is : (v : ℕ) (s : Sheet) → Writable v s → (eqb v 1 || eqb v 2) ≡ true
+version-is : (v : ℕ) (s : Sheet) → Writable v s → versionOk v ≡ true
 version-is v s (inl e) = rw e
 version-is v s (inr (e, f)) = rw e
 
@@ -303,7 +303,7 @@ module _ (s : Sheet) (o : SheetForm s) (p : Passes s) where
     unfolding headFault
     head-written =
         unless← 1 (and-i (le-leb 7 (length (encode v s)) (long v s)) (eq-eqb (lengthField (encode v s) + 4) (length (encode v s)) (length-written v s)))
-        (unless← {t = eqb (version (encode v s)) 1 || eqb (version (encode v s)) 2} 2 (rw (version-written v s) (version-is v s w))
+        (unless← {t = versionOk (version (encode v s))} 2 (rw (version-written v s) (version-is v s w))
         (unless← {t = rangesOk (eventCount (encode v s)) (nodeCount (encode v s))} 3 (rw (events-written v s, nodes-written v s) (p .p3)) refl))
 
     codes-written : codesOf (encode v s) ≡ s .codes
@@ -347,7 +347,7 @@ module _ (s : Sheet) (o : SheetForm s) (p : Passes s) where
         go u m (inr h) = rw (le-ltb u (s .n) h) (sym (unused u m h))
 
 -- two sheets with the same fields are one sheet
-sheet-path : (x y : Sheet) → x .rows ≡ y .rows → x .e ≡ y .e → x .n ≡ y .n → x .codes ≡ y .codes → x ≡ y
+pub sheet-path : (x y : Sheet) → x .rows ≡ y .rows → x .e ≡ y .e → x .n ≡ y .n → x .codes ≡ y .codes → x ≡ y
 sheet-path x y p q r t = λ i. record { rows = p i; e = q i; n = r i; codes = t i }
 
 -- the bytes of an accepted sheet spell that sheet

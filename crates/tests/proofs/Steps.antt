@@ -9,7 +9,7 @@ use Rattle.base.specs.Refusal.{unless, orElse-some}
 use Rattle.sheet_spec.specs.declared.Sheet.{Sheet}
 use Rattle.sheet_spec.specs.Kept.{row, firstCodes, sheetWith}
 use Rattle.sheet_spec.specs.Refusals.{sheetFault}
-use Rattle.sheet_spec.specs.CodeLaws.{plain-accepted}
+use Rattle.sheet_spec.specs.CodeLaws.{first-accepted}
 use Rattle.tests_spec.specs.declared.Run.{Run}
 use Rattle.tests_spec.specs.declared.Report.{Report}
 use Rattle.tests_spec.specs.declared.Answer.the-variants.{Going, Denied}
@@ -79,7 +79,7 @@ module _ (s : Sheet) (r : Run) (report : Report) where
 -- the sheet of the rows copied out answers as the sheet: codes play no part
 module _ (s : Sheet) (r : Run) {f g n e : ℕ} (p : f ≡ sheetFault s) (z : f ≡ 0) (dn : n ≡ s .n) (de : e ≡ s .e) (q : g ≡ recordFault n r) (y : g ≡ 0) where
   pub apart-requires : (sheetFault (sheetWith (s .rows) e n) ≡ 0) × (recordFault n r ≡ 0)
-  apart-requires = (rw (dn, de) (plain-accepted s (sym p ∙ z)), sym q ∙ y)
+  apart-requires = (rw (dn, de) (first-accepted s (sym p ∙ z)), sym q ∙ y)
 
   pub apart : {report report′ : Report} {o : Stepped} → report ≡ report′ → o ≡ stepOf (sheetWith (s .rows) e n) r report′ → o ≡ stepOf s r report
-  apart {report} u h = h ∙ rw (dn, de, ← u) (recoded-step s (firstCodes (s .e)) (sym p ∙ z) (plain-accepted s (sym p ∙ z)) r report)
+  apart {report} u h = h ∙ rw (dn, de, ← u) (recoded-step s (firstCodes (s .e)) (sym p ∙ z) (first-accepted s (sym p ∙ z)) r report)

@@ -1,6 +1,6 @@
--- Nothing to believe: laws. Codes play no part in a live run but by a sheet's own refusal: sheets that are alike but for
--- codes open alike and answer alike, wherever neither is refused.
-use mathlib.Core.Path.{_≡_, refl}
+-- Nothing to believe: laws. Codes play no part in a live run but by a sheet's own refusal: sheets that are alike but
+-- for codes open alike and answer alike, wherever neither is refused.
+use mathlib.Core.Path.{_≡_}
 use mathlib.Core.Bool.{Bool}
 use mathlib.Core.List.{List}
 use Prim.Native.Nat.{ℕ}

@@ -11,7 +11,7 @@ use Rattle.walks.specs.Graph.{walk}
 use Rattle.walks.specs.Reach.{nearer, leads}
 use Rattle.sheet_spec.specs.declared.Row.{Row}
 use Rattle.sheet_spec.specs.Kept.{successor, acceptance, acceptances, initials, mayStop, step}
-use Rattle.sheet_spec.specs.Rules.{rangesOk, countOk, successorOk, rowSuccessorsOk, successorsOk, ascends, noneInside, setOk, rowSetsOk, setsOk, reachedOk, codeNew, codesOk, codesFirst}
+use Rattle.sheet_spec.specs.Rules.{rangesOk, countOk, successorOk, rowSuccessorsOk, successorsOk, ascends, noneInside, setOk, rowSetsOk, setsOk, reachedOk, codeNew, codesOk, firstCodesOk}
 use Rattle.sheet_spec.specs.Reading.{answer, readSheet}
 use Rattle.sheet_spec.specs.Examples.{codedReference, codedDevice}
 use Rattle.sheet_spec.specs.Spelling.{lengthField, nextAt, startOf, succOf, setsOf, rowAt, rowOf, sheetOf, codeOf, nodesAt}
@@ -79,7 +79,7 @@ texts =
 
 -- one equation has the texts of all inputs
 pub texts-hold : map showText inputs ≡ texts
-unfolding inputs texts threeNodes codedReference codedDevice showText cutInput showLines bodyLines codesLines codesFirst codeLine nodeLines rowLines restLines acceptanceLine acceptsLine successorLine eventLine headLine refusedSheetLine refusalWords ruleWords joined numberLine sheetLine setWords members eventsIn select gather eventList decimal decimalIn readSheet answer bytesFault headFault lengthField layoutFault nextAt startOf succOf setsOf rowAt rowOf sheetOf graphFault rangesOk countOk successorOk rowSuccessorsOk successorsOk ascends noneInside setOk rowSetsOk setsOk reachedOk successor acceptance acceptances initials mayStop step bit setOf has inside nearer leads walk all any upTo codesFault nodesAt codeOf codesOk codeNew
+unfolding inputs texts threeNodes codedReference codedDevice showText cutInput showLines bodyLines codesLines firstCodesOk codeLine nodeLines rowLines restLines acceptanceLine acceptsLine successorLine eventLine headLine refusedSheetLine refusalWords ruleWords joined numberLine sheetLine setWords members eventsIn select gather eventList decimal decimalIn readSheet answer bytesFault headFault lengthField layoutFault nextAt startOf succOf setsOf rowAt rowOf sheetOf graphFault rangesOk countOk successorOk rowSuccessorsOk successorsOk ascends noneInside setOk rowSetsOk setsOk reachedOk successor acceptance acceptances initials mayStop step bit setOf has inside nearer leads walk all any upTo codesFault nodesAt codeOf codesOk codeNew
 texts-hold = refl
 
 -- the lines of `probe_list` for a list of probes, a node that may stop, and a refusal

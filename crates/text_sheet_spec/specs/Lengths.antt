@@ -9,8 +9,7 @@ use native.Mathlib.Nat.{mul-le-mul}
 use native.Mathlib.Decide.{ℕ-discrete}
 use native.Mathlib.Omega.{arith}
 use lib.Dec.{eqb}
-use lib.ListN.{length, getD, take, length-append, length-take, List·getD-eq-default}
-use lib.Seq.{getD-take}
+use lib.ListN.{length, getD, length-append}
 use lib.Pow.{pow-mono}
 use borrow.Author.Tests.{eqb-true}
 use Rattle.base.specs.Truth.{dec, lt-or-ge}
@@ -18,7 +17,7 @@ use Rattle.sheet_spec.specs.declared.Sheet.{Sheet}
 use Rattle.sheet_spec.specs.Kept.{codeAt, row, successor, acceptance, acceptances, mayStop}
 use Rattle.sheet_spec.specs.Form.{Bytes, SheetForm}
 use Rattle.sheet_spec.specs.Refusals.{sheetFault}
-use Rattle.sheet_spec.specs.Rules.{codesFirst}
+use Rattle.sheet_spec.specs.Rules.{firstCodesOk}
 use Rattle.sheet_spec.specs.Reading.{readSheet}
 use Rattle.sheet_spec.specs.AnswerLaws.{read-refusal, read-kept}
 use Rattle.sheet_spec.specs.ReadLaws.{read-numbers}
@@ -183,7 +182,7 @@ codes-length : (e : ℕ) (codes : List ℕ) → e ≤ 12 → ((i : ℕ) → code
 unfolding codesLines
 codes-length e codes h f =
     let m : e * 14 ≤ 12 * 14 = mul-le-mul h (le-self 14) in
-    pick-length (codesFirst e codes) [] (joined (codeLine codes) e) 168 (omega arith)
+    pick-length (firstCodesOk e codes) [] (joined (codeLine codes) e) 168 (omega arith)
     (omega (arith, joined-length (codeLine codes) 14 e (λ i l. code-length codes i (omega arith) (omega (arith, f i)))))
 
 nodes-length : (s : Sheet) → sheetFault s ≡ 0 → length (joined (nodeLines s) (s .n)) ≤ 39808

@@ -8,7 +8,7 @@ use Rattle.sheet_spec.specs.declared.Row.{Row}
 use Rattle.sheet_spec.specs.declared.Sheet.{Sheet}
 use Rattle.sheet_spec.specs.declared.ReadSheet.{ReadSheet}
 use Rattle.sheet_spec.specs.Kept.{codeAt, row, successor, acceptance, mayStop}
-use Rattle.sheet_spec.specs.Rules.{codesFirst}
+use Rattle.sheet_spec.specs.Rules.{firstCodesOk}
 use Rattle.sheet_spec.specs.Reading.{readSheet}
 use Rattle.text_spec.specs.Lines.{ascii, numberLine, numbersText}
 use Rattle.text_spec.specs.Sets.{setWords}
@@ -22,7 +22,7 @@ codeLine codes i = numbersText (ascii "code ") i (ascii " ") (codeAt codes i) (a
 
 -- the lines of the codes of the first e events in order, none where they are those of version 1
 unfoldable pub codesLines : ℕ → List ℕ → List ℕ
-codesLines e codes = cond (codesFirst e codes) [] (joined (codeLine codes) e)
+codesLines e codes = cond (firstCodesOk e codes) [] (joined (codeLine codes) e)
 
 -- the line of an event that leads to node w: `event i to w`
 unfoldable pub eventLine : ℕ → ℕ → List ℕ

@@ -14,17 +14,17 @@ use Rattle.sheet_spec.specs.declared.Row.{Row}
 use Rattle.sheet_spec.specs.declared.Sheet.{Sheet}
 use Rattle.sheet_spec.specs.declared.ReadSheet.{ReadSheet}
 use Rattle.sheet_spec.specs.Kept.{code, successor, mayStop}
-use Rattle.sheet_spec.specs.Rules.{codesFirst}
+use Rattle.sheet_spec.specs.Rules.{firstCodesOk}
 use Rattle.sheet_spec.specs.RuleLaws.{first-finds}
 use Rattle.sheet_spec.specs.Chains.{settled}
 use Rattle.sheet_spec.specs.Spelling.{version}
 use Rattle.sheet_spec.specs.Reading.{readSheet}
-use Rattle.sheet_spec.specs.Encoding.{FirstCodes}
+use Rattle.sheet_spec.specs.Encoding.{HasFirstCodes}
 use Rattle.sheet_spec.specs.AnswerLaws.{read-refusal, read-kept}
 use Rattle.sheet_spec.specs.EncodingLaws.{reads, version-1-codes}
 use Rattle.sheet_spec.specs.SoundLaws.{check-sound}
 use Rattle.text_spec.specs.Lines.{ascii, numbersText, sheetLine}
-use Rattle.text_spec.specs.InputLaws.{cut-more}
+use Rattle.text_spec.specs.InputLaws.{cut-short, cut-more}
 use Rattle.text_spec.specs.Joined.{joined}
 use Rattle.text_sheet_spec.specs.Head.{refusedSheetLine, headLine}
 use Rattle.text_sheet_spec.specs.Show.{codeLine, codesLines, eventLine, successorLine, acceptanceLine, restLines, nodeLines, bodyLines, showLines, showText}
@@ -50,12 +50,12 @@ unfolding showLines
 show-refused a h = rw (ne-eqb (a .refusal) 0 h) (append-nil (headLine a))
 
 -- codes of version 1 have no line
-pub codes-first : (e : ℕ) (codes : List ℕ) → codesFirst e codes ≡ true → codesLines e codes ≡ []
+pub codes-first : (e : ℕ) (codes : List ℕ) → firstCodesOk e codes ≡ true → codesLines e codes ≡ []
 unfolding codesLines
 codes-first e codes t = rw t
 
 -- other codes have a line for each event, in order
-pub codes-other : (e : ℕ) (codes : List ℕ) → codesFirst e codes ≡ false → codesLines e codes ≡ joined (codeLine codes) e
+pub codes-other : (e : ℕ) (codes : List ℕ) → firstCodesOk e codes ≡ false → codesLines e codes ≡ joined (codeLine codes) e
 unfolding codesLines
 codes-other e codes t = rw t
 
@@ -71,17 +71,17 @@ line-some codes i = omega arith
 
 module _ (s : Sheet) where
   -- no code is printed exactly if every event i has the code i + 1
-  pub codes-none : (codesLines (s .e) (s .codes) ≡ []) ↔ FirstCodes s
+  pub codes-none : (codesLines (s .e) (s .codes) ≡ []) ↔ HasFirstCodes s
   codes-none = (to, from)
     where
-      to : codesLines (s .e) (s .codes) ≡ [] → FirstCodes s
-      to p i l = go (dec (codesFirst (s .e) (s .codes)))
+      to : codesLines (s .e) (s .codes) ≡ [] → HasFirstCodes s
+      to p i l = go (dec (firstCodesOk (s .e) (s .codes)))
         where
-          go : (codesFirst (s .e) (s .codes) ≡ true) ⊎ (codesFirst (s .e) (s .codes) ≡ false) → code s i ≡ i + 1
+          go : (firstCodesOk (s .e) (s .codes) ≡ true) ⊎ (firstCodesOk (s .e) (s .codes) ≡ false) → code s i ≡ i + 1
           go (inl t) = settled (code s i) (i + 1) (λ n. first-finds (s .e) (s .codes) .clear t (i, l, n))
           go (inr t) = absurd (joined-some (codeLine (s .codes)) (s .e) i l (line-some (s .codes)) (sym (codes-other (s .e) (s .codes) t) ∙ p))
 
-      from : FirstCodes s → codesLines (s .e) (s .codes) ≡ []
+      from : HasFirstCodes s → codesLines (s .e) (s .codes) ≡ []
       from f = codes-first (s .e) (s .codes) (finds-none (first-finds (s .e) (s .codes)) (λ w. w .2 (f (w .0) (w .1))))
 
   -- where some event i has another code than i + 1, every event has a line with its number and its code, in order
@@ -95,8 +95,13 @@ pub version-1-shown : (b : List ℕ) → readSheet b .refusal ≡ 0 → version 
     → showLines (readSheet b) ≡ headLine (readSheet b) ++ joined (nodeLines (readSheet b .sheet)) (readSheet b .sheet .n)
 version-1-shown b h v = rw (show-accepted (readSheet b) h, codes-none (readSheet b .sheet) .1 first)
   where
-    first : FirstCodes (readSheet b .sheet)
+    first : HasFirstCodes (readSheet b .sheet)
     first = let z = rw (read-refusal b) at h in rw (reads b z) (version-1-codes b z v)
+
+-- an input of at most 4,096 bytes, so every sheet, is read whole
+pub show-whole : (input : List ℕ) → length input ≤ 4096 → showText input ≡ showLines (readSheet input)
+unfolding showText
+show-whole input h = ap (λ (b : List ℕ). showLines (readSheet b)) (cut-short input h)
 
 -- bytes behind 4,096 count as absent
 pub later-absent : (input more : List ℕ) → length input ≡ 4096 → showText (input ++ more) ≡ showText input

@@ -1,11 +1,11 @@
--- Nothing to believe: laws. Codes play no part in a verdict but by its refusals: sheets that are alike but for codes get
--- the same verdicts, test by test and all together, wherever neither pair is refused.
+-- Nothing to believe: laws. Codes play no part in a verdict but by its refusals: sheets that are alike but for codes
+-- get the same verdicts, test by test and all together, wherever neither pair is refused.
 use mathlib.Core.Path.{_≡_, refl, sym, ap, _∙_}
 use mathlib.Core.Bool.{Bool, not, _&&_, _||_}
 use mathlib.Core.List.{List}
 use Prim.Native.Nat.{ℕ, zero, suc, _<_}
 use lib.Dec.{ltb}
-use Rattle.base.specs.Range.{any, any-ext}
+use Rattle.base.specs.Range.{any-ext}
 use Rattle.base.specs.Table.{upTo-ext}
 use Rattle.base.specs.Front.{atFront}
 use Rattle.sheet_spec.specs.declared.Sheet.{Sheet}
@@ -14,9 +14,9 @@ use Rattle.refinement_spec.specs.ViolatingPairs.{hasStray, violating}
 use Rattle.verdicts_spec.specs.Verdicts.{failsFrom, verdictFault, verdictOf}
 use Rattle.verdicts_spec.specs.declared.Verdict.{Verdict}
 use Rattle.verdicts_spec.specs.Numbers.{judged}
-use Rattle.verdicts_spec.specs.Suites.{testCount, verdictNumber, suiteFault, verdictsAfter}
+use Rattle.verdicts_spec.specs.Suites.{testCount, verdictNumber, suiteFault, suiteOf, verdictsAfter}
 use Rattle.verdicts_spec.specs.VerdictLaws.{verdict-given}
-use Rattle.verdicts_spec.specs.SuiteLaws.{suite-0, given-verdicts}
+use Rattle.verdicts_spec.specs.SuiteLaws.{suite-0, given-suite, given-verdicts}
 use Rattle.verdicts_spec.specs.Complete.{none-refused}
 
 module _ (traceOnly : Bool) (P Q : Sheet) (c d : List ℕ) where
@@ -33,6 +33,12 @@ module _ (traceOnly : Bool) (P Q : Sheet) (c d : List ℕ) where
       → verdictOf traceOnly (recoded P c) (recoded Q d) k ≡ verdictOf traceOnly P Q k
   recoded-verdict k z y =
       verdict-given (recoded P c) (recoded Q d) k traceOnly y ∙ rw (recoded-fails k 0 0) (sym (verdict-given P Q k traceOnly z))
+
+  -- neither refused, two pairs alike but for codes get one answer for all tests
+  pub recoded-answer : (out : List ℕ) → suiteFault P Q out ≡ 0 → suiteFault (recoded P c) (recoded Q d) out ≡ 0
+      → suiteOf (recoded P c) (recoded Q d) out ≡ suiteOf P Q out
+  unfolding testCount
+  recoded-answer out z y = given-suite (recoded P c) (recoded Q d) out y ∙ sym (given-suite P Q out z)
 
   -- neither refused, two pairs alike but for codes leave one list of verdicts
   pub recoded-suite : (out : List ℕ) → suiteFault P Q out ≡ 0 → suiteFault (recoded P c) (recoded Q d) out ≡ 0

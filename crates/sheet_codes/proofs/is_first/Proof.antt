@@ -2,7 +2,7 @@
 use Prim.Native.Nat.{_-_}
 use native.Mathlib.Omega.{arith}
 use Rattle.base.specs.Loops.{Passing, starts, ends}
-use Rattle.sheet_spec.specs.Rules.{codesFirst}
+use Rattle.sheet_spec.specs.Rules.{firstCodesOk}
 use Rattle.sheet_codes.proofs.Steps.{isFirst, another, its-own}
 use Rattle.sheet_codes.proofs.is_first.Statement.{statement}
 use Rattle.sheet_codes.proofs.is_first.Tie as tie
@@ -41,7 +41,7 @@ loop-again : tie.Need-loop-again Inv-loop μ-loop
 loop-again c = search its-own
 
 returns-2 : tie.Need-returns-2 Inv-loop μ-loop
-unfolding codesFirst
+unfolding firstCodesOk
 returns-2 c = search ends
 
 pub is-first-spec : {M : Type 1} → statement M
