@@ -37,7 +37,7 @@ fn the_samples() {
             }
         }
     }
-    assert!(texts >= 22, "{texts}");
+    assert!(texts >= 42, "{texts}");
 }
 
 #[test]

@@ -1,6 +1,6 @@
 -- Nothing to believe: laws. A sheet that is not refused is what 01 says of an accepted one, item by item: what upper
 -- crates use of it.
-use mathlib.Core.Path.{_≡_}
+use mathlib.Core.Path.{_≡_, sym, _∙_}
 use mathlib.Core.Logic.{_⊎_, inl, inr}
 use mathlib.Core.Bool.{true}
 use mathlib.Core.List.{List}
@@ -104,3 +104,7 @@ module _ (s : Sheet) (h : sheetFault s ≡ 0) where
           let p : nearer (graph s) (s .n) v ≡ true = unfold reachedOk in all→ (nearer (graph s) (s .n)) (s .n) v (passes s h .p8) l in
           let w = nearer-all (graph-wellFormed s (good .n-low)) (s .n) v (omega arith) l .0 p in
           (w .0, Walk← s (good .n-low) 0 (w .0) v l (w .1))
+
+-- a sheet whose check answered 0 has at most twelve events
+pub events-few : (s : Sheet) {f : ℕ} → f ≡ sheetFault s → f ≡ 0 → s .e ≤ 12
+events-few s p z = check-sound s (sym p ∙ z) .ranges .e-high

@@ -9,17 +9,12 @@ use Rattle.sheet_spec.specs.declared.Sheet.{Sheet}
 use Rattle.sheet_spec.specs.Kept.{firstCodes, sheetWith}
 use Rattle.sheet_spec.specs.Refusals.{sheetFault, sharedFault}
 use Rattle.sheet_spec.specs.PairFaults.{shared-0}
-use Rattle.sheet_spec.specs.SoundLaws.{check-sound}
 use Rattle.verdicts_spec.specs.declared.Verdict.{Verdict}
 use Rattle.verdicts_spec.specs.declared.Verdict.the-variants.{Passes, Fails, Denied}
 use Rattle.verdicts_spec.specs.Verdicts.{failsFrom, verdictFault, verdictOf}
 use Rattle.verdicts_spec.specs.Numbers.{judged}
 use Rattle.verdicts_spec.specs.NumberLaws.{verdict-refusal}
 use Rattle.verdicts_spec.specs.Recoded.{recoded-fails}
-
--- an accepted sheet has at most twelve events
-pub events-few : (P : Sheet) {f : ℕ} → f ≡ sheetFault P → f ≡ 0 → P .e ≤ 12
-events-few P p z = check-sound P (sym p ∙ z) .ranges .e-high
 
 -- the verdict of the definition says the refusal of the call
 pub told : (P Q : Sheet) (k : ℕ) (traceOnly : Bool) {v : Verdict} → v ≡ verdictOf traceOnly P Q k → (v ≡ verdictOf traceOnly P Q k) × (judged v .refusal ≡ verdictFault P Q k)

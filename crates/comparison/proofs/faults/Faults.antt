@@ -1,5 +1,5 @@
 -- The refusal of a comparison, picked test by test: one law for each way out of `fault_on`.
-use mathlib.Core.Path.{_≡_, sym, _∙_}
+use mathlib.Core.Path.{_≡_, sym}
 use mathlib.Core.Logic.{_≢_}
 use Prim.Native.Nat.{ℕ, _-_, _*_, _≤_, _<_}
 use native.Mathlib.Omega.{arith}
@@ -11,10 +11,6 @@ use Rattle.sheet_spec.specs.Refusals.{sheetFault, sharedFault}
 use Rattle.sheet_spec.specs.SoundLaws.{nodes-most, check-sound}
 use Rattle.comparison_spec.specs.Comparison.{pairCount}
 use Rattle.comparison.specs.FaultOn.{faultOn}
-
--- an accepted sheet has at most twelve events
-pub events-few : (P : Sheet) {j : ℕ} → j ≡ sheetFault P → j ≡ 0 → P .e ≤ 12
-events-few P p z = check-sound P (sym p ∙ z) .ranges .e-high
 
 -- two sheets that are not refused have 1 to 1,024 pairs of nodes
 pub size-of : (P Q : Sheet) (a b : ℕ) → sheetFault P ≡ 0 → sheetFault Q ≡ 0 → a ≡ P .n → b ≡ Q .n → (1 ≤ a * b) × (a * b ≤ 1024)

@@ -1,5 +1,6 @@
 -- The tests are those of the definition, in its order.
-use Rattle.verdicts.proofs.Verdicts.{told, events-few, by-reference, by-device, by-shared, by-number, by-failing, by-passing}
+use Rattle.sheet_spec.specs.SoundLaws.{events-few}
+use Rattle.verdicts.proofs.Verdicts.{told, by-reference, by-device, by-shared, by-number, by-failing, by-passing}
 use Rattle.verdicts.proofs.Judging.{sizes}
 use Rattle.verdicts.proofs.judge.Statement.{statement}
 use Rattle.verdicts.proofs.judge.Tie as tie

@@ -1,6 +1,6 @@
 -- The tests are those of the definition, in its order; then one pass writes the verdicts.
 use native.Mathlib.Omega.{arith}
-use Rattle.verdicts.proofs.Verdicts.{events-few}
+use Rattle.sheet_spec.specs.SoundLaws.{events-few}
 use Rattle.verdicts.proofs.Judging.{by-reference, by-device, by-shared, sizes, few, by-room, by-pass}
 use Rattle.verdicts.proofs.judge_all.Statement.{statement}
 use Rattle.verdicts.proofs.judge_all.Tie as tie

@@ -1,7 +1,8 @@
 -- `faults::fault_on` makes the tests of the definition in their order.
 use mathlib.Core.Path.{sym, _∙_}
 use native.Mathlib.Omega.{arith}
-use Rattle.comparison.proofs.faults.Faults.{events-few, size-of, own, other, unshared, twelve, thirteen, none}
+use Rattle.sheet_spec.specs.SoundLaws.{events-few}
+use Rattle.comparison.proofs.faults.Faults.{size-of, own, other, unshared, twelve, thirteen, none}
 use Rattle.comparison.proofs.faults.fault_on.Statement.{statement}
 use Rattle.comparison.proofs.faults.fault_on.Tie as tie
 
