@@ -1,6 +1,10 @@
 pub mod Truth
 pub mod Range
 pub mod Count
+pub mod Sum
+pub mod Pigeon
+pub mod Counted
+pub mod CountedLaws
 pub mod Gather
 pub mod Table
 pub mod Front

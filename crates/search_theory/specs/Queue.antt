@@ -16,7 +16,7 @@ use borrow.Author.Tests.{leb-true, leb-false, lt-ltb, le-ltb}
 use Rattle.base.specs.Truth.{clash, lt-or-ge}
 use Rattle.base.specs.Range.{first, first≤, first-at, first-before}
 use Rattle.walks.specs.Graph.{Graph, WellFormed, walk, Trace, Below, walk-snoc, trace-front, trace-below, snoc-ind, length-snoc}
-use Rattle.walks.specs.Pigeon.{Twice, pigeonhole}
+use Rattle.base.specs.Pigeon.{Twice, pigeonhole}
 use Rattle.walks.specs.Bound.{bound}
 use Rattle.walks.specs.Reach.{ReachedBefore}
 use Rattle.walks.specs.Order.{rank, rankFrom, rank-snoc, rank-length, rank-lex←}

@@ -6,7 +6,7 @@ use Prim.Native.Nat.{ℕ, zero, suc, _≤_, _<_}
 use native.Mathlib.Omega.{arith}
 use lib.ListN.{length, take, drop, take-append-drop, length-append, length-take, length-drop}
 use Rattle.base.specs.Truth.{lt-or-ge}
-use Rattle.walks.specs.Pigeon.{Twice, pigeonhole}
+use Rattle.base.specs.Pigeon.{Twice, pigeonhole}
 use Rattle.walks.specs.Graph.{Graph, WellFormed, walk, Trace, walk-append, trace-front}
 
 -- a shorter walk to the same node, where t has as many events as there are nodes: t comes twice to one node
