@@ -11,7 +11,8 @@ use Rattle.walks.specs.Graph.{Below}
 use Rattle.sheet_spec.specs.declared.Sheet.{Sheet}
 use Rattle.sheet_spec.specs.Kept.{step}
 use Rattle.refinement_spec.specs.Refinement.{Trace, Does}
-use Rattle.scripts_spec.specs.Scripts.{Fate, Walked, DeviceStops, ReferenceStops}
+use Rattle.scripts_spec.specs.declared.Scripts.{Scripts}
+use Rattle.scripts_spec.specs.Scripts.{Fate, Walked, DeviceStops, ReferenceStops, byFate}
 
 -- a script of L events: a list of L events below E, a trace or not
 abbrev pub Script : ℕ → ℕ → List ℕ → Type 0
@@ -36,3 +37,13 @@ unfoldable pub fateFrom : Sheet → Sheet → ℕ → ℕ → List ℕ → Fate
 fateFrom P Q n m [] = Walked
 fateFrom P Q n m (i ∷ t) =
     cond (ltb (step Q m i) (Q .n)) (cond (ltb (step P n i) (P .n)) (fateFrom P Q (step P n i) (step Q m i) t) ReferenceStops) DeviceStops
+
+-- the number that an answer has for a fate
+abbrev pub told : Scripts → Fate → ℕ
+told a f = byFate (a .walked) (a .device) (a .reference) f
+
+-- one sheet has the E, the N and the successors of another
+pub record SameSteps (s u : Sheet) : Type 0 where
+  pub e : s .e ≡ u .e
+  pub n : s .n ≡ u .n
+  pub steps : (v i : ℕ) → step s v i ≡ step u v i

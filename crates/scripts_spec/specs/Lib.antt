@@ -3,4 +3,4 @@ pub mod Fates
 pub mod FateLaws
 pub mod CountLaws
 pub mod CallLaws
-pub mod Recoded
+pub mod SuccessorLaws
