@@ -1,5 +1,5 @@
--- Nothing to believe: cases. Lines that are reports and lines that are not, words that are numbers and words that are
--- not, and every kind of line that is printed.
+-- Nothing to believe: cases. Lines that are reports and lines that are not, tests that are asked for, and every kind of
+-- line that is printed.
 use mathlib.Core.Path.{_≡_, refl}
 use mathlib.Core.Bool.{true, false}
 use mathlib.Core.List.{List, [], _∷_, _++_, map}
@@ -10,10 +10,10 @@ use Rattle.events.specs.Bit.{bit}
 use Rattle.events.specs.Sets.{has}
 use Rattle.text_spec.specs.Lines.{ascii, decimalIn, decimal, valueFrom, numberLine, sheetLine, eventList}
 use Rattle.text_spec.specs.Sets.{eventsIn, members, setWords}
+use Rattle.words_spec.specs.Numbers.{isDigit, digitAt, allDigits, fewDigits, numberIn, numberOf}
 use Rattle.tests_spec.specs.declared.Report.the-variants.{Event, Blocked}
 use Rattle.tests_spec.specs.declared.Answer.the-variants.{Going, Stray, Refused, Passed, Denied}
 use Rattle.live_lines_spec.specs.declared.Asked.{Asked}
-use Rattle.live_lines_spec.specs.Numbers.{isDigit, digitAt, allDigits, fewDigits, numberIn, numberOf}
 use Rattle.live_lines_spec.specs.Words.{agreeAt, sameText, eventNamed, reportOf, countedBytes, heard, lastOk, wordsOk, askedOf}
 use Rattle.live_lines_spec.specs.Answers.{kindWords, headLine, offerLine, refusedSetLine, reportWords, reportRefusedLine, answerLines, nextOffer, testLines, openingLines, endedLine}
 
@@ -35,12 +35,6 @@ noReports =
 pub others-hold : map heard noReports ≡ map (λ (line : List ℕ). Event 255) noReports
 unfolding noReports heard countedBytes reportOf sameText agreeAt eventNamed numberIn fewDigits allDigits digitAt isDigit valueFrom all
 others-hold = refl
-
--- words as numbers, and words that are none
-pub words-hold : map numberOf (ascii "0" ∷ ascii "1023" ∷ ascii "01024" ∷ ascii "65535" ∷ ascii "65536" ∷ ascii "000001" ∷ ascii "" ∷ ascii "1a" ∷ ascii "-1" ∷ [])
-    ≡ (0 ∷ 1023 ∷ 1024 ∷ 65535 ∷ 65536 ∷ 65536 ∷ 65536 ∷ 65536 ∷ 65536 ∷ [])
-unfolding numberOf numberIn fewDigits allDigits digitAt isDigit valueFrom all
-words-hold = refl
 
 -- tests that are asked for: with two words, with `traces`, with another word, and with an empty one
 pub asked-hold : (askedOf (ascii "5") (ascii "7") false [] ∷ askedOf (ascii "5") (ascii "7") true (ascii "traces") ∷ askedOf (ascii "5") (ascii "7") true (ascii "trace") ∷ askedOf (ascii "5") (ascii "7") true [] ∷ [])

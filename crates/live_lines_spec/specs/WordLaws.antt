@@ -17,6 +17,8 @@ use Rattle.sheet_spec.specs.declared.Sheet.{Sheet}
 use Rattle.sheet_spec.specs.SoundLaws.{check-sound}
 use Rattle.text_spec.specs.Lines.{ascii, decimal, valueFrom}
 use Rattle.text_spec.specs.DecimalLaws.{decimal-value, decimal-some, decimal-digits}
+use Rattle.words_spec.specs.Numbers.{numberIn, numberOf, Digits}
+use Rattle.words_spec.specs.NumberLaws.{number-from, number-most, number-long, number-large, number-decimal, word-number}
 use Rattle.tests_spec.specs.declared.Run.{Run}
 use Rattle.tests_spec.specs.declared.Report.{Report}
 use Rattle.tests_spec.specs.declared.Report.the-variants.{Event, Blocked}
@@ -25,8 +27,6 @@ use Rattle.tests_spec.specs.Runs.{reportFault, stepOf}
 use Rattle.tests_spec.specs.RunLaws.{report-15, report-0}
 use Rattle.tests_spec.specs.Reports.{Beyond}
 use Rattle.tests_spec.specs.RunRecords.{step-refused}
-use Rattle.live_lines_spec.specs.Numbers.{numberIn, numberOf, Digits}
-use Rattle.live_lines_spec.specs.NumberLaws.{number-from, number-most, number-long, number-large, number-decimal, word-number}
 use Rattle.live_lines_spec.specs.Words.{agreeAt, sameText, eventNamed, reportOf, countedBytes, heard, lastOk, wordsOk, askedOf}
 
 -- the test `sameText` passes exactly for the same text

@@ -6,10 +6,10 @@ use lib.Dec.{eqb, leb}
 use lib.ListN.{length, getD, take, drop}
 use Rattle.base.specs.Range.{all}
 use Rattle.text_spec.specs.Lines.{ascii}
+use Rattle.words_spec.specs.Numbers.{numberIn, numberOf}
 use Rattle.tests_spec.specs.declared.Report.{Report}
 use Rattle.tests_spec.specs.declared.Report.the-variants.{Event, Blocked}
 use Rattle.live_lines_spec.specs.declared.Asked.{Asked}
-use Rattle.live_lines_spec.specs.Numbers.{numberIn, numberOf}
 
 -- whether two texts agree in byte i
 unfoldable pub agreeAt : List ℕ → List ℕ → ℕ → Bool

@@ -1,7 +1,7 @@
 -- No byte, too many, or as many as there may be.
-use Rattle.live_words.proofs.Parts.{few-none, few-many, few-some}
-use Rattle.live_words.proofs.few_digits.Statement.{statement}
-use Rattle.live_words.proofs.few_digits.Tie as tie
+use Rattle.words.proofs.Parts.{few-none, few-many, few-some}
+use Rattle.words.proofs.few_digits.Statement.{statement}
+use Rattle.words.proofs.few_digits.Tie as tie
 
 returns : tie.Need-returns
 returns c = few-none (c .before .before .args .most) (c .before .before .args .bytes .now) (c .if1 .taken)

@@ -6,10 +6,10 @@ use Prim.Native.Nat.{_-_, _≤_}
 use lib.ListN.{length}
 use borrow.Author.Tests.{not-true, not-false}
 use Rattle.base.specs.Range.{all}
-use Rattle.live_lines_spec.specs.Numbers.{digitAt}
-use Rattle.live_words.proofs.Loops.{digits-stop, digits-more, digits-done}
-use Rattle.live_words.proofs.all_digits.Statement.{statement}
-use Rattle.live_words.proofs.all_digits.Tie as tie
+use Rattle.words_spec.specs.Numbers.{digitAt}
+use Rattle.words.proofs.Loops.{digits-stop, digits-more, digits-done}
+use Rattle.words.proofs.all_digits.Statement.{statement}
+use Rattle.words.proofs.all_digits.Tie as tie
 
 abbrev Inv-loop : tie.InvT-loop
 Inv-loop bytes i₀ i = (i ≤ length bytes) × (all (digitAt bytes) i ≡ true)

@@ -13,7 +13,7 @@ use Rattle.base.specs.Truth.{and-l, and-r, and-i}
 use Rattle.base.specs.Range.{all→, all←}
 use Rattle.text_spec.specs.Lines.{decimal, valueFrom}
 use Rattle.text_spec.specs.DecimalLaws.{decimal-value, decimal-some, decimal-few, decimal-digits}
-use Rattle.live_lines_spec.specs.Numbers.{isDigit, digitAt, allDigits, fewDigits, numberIn, numberOf, Digits}
+use Rattle.words_spec.specs.Numbers.{isDigit, digitAt, allDigits, fewDigits, numberIn, numberOf, Digits}
 
 -- the codes of digits are 48 to 57
 pub digit→ : (b : ℕ) → isDigit b ≡ true → (48 ≤ b) × (b < 58)

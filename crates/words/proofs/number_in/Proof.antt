@@ -1,9 +1,9 @@
 -- No digits, a number that is too large, or the number.
 use native.Mathlib.Omega.{arith}
 use borrow.Author.Tests.{not-true, not-false}
-use Rattle.live_words.proofs.Parts.{few-five, in-not, in-over, in-is}
-use Rattle.live_words.proofs.number_in.Statement.{statement}
-use Rattle.live_words.proofs.number_in.Tie as tie
+use Rattle.words.proofs.Parts.{few-five, in-not, in-over, in-is}
+use Rattle.words.proofs.number_in.Statement.{statement}
+use Rattle.words.proofs.number_in.Tie as tie
 
 few-digits-requires : tie.Need-few-digits-requires
 few-digits-requires c κs = tt

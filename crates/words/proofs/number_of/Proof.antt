@@ -1,8 +1,8 @@
 -- One to five digits, up to 65,535.
 use native.Mathlib.Omega.{arith}
-use Rattle.live_lines_spec.specs.Numbers.{numberOf}
-use Rattle.live_words.proofs.number_of.Statement.{statement}
-use Rattle.live_words.proofs.number_of.Tie as tie
+use Rattle.words_spec.specs.Numbers.{numberOf}
+use Rattle.words.proofs.number_of.Statement.{statement}
+use Rattle.words.proofs.number_of.Tie as tie
 
 number-in-requires : tie.Need-number-in-requires
 number-in-requires c κs = (omega arith, omega arith)

@@ -1,8 +1,8 @@
 -- Below 48, or up to 57.
 use borrow.Author.Tests.{lt-leb, le-leb}
-use Rattle.live_lines_spec.specs.Numbers.{isDigit}
-use Rattle.live_words.proofs.is_digit.Statement.{statement}
-use Rattle.live_words.proofs.is_digit.Tie as tie
+use Rattle.words_spec.specs.Numbers.{isDigit}
+use Rattle.words.proofs.is_digit.Statement.{statement}
+use Rattle.words.proofs.is_digit.Tie as tie
 
 returns : tie.Need-returns
 unfolding isDigit

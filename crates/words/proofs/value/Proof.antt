@@ -4,9 +4,9 @@ use mathlib.Core.Path.{refl, _≡_}
 use Prim.Native.Nat.{_-_, _^_, _≤_, _<_}
 use lib.ListN.{length, drop}
 use Rattle.text_spec.specs.Lines.{valueFrom}
-use Rattle.live_words.proofs.Loops.{value-small, value-below, value-next, value-done}
-use Rattle.live_words.proofs.value.Statement.{statement}
-use Rattle.live_words.proofs.value.Tie as tie
+use Rattle.words.proofs.Loops.{value-small, value-below, value-next, value-done}
+use Rattle.words.proofs.value.Statement.{statement}
+use Rattle.words.proofs.value.Tie as tie
 
 abbrev Inv-loop : tie.InvT-loop
 Inv-loop bytes v₀ i₀ v i = (i ≤ length bytes) × (v < 10 ^ i) × (valueFrom v (drop i bytes) ≡ valueFrom 0 bytes)

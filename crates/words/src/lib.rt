@@ -1,0 +1,86 @@
+// Numbers from words: the number that some digits write in base ten, if they are few enough and it is not too large.
+ghost use mathlib.Core.Path.{_≡_};
+ghost use Prim.Native.Nat.{_+_, _-_, _*_, _≤_, _<_};
+ghost use Rattle.text_spec.specs.Lines.{valueFrom};
+ghost use Rattle.words_spec.specs.Numbers.{isDigit, allDigits, fewDigits, numberIn, numberOf, Digits};
+
+// Whether a byte is the code of a digit, 0 to 9.
+fn is_digit(b: u8) -> bool
+    ensures { λ r. ⌜ r ≡ isDigit b ⌝ }
+{
+    if b < 48 {
+        return false;
+    }
+    b <= 57
+}
+
+// Whether every byte is the code of a digit.
+fn all_digits(bytes: &[u8]) -> bool
+    ensures { λ r. ⌜ r ≡ allDigits (now (bytes .entry)) ⌝ }
+{
+    let mut i = 0;
+    while i < bytes.len() {
+        if !is_digit(bytes[i]) {
+            return false;
+        }
+        i += 1;
+    }
+    true
+}
+
+// Whether these bytes are one to `most` digits.
+fn few_digits(bytes: &[u8], most: usize) -> bool
+    ensures { λ r. ⌜ r ≡ fewDigits most (now (bytes .entry)) ⌝ }
+{
+    if bytes.len() == 0 {
+        return false;
+    }
+    if bytes.len() > most {
+        return false;
+    }
+    all_digits(bytes)
+}
+
+// A number with one digit more.
+fn with_digit(v: u32, b: u8) -> u32
+    requires { ⌜ (v < 100000) × (48 ≤ b) × (b < 58) ⌝ }
+    ensures { λ r. ⌜ r ≡ v * 10 + (b - 48) ⌝ }
+{
+    v * 10 + (b - 48) as u32
+}
+
+// The number that at most five digits write.
+fn value(bytes: &[u8]) -> u32
+    requires { ⌜ Digits 5 (now bytes) ⌝ }
+    ensures { λ r. ⌜ r ≡ valueFrom 0 (now (bytes .entry)) ⌝ }
+{
+    let mut v = 0;
+    let mut i = 0;
+    while i < bytes.len() {
+        v = with_digit(v, bytes[i]);
+        i += 1;
+    }
+    v
+}
+
+// The number that one to `most` digits write, if it is not above `top`; else top + 1.
+pub fn number_in(bytes: &[u8], most: usize, top: u32) -> u32
+    requires { ⌜ (most ≤ 5) × (top < 65536) ⌝ }
+    ensures { λ r. ⌜ r ≡ numberIn most top (now (bytes .entry)) ⌝ }
+{
+    if !few_digits(bytes, most) {
+        return top + 1;
+    }
+    let v = value(bytes);
+    if v > top {
+        return top + 1;
+    }
+    v
+}
+
+// The number that a word is, 65,536 where it is none.
+pub fn number_of(bytes: &[u8]) -> u32
+    ensures { λ r. ⌜ r ≡ numberOf (now (bytes .entry)) ⌝ }
+{
+    number_in(bytes, 5, 65535)
+}
