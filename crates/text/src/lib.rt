@@ -43,15 +43,22 @@ pub fn put(out: &mut [u8], at: usize, words: &[u8]) -> usize
     next
 }
 
-// Puts a number in base ten.
-pub fn put_number(out: &mut [u8], at: usize, n: u16) -> usize
+// Puts a number of up to 64 bits in base ten.
+pub fn put_long(out: &mut [u8], at: usize, n: u64) -> usize
     ensures { λ r. ⌜ Adds (decimal n) (now (out .entry)) at (now (out .exit)) r ⌝ }
 {
     if n < 10 {
         return put_byte(out, at, 48 + n as u8);
     }
-    let next = put_number(out, at, n / 10);
+    let next = put_long(out, at, n / 10);
     put_byte(out, next, 48 + (n % 10) as u8)
+}
+
+// Puts a number in base ten.
+pub fn put_number(out: &mut [u8], at: usize, n: u16) -> usize
+    ensures { λ r. ⌜ Adds (decimal n) (now (out .entry)) at (now (out .exit)) r ⌝ }
+{
+    put_long(out, at, n as u64)
 }
 
 // Puts the events of a list in order, a blank before each.
@@ -103,13 +110,20 @@ pub fn put_set(out: &mut [u8], at: usize, set: u16) -> usize
 
 // ---- lines
 
+// Puts a line of some words and a number of up to 64 bits.
+pub fn put_long_line(out: &mut [u8], at: usize, words: &[u8], n: u64) -> usize
+    ensures { λ r. ⌜ Adds (numberLine (now (words .entry)) n) (now (out .entry)) at (now (out .exit)) r ⌝ }
+{
+    let a = put(out, at, words);
+    let b = put_long(out, a, n);
+    put(out, b, b"\n")
+}
+
 // Puts a line of some words and a number.
 pub fn put_number_line(out: &mut [u8], at: usize, words: &[u8], k: u16) -> usize
     ensures { λ r. ⌜ Adds (numberLine (now (words .entry)) k) (now (out .entry)) at (now (out .exit)) r ⌝ }
 {
-    let a = put(out, at, words);
-    let b = put_number(out, a, k);
-    put(out, b, b"\n")
+    put_long_line(out, at, words, k as u64)
 }
 
 // Puts two numbers with words before, between and after them.

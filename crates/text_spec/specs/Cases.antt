@@ -1,17 +1,24 @@
 -- Nothing to believe: cases. Texts of numbers, lines and sets.
 use mathlib.Core.Path.{_≡_, refl}
 use mathlib.Core.List.{[], _∷_, map}
+use native.Mathlib.Omega.{arith}
 use Rattle.base.specs.Gather.{gather, select}
 use Rattle.events.specs.Bit.{bit}
 use Rattle.events.specs.Sets.{has}
 use Rattle.text_spec.specs.Lines.{ascii, decimalIn, decimal, numberLine, sheetLine, eventList}
 use Rattle.text_spec.specs.Sets.{eventsIn, members, setWords}
+use Rattle.text_spec.specs.DecimalLaws.{decimal-within}
 
 -- texts of numbers of one to four digits
 pub numbers-hold : map decimal (0 ∷ 9 ∷ 10 ∷ 99 ∷ 100 ∷ 1023 ∷ 1024 ∷ 4095 ∷ [])
     ≡ (ascii "0" ∷ ascii "9" ∷ ascii "10" ∷ ascii "99" ∷ ascii "100" ∷ ascii "1023" ∷ ascii "1024" ∷ ascii "4095" ∷ [])
 unfolding decimal decimalIn
 numbers-hold = refl
+
+-- texts of long numbers: one of 18 digits, and the largest of 64 bits, of 20
+pub long-hold : (decimal 184884258895036416 ≡ ascii "184884258895036416") × (decimal 18446744073709551615 ≡ ascii "18446744073709551615")
+unfolding decimalIn
+long-hold = (decimal-within 17 184884258895036416 (omega arith), decimal-within 19 18446744073709551615 (omega arith))
 
 -- texts of sets: the empty one, one event, several, and all of 16 bits
 pub sets-hold : map setWords (0 ∷ 1 ∷ 5 ∷ 2048 ∷ 65535 ∷ [])

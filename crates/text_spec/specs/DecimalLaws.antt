@@ -73,6 +73,18 @@ decimal-few (suc k) n h = go (lt-or-ge n 10) (decimal-few k (n / 10) (omega (ari
     go (inl s) ih = rw (decimal-small n s) (omega arith)
     go (inr s) ih = rw (decimal-large n s, length-append (decimal (n / 10)) ((48 + n % 10) ∷ [])) (omega arith)
 
+-- no more digits than it needs are enough for a number, so that the text of a long one computes
+pub decimal-within : (k n : ℕ) → n < 10 ^ suc k → decimal n ≡ decimalIn (suc k) n
+unfolding decimalIn
+decimal-within zero n h =
+    let s : n < 10 = omega (arith, pow-succ' 10 0) in
+    rw (lt-ltb n 10 s) (decimal-small n s)
+decimal-within (suc k) n h = go (lt-or-ge n 10) (decimal-within k (n / 10) (omega (arith, pow-succ' 10 (suc k))))
+  where
+    go : (n < 10) ⊎ (10 ≤ n) → decimal (n / 10) ≡ decimalIn (suc k) (n / 10) → decimal n ≡ decimalIn (suc (suc k)) n
+    go (inl s) ih = rw (lt-ltb n 10 s) (decimal-small n s)
+    go (inr s) ih = rw (le-ltb n 10 s, decimal-large n s) (ap (λ (l : List ℕ). l ++ ((48 + n % 10) ∷ [])) ih)
+
 -- a number has no leading zero: its first digit is 0 (code 48) only where the number is 0
 first-in : (k n : ℕ) → n < k → 0 < n → 48 < getD (decimal n) 0 0
 first-in zero n h z = absurd (omega arith)
