@@ -6,7 +6,7 @@ use mathlib.Core.Bool.{cond}
 use mathlib.Core.List.{List}
 use Prim.Native.Nat.{ℕ, zero, suc, _+_, _*_, _/_, _%_, _^_, _≤_, _<_}
 use lib.Dec.{ltb}
-use lib.ListN.{getD}
+use lib.ListN.{length, getD}
 use Rattle.sheet_spec.specs.declared.Sheet.{Sheet}
 use Rattle.scripts_spec.specs.Scripts.{Walked, DeviceStops, ReferenceStops, countFrom}
 use Rattle.scripts.specs.declared.Counts.{Counts}
@@ -85,21 +85,25 @@ pub record AddOk (before : List ℕ) (power p q x y : ℕ) (sums : Counts) : Typ
 
 -- a table after the counts of one place were put: they stand there, and all else as before
 pub record Stored (t : List ℕ) (c : ℕ) (v : Counts) (t′ : List ℕ) : Type 0 where
+  pub long : length t′ ≡ length t
   pub there : cell t′ c ≡ v
   pub others : (k : ℕ) → k ≢ c → cell t′ k ≡ cell t k
 
 -- the first c places of a table hold f
-abbrev pub Filled : (ℕ → Counts) → ℕ → List ℕ → Type 0
-Filled f c t = (k : ℕ) → k < c → cell t k ≡ f k
+pub record Filled (f : ℕ → Counts) (c : ℕ) (t : List ℕ) : Type 0 where
+  pub long : length t ≡ 3072
+  pub holds : (k : ℕ) → k < c → cell t k ≡ f k
 
--- the table holds the counts for l events, of which there are E to the power l
-pub record Begun (a b : List ℕ) (p q e l length power : ℕ) (from : List ℕ) : Type 0 where
+-- the first table holds the counts for l events, of which there are E to the power l; L are asked for
+pub record Begun (a b : List ℕ) (p q e l L power : ℕ) (from to : List ℕ) : Type 0 where
   pub p-some : 0 < p
   pub q-some : 0 < q
   pub p-few : p ≤ 32
   pub q-few : q ≤ 32
   pub e-few : e ≤ 12
-  pub l-few : l ≤ length
-  pub length-few : length ≤ 16
+  pub l-few : l ≤ L
+  pub L-few : L ≤ 16
   pub power-is : power ≡ e ^ l
+  pub from-long : length from ≡ 3072
+  pub to-long : length to ≡ 3072
   pub holds : (x y : ℕ) → x < p → y < q → cellIn from q x y ≡ tableCounts a b p q e l x y

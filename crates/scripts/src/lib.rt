@@ -45,7 +45,14 @@ fn fault_on(reference: Sheet, device: Sheet, length: u16) -> u8
 }
 
 // The counts of scripts of `length` events, from the pair of the two first nodes on.
-fn count_rows(mine: [Row; 32], p: usize, theirs: [Row; 32], q: usize, e: usize, length: usize) -> Counts
+fn count_rows(
+    mine: [Row; 32],
+    p: usize,
+    theirs: [Row; 32],
+    q: usize,
+    e: usize,
+    length: usize,
+) -> Counts
     requires { ⌜ (0 < p) × (p ≤ 32) × (0 < q) × (q ≤ 32) × (e ≤ 12) × (length ≤ 16) ⌝ }
     ensures { λ r. ⌜ r ≡ countsFrom (sheetWith mine e p) (sheetWith theirs e q) length 0 0 ⌝ }
 {

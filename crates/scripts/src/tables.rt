@@ -1,7 +1,8 @@
 // Tables of counts: for each pair of nodes three numbers, how many scripts of so many events go each way from that pair
 // on. The table for one event more is filled from the one before; two tables change places.
 ghost use mathlib.Core.Path.{_≡_};
-ghost use Prim.Native.Nat.{_+_, _*_, _^_, _≤_, _<_};
+ghost use Prim.Native.Nat.{_+_, _*_, _≤_, _<_};
+ghost use lib.ListN.{length};
 ghost use Rattle.scripts.specs.Shapes.{one, cell, cellIn, plus, eventCounts, sums, tableCounts};
 ghost use Rattle.scripts.specs.Shapes.{Sizes, Small, Stored, Filled, AddOk, Begun, nextCell};
 use super::Counts;
@@ -20,7 +21,7 @@ fn load(table: &[u64; 3072], pair: usize) -> Counts
 
 // Puts the counts of a pair.
 fn store(table: &mut [u64; 3072], pair: usize, counts: Counts)
-    requires { ⌜ pair < 1024 ⌝ }
+    requires { ⌜ (pair < 1024) × (length (now table) ≡ 3072) ⌝ }
     ensures { λ _. ⌜ Stored (now (table .entry)) pair counts (now (table .exit)) ⌝ }
 {
     table[pair * 3] = counts.walked;
@@ -127,7 +128,7 @@ fn fill(
     power: u64,
     after: &mut [u64; 3072],
 )
-    requires { ⌜ Sizes p q e power × Small (now before) power p q ⌝ }
+    requires { ⌜ Sizes p q e power × Small (now before) power p q × (length (now after) ≡ 3072) ⌝ }
     ensures { λ _. ⌜ Filled (nextCell (now (a .entry)) (now (b .entry)) power p q e (now (before .entry)))
         (p * q) (now (after .exit)) ⌝ }
 {
@@ -138,7 +139,7 @@ fn fill(
 
 // The table for no event: from each pair on there is one script, which both walk to its end.
 pub(crate) fn start(table: &mut [u64; 3072], p: usize, q: usize)
-    requires { ⌜ (p ≤ 32) × (q ≤ 32) ⌝ }
+    requires { ⌜ (p ≤ 32) × (q ≤ 32) × (length (now table) ≡ 3072) ⌝ }
     ensures { λ _. ⌜ Filled (λ c. one) (p * q) (now (table .exit)) ⌝ }
 {
     let pairs = p * q;
@@ -155,7 +156,7 @@ pub(crate) fn start(table: &mut [u64; 3072], p: usize, q: usize)
     }
 }
 
-// The counts of the pair of the two first nodes for `length` events, from the table for `l` events: it fills the table
+// The counts of the pair of the two first nodes for `wanted` events, from the table for `l` events: it fills the table
 // for one event more and goes on from that one. `power` is E to the power l.
 pub(crate) fn advance(
     a: &[u8; 384],
@@ -164,17 +165,17 @@ pub(crate) fn advance(
     q: usize,
     e: usize,
     l: usize,
-    length: usize,
+    wanted: usize,
     power: u64,
     from: &mut [u64; 3072],
     to: &mut [u64; 3072],
 ) -> Counts
-    requires { ⌜ Begun (now a) (now b) p q e l length power (now from) ⌝ }
-    ensures { λ r. ⌜ r ≡ tableCounts (now (a .entry)) (now (b .entry)) p q e length 0 0 ⌝ }
+    requires { ⌜ Begun (now a) (now b) p q e l wanted power (now from) (now to) ⌝ }
+    ensures { λ r. ⌜ r ≡ tableCounts (now (a .entry)) (now (b .entry)) p q e wanted 0 0 ⌝ }
 {
-    if l >= length {
+    if l >= wanted {
         return load(from, 0);
     }
     fill(a, b, p, q, e, from, power, to);
-    advance(a, b, p, q, e, l + 1, length, power * (e as u64), to, from)
+    advance(a, b, p, q, e, l + 1, wanted, power * (e as u64), to, from)
 }

@@ -1,52 +1,32 @@
-use borrow.Author.Needs.{needs}
+-- `fault_on` makes the tests of the definition in their order.
+use Rattle.sheet_spec.specs.SoundLaws.{events-few}
+use Rattle.scripts.proofs.Faults.{own, other, unshared, twenty, no-fault}
 use Rattle.scripts.proofs.fault_on.Statement.{statement}
 use Rattle.scripts.proofs.fault_on.Tie as tie
-use Rattle.scripts.proofs.fault_on.Reads as reads
-use Rattle.scripts.proofs.fault_on.Lts as lts
-use Rattle.sheet.proofs.check.Reads as check-reads
-use Rattle.sheet_codes.proofs.shared_fault.Reads as shared-fault-reads
 
--- src/lib.rt:27:9
 check-requires : tie.Need-check-requires
-check-requires c κs = search needs
+check-requires c κs = tt
 
--- src/lib.rt:29:9
 returns : tie.Need-returns
-returns c = ?
+returns c = own _ _ _ (c .before .check .ensures) (c .if1 .taken)
 
--- src/lib.rt:31:9
 check-requires-2 : tie.Need-check-requires-2
-check-requires-2 c κs = search needs
+check-requires-2 c κs = tt
 
--- src/lib.rt:33:9
 returns-2 : tie.Need-returns-2
-returns-2 c = ?
+returns-2 c = other _ _ _ (c .before .before .before .check .ensures) (c .before .before .if1 .left) (c .before .check2 .ensures) (c .if2 .taken)
 
--- src/lib.rt:37:9
 shared-fault-requires : tie.Need-shared-fault-requires
-shared-fault-requires c κs = ?
+shared-fault-requires c κs = events-few _ (c .before .before .before .before .before .before .before .check .ensures) (c .before .before .before .before .before .before .if1 .left)
 
--- src/lib.rt:39:9
 returns-3 : tie.Need-returns-3
-returns-3 c = ?
+returns-3 c = unshared _ _ _ (c .before .before .before .before .before .before .before .before .before .check .ensures) (c .before .before .before .before .before .before .before .before .if1 .left) (c .before .before .before .before .before .before .before .check2 .ensures) (c .before .before .before .before .before .before .if2 .left) (c .before .shared-fault .ensures) (c .if3 .taken)
 
--- src/lib.rt:42:9
 returns-4 : tie.Need-returns-4
-returns-4 c = ?
+returns-4 c = twenty _ _ _ (c .before .before .before .before .before .before .before .before .before .before .check .ensures) (c .before .before .before .before .before .before .before .before .before .if1 .left) (c .before .before .before .before .before .before .before .before .check2 .ensures) (c .before .before .before .before .before .before .before .if2 .left) (c .before .before .shared-fault .ensures) (c .before .if3 .left) (c .if4 .taken)
 
--- src/lib.rt:24:1
 returns-5 : tie.Need-returns-5
-returns-5 c = ?
+returns-5 c = no-fault _ _ _ (c .before .before .before .before .before .before .before .before .before .before .check .ensures) (c .before .before .before .before .before .before .before .before .before .if1 .left) (c .before .before .before .before .before .before .before .before .check2 .ensures) (c .before .before .before .before .before .before .before .if2 .left) (c .before .before .shared-fault .ensures) (c .before .if3 .left) (c .if4 .left)
 
 pub fault-on-spec : {M : Type 1} → statement M
-fault-on-spec =
-    tie.close
-    (tie.spec
-    check-requires
-    returns
-    check-requires-2
-    returns-2
-    shared-fault-requires
-    returns-3
-    returns-4
-    returns-5)
+fault-on-spec = tie.close (tie.spec check-requires returns check-requires-2 returns-2 shared-fault-requires returns-3 returns-4 returns-5)

@@ -1,56 +1,44 @@
-use borrow.Author.Needs.{needs}
+-- The three numbers are put one after another.
+use native.Mathlib.Omega.{arith}
+use Rattle.scripts.proofs.tables.Cells.{stored}
 use Rattle.scripts.proofs.tables.store.Statement.{statement}
 use Rattle.scripts.proofs.tables.store.Tie as tie
-use Rattle.scripts.proofs.tables.store.Reads as reads
-use Rattle.scripts.proofs.tables.store.Lts as lts
 
--- src/tables.rt:26:11
 mul-table : tie.Need-mul-table
-mul-table c = search needs
+mul-table c = omega arith
 
--- src/tables.rt:26:5
 mul-table-2 : tie.Need-mul-table-2
-mul-table-2 c = search needs
+mul-table-2 c = omega arith
 
--- src/tables.rt:26:5
 element-write-table : tie.Need-element-write-table
-element-write-table c = search needs
+element-write-table c = omega arith
 
--- src/tables.rt:27:11
 mul-table-3 : tie.Need-mul-table-3
-mul-table-3 c = search needs
+mul-table-3 c = omega arith
 
--- src/tables.rt:27:11
 add-table : tie.Need-add-table
-add-table c = search needs
+add-table c = omega arith
 
--- src/tables.rt:27:5
 mul-table-4 : tie.Need-mul-table-4
-mul-table-4 c = search needs
+mul-table-4 c = omega arith
 
--- src/tables.rt:27:5
 element-write-table-2 : tie.Need-element-write-table-2
-element-write-table-2 c = search needs
+element-write-table-2 c = omega arith
 
--- src/tables.rt:28:11
 mul-table-5 : tie.Need-mul-table-5
-mul-table-5 c = search needs
+mul-table-5 c = omega arith
 
--- src/tables.rt:28:11
 add-table-2 : tie.Need-add-table-2
-add-table-2 c = search needs
+add-table-2 c = omega arith
 
--- src/tables.rt:28:5
 mul-table-6 : tie.Need-mul-table-6
-mul-table-6 c = search needs
+mul-table-6 c = omega arith
 
--- src/tables.rt:28:5
 element-write-table-3 : tie.Need-element-write-table-3
-element-write-table-3 c = search needs
+element-write-table-3 c = omega arith
 
--- src/tables.rt:22:1
 returns : tie.Need-returns
-returns c = ?
+returns c = stored _ _ _ (c .pre .1) (c .pre .0)
 
 pub store-spec : {M : Type 1} → statement M
 store-spec =

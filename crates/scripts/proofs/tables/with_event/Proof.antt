@@ -1,66 +1,56 @@
-use borrow.Author.Needs.{needs}
+-- The tests are those of the definition; no sum leaves 64 bits.
+use mathlib.Core.Path.{ap}
+use Prim.Native.Nat.{ℕ}
+use native.Mathlib.Omega.{arith}
+use Rattle.scripts.specs.declared.Counts.{Counts}
+use Rattle.scripts.proofs.tables.Cells.{place-few}
+use Rattle.scripts.proofs.tables.Sums.{add-both, add-reference, add-device}
 use Rattle.scripts.proofs.tables.with_event.Statement.{statement}
 use Rattle.scripts.proofs.tables.with_event.Tie as tie
-use Rattle.scripts.proofs.tables.with_event.Reads as reads
-use Rattle.scripts.proofs.tables.with_event.Lts as lts
-use Rattle.scripts.proofs.tables.load.Reads as load-reads
 
--- src/tables.rt:48:38
 mul-load : tie.Need-mul-load
-mul-load c = ?
+mul-load c = omega (arith, place-few _ _ _ _ (c .before .before .pre .p-few) (c .before .before .pre .q-few) (c .if2 .taken) (c .before .if1 .taken))
 
--- src/tables.rt:48:38
 add-load : tie.Need-add-load
-add-load c = ?
+add-load c = omega (arith, place-few _ _ _ _ (c .before .before .pre .p-few) (c .before .before .pre .q-few) (c .if2 .taken) (c .before .if1 .taken))
 
--- src/tables.rt:48:17
 load-requires : tie.Need-load-requires
-load-requires c κs = ?
+load-requires c κs = place-few _ _ _ _ (c .before .before .pre .p-few) (c .before .before .pre .q-few) (c .if2 .taken) (c .before .if1 .taken)
 
--- src/tables.rt:50:25
 add-t13 : tie.Need-add-t13
-add-t13 c = ?
+add-t13 c =
+    let s = c .before .before .before .before .before .pre in
+    let a = s .after (c .before .before .before .if2 .taken) (c .before .before .before .before .if1 .taken) in
+    omega (arith, ap (λ (x : Counts). x .walked) (c .before .before .load .ensures), a .walked, s .so-far .walked, s .power-few)
 
--- src/tables.rt:51:25
 add-t14 : tie.Need-add-t14
-add-t14 c = ?
+add-t14 c =
+    let s = c .before .before .before .before .before .before .before .pre in
+    let a = s .after (c .before .before .before .before .before .if2 .taken) (c .before .before .before .before .before .before .if1 .taken) in
+    omega (arith, ap (λ (x : Counts). x .device) (c .before .before .before .before .load .ensures), a .device, s .so-far .device, s .power-few)
 
--- src/tables.rt:52:28
 add-t15 : tie.Need-add-t15
-add-t15 c = ?
+add-t15 c =
+    let s = c .before .before .before .before .before .before .before .before .before .pre in
+    let a = s .after (c .before .before .before .before .before .before .before .if2 .taken) (c .before .before .before .before .before .before .before .before .if1 .taken) in
+    omega (arith, ap (λ (x : Counts). x .reference) (c .before .before .before .before .before .before .load .ensures), a .reference, s .so-far .reference, s .power-few)
 
--- src/tables.rt:49:13
 returns : tie.Need-returns
-returns c = ?
+returns c =
+    add-both _ _ _ _ _ _ _ (c .before .before .before .before .before .before .before .before .if1 .taken) (c .before .before .before .before .before .before .before .if2 .taken) _
+    (c .before .before .before .before .before .before .load .ensures)
 
--- src/tables.rt:58:24
 add-t16 : tie.Need-add-t16
-add-t16 c = search needs
+add-t16 c = let s = c .before .before .before .pre in omega (arith, s .so-far .reference, s .power-few)
 
--- src/tables.rt:55:9
 returns-2 : tie.Need-returns-2
-returns-2 c = ?
+returns-2 c = add-reference _ _ _ _ _ _ _ (c .before .before .if1 .taken) (c .before .if2 .left)
 
--- src/tables.rt:63:17
 add-t17 : tie.Need-add-t17
-add-t17 c = search needs
+add-t17 c = let s = c .before .before .pre in omega (arith, s .so-far .device, s .power-few)
 
--- src/tables.rt:34:1
 returns-3 : tie.Need-returns-3
-returns-3 c = ?
+returns-3 c = add-device _ _ _ _ _ _ _ (c .before .if1 .left)
 
 pub with-event-spec : {M : Type 1} → statement M
-with-event-spec =
-    tie.close
-    (tie.spec
-    mul-load
-    add-load
-    load-requires
-    add-t13
-    add-t14
-    add-t15
-    returns
-    add-t16
-    returns-2
-    add-t17
-    returns-3)
+with-event-spec = tie.close (tie.spec mul-load add-load load-requires add-t13 add-t14 add-t15 returns add-t16 returns-2 add-t17 returns-3)

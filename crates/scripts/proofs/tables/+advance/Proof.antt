@@ -1,0 +1,120 @@
+-- `tables::advance`: recursion on the number of events that are left.
+use mathlib.Core.Path.{refl}
+use Prim.Native.Nat.{ℕ, _-_, _<_}
+use native.Mathlib.Omega.{arith}
+use borrow.Fn.Kinds.{In}
+use borrow.Fn.PlainCycle.{Measures, is, falls, and}
+use Rattle.scripts.proofs.tables.advance.Reads as advance
+use Rattle.scripts.proofs.tables.advance.Kinds as advance-kinds
+use Rattle.scripts.proofs.tables.+advance.Lts-advance as advance-lts
+use Rattle.scripts.proofs.tables.fill.Reads as fill-reads
+use Rattle.scripts.proofs.tables.load.Reads as load-reads
+use Rattle.scripts.proofs.tables.Rounds.{rounds-end, rounds-sizes, rounds-small, rounds-power, rounds-next}
+use Rattle.scripts.proofs.tables.+advance.{statement}
+use Rattle.scripts.proofs.tables.+advance.Tie.{close}
+
+abbrev μ-advance : Measures 4 advance-kinds.ps ℕ
+μ-advance κs a = a .1 .1 .1 .1 .1 .1 .0 - a .1 .1 .1 .1 .1 .0
+
+abbrev advance-at : ℕ → In 4 advance-kinds.ps
+advance-at t = and 4 advance-kinds.ps (is 4 advance-kinds.ps μ-advance t) advance.Pre
+
+abbrev advance-below : ℕ → In 4 advance-kinds.ps
+advance-below t = and 4 advance-kinds.ps (falls 4 advance-kinds.ps _<_ μ-advance t) advance.Pre
+
+advance-load-requires : (t : ℕ) → advance-lts.Need-load-requires (
+  load-reads.Asked,
+  load-reads.Learnt,
+  fill-reads.Asked,
+  fill-reads.Learnt,
+  advance-below t,
+  advance.Post,
+) (advance-at t) advance.Post
+advance-load-requires t c κs = omega arith
+
+advance-returns : (t : ℕ) → advance-lts.Need-returns (
+  load-reads.Asked,
+  load-reads.Learnt,
+  fill-reads.Asked,
+  fill-reads.Learnt,
+  advance-below t,
+  advance.Post,
+) (advance-at t) advance.Post
+advance-returns t c = rounds-end _ _ _ _ _ _ _ _ _ _ (c .before .before .before .pre .1) (c .before .before .if1 .taken) _ (c .load .ensures)
+
+advance-fill-requires : (t : ℕ) → advance-lts.Need-fill-requires (
+  load-reads.Asked,
+  load-reads.Learnt,
+  fill-reads.Asked,
+  fill-reads.Learnt,
+  advance-below t,
+  advance.Post,
+) (advance-at t) advance.Post
+advance-fill-requires t c κs =
+    let s = c .before .before .before .pre .1 in
+    let k = c .before .before .if1 .left in
+    (rounds-sizes _ _ _ _ _ _ _ _ _ _ s k, rounds-small _ _ _ _ _ _ _ _ _ _ s k, s .to-long)
+
+advance-add-advance : (t : ℕ) → advance-lts.Need-add-advance (
+  load-reads.Asked,
+  load-reads.Learnt,
+  fill-reads.Asked,
+  fill-reads.Learnt,
+  advance-below t,
+  advance.Post,
+) (advance-at t) advance.Post
+advance-add-advance t c = omega (arith, c .before .before .before .before .pre .1 .L-few)
+
+advance-mul-advance : (t : ℕ) → advance-lts.Need-mul-advance (
+  load-reads.Asked,
+  load-reads.Learnt,
+  fill-reads.Asked,
+  fill-reads.Learnt,
+  advance-below t,
+  advance.Post,
+) (advance-at t) advance.Post
+advance-mul-advance t c =
+    let s = c .before .before .before .before .pre .1 in
+    omega (arith, rounds-power _ _ _ _ _ _ _ _ _ _ s (c .before .before .before .if1 .left) _ refl)
+
+advance-advance-requires : (t : ℕ) → advance-lts.Need-advance-requires (
+  load-reads.Asked,
+  load-reads.Learnt,
+  fill-reads.Asked,
+  fill-reads.Learnt,
+  advance-below t,
+  advance.Post,
+) (advance-at t) advance.Post
+advance-advance-requires t c κs =
+    let s = c .before .before .before .before .before .before .pre in
+    let k = c .before .before .before .before .before .if1 .left in
+    (omega (arith, s .0, k), rounds-next _ _ _ _ _ _ _ _ _ _ (s .1) k _ _ refl (c .before .before .fill .ensures))
+
+advance-returns-2 : (t : ℕ) → advance-lts.Need-returns-2 (
+  load-reads.Asked,
+  load-reads.Learnt,
+  fill-reads.Asked,
+  fill-reads.Learnt,
+  advance-below t,
+  advance.Post,
+) (advance-at t) advance.Post
+advance-returns-2 t c = c .advance .ensures
+
+pub +advance-spec : {M : Type 1} → statement M
++advance-spec = close μ-advance λ t. advance-lts.spec (
+  load-reads.Asked,
+  load-reads.Learnt,
+  fill-reads.Asked,
+  fill-reads.Learnt,
+  advance-below t,
+  advance.Post,
+)
+    (advance-at t)
+    advance.Post
+    (advance-load-requires t)
+    (advance-returns t)
+    (advance-fill-requires t)
+    (advance-add-advance t)
+    (advance-mul-advance t)
+    (advance-advance-requires t)
+    (advance-returns-2 t)
