@@ -11,6 +11,7 @@ pub mod planted;
 pub mod probes;
 pub mod random;
 mod rules;
+pub mod scripts;
 pub mod sheet;
 pub mod small;
 pub mod tests;

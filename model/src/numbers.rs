@@ -3,6 +3,7 @@
 
 use crate::comparison::{compare_into, Named, Outcome};
 use crate::probes::fill;
+use crate::scripts::{count, Counts};
 use crate::sheet::Sheet;
 use crate::tests::{open, step, Answer, Report, Run};
 use crate::verdict::{verdict, Verdict};
@@ -32,6 +33,16 @@ pub struct Listed {
 pub struct Suited {
     pub refusal: u8,
     pub count: u16,
+}
+
+/// The answer of a count of scripts: the refusal, 0 for none, and the three counts.
+#[repr(C)]
+#[derive(Clone, Copy, PartialEq, Eq, Debug)]
+pub struct Scripts {
+    pub refusal: u8,
+    pub walked: u64,
+    pub device: u64,
+    pub reference: u64,
 }
 
 /// An answer to an opening or a report: the refusal, 0 for none; which case it is, 0 for a
@@ -217,6 +228,17 @@ pub fn compared(answer: &Result<Outcome, u8>) -> Compared {
     }
 }
 
+/// The numbers of a count of scripts.
+pub fn counted(answer: Result<Counts, u8>) -> Scripts {
+    let counts = answer.unwrap_or(Counts::NONE);
+    Scripts {
+        refusal: answer.err().unwrap_or(0),
+        walked: counts.walked,
+        device: counts.device,
+        reference: counts.reference,
+    }
+}
+
 /// The probe call in numbers.
 pub fn list_numbers(sheet: &Sheet, node: u8, lent: &mut [u16]) -> Listed {
     listed(fill(sheet, node, lent))
@@ -246,4 +268,9 @@ pub fn compare_numbers(
     trace: &mut [u8],
 ) -> Compared {
     compared(&compare_into(reference, device, traces != 0, work, trace))
+}
+
+/// The count of scripts in numbers.
+pub fn count_numbers(reference: &Sheet, device: &Sheet, length: u16) -> Scripts {
+    counted(count(reference, device, length))
 }

@@ -1,10 +1,11 @@
-//! One-fault variants of the calls on probes, runs, verdicts and comparisons, and of the
-//! texts. With the fault `None` each of them answers as the plain model does.
+//! One-fault variants of the calls on probes, runs, verdicts, comparisons and scripts, and of
+//! the texts. With the fault `None` each of them answers as the plain model does.
 
 mod codes;
 pub mod comparisons;
 pub mod probes;
 pub mod runs;
+pub mod scripts;
 pub mod suites;
 pub mod text;
 pub mod verdicts;

@@ -112,7 +112,7 @@ pub fn live_call(rng: &mut Rng, round: u64) -> Call {
 }
 
 /// A word that is no number of at most five digits up to 65,535, and not `traces`.
-fn wrong_word(rng: &mut Rng) -> String {
+pub(super) fn wrong_word(rng: &mut Rng) -> String {
     let words = [
         "", "x", "65536", "99999", "000000", "-1", "+1", "1x", " 1", "trace", "Traces", "tracesx",
     ];

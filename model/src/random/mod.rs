@@ -1,4 +1,5 @@
-//! A small deterministic generator, and random sheets, codes, bytes, lists, runs and pairs.
+//! A small deterministic generator, and random sheets, codes, bytes, lists, runs, scripts and
+//! pairs.
 
 mod codes;
 mod damage;
@@ -8,15 +9,17 @@ mod lists;
 mod pairs;
 mod raw;
 mod runs;
+mod scripts;
 
 pub use codes::{random_codes, recoded, spelled};
 pub use damage::{damaged, damaged_twice, long_bytes, noise_bytes, AIMS_READ};
 pub use input::{live_call, program_input, sheet_input};
 pub use kept::{kept, kept_noise, kept_twice, AIMS_KEPT};
 pub use lists::{length_around, work_length};
-pub use pairs::{deep_pair, device_of, pair, small_pair};
+pub use pairs::{deep_pair, device_of, full_pair, pair, small_pair};
 pub use raw::{antichain, crowded_sheet, full_sheet, random_raw, random_sheet, sheet_of_size, Raw};
 pub use runs::{random_record, random_report};
+pub use scripts::{script_call, script_length};
 
 /// splitmix64.
 #[derive(Clone, Copy, PartialEq, Eq, Debug)]

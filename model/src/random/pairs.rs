@@ -149,6 +149,37 @@ pub fn small_pair(rng: &mut Rng) -> (Sheet, Sheet) {
     (raw.keep(), device.keep().with_codes(&raw.codes))
 }
 
+/// A random pair in which nearly every place has a successor, so that scripts go far and each
+/// count of them can be large.
+pub fn full_pair(rng: &mut Rng) -> (Sheet, Sheet) {
+    let e = rng.range(1, MAX_EVENTS);
+    let codes = random_codes(rng, e).1;
+    let sheets = [(); 2].map(|()| nearly_full(rng, e).keep().with_codes(&codes));
+    (sheets[0], sheets[1])
+}
+
+/// A random sheet with a successor in every place but up to three.
+fn nearly_full(rng: &mut Rng, e: usize) -> Raw {
+    let n = random_nodes(rng);
+    let mut raw = random_raw(rng, e, n);
+    for (succ, _) in raw.nodes.iter_mut() {
+        for place in succ.iter_mut().filter(|place| **place == NO_NODE) {
+            *place = rng.below(n) as u8;
+        }
+    }
+    for _ in 0..rng.below(4) {
+        let (node, event) = (rng.below(n), rng.below(e));
+        let next = std::mem::replace(&mut raw.nodes[node].0[event], NO_NODE);
+        if !reached(&raw) {
+            raw.nodes[node].0[event] = next;
+        }
+    }
+    for node in 0..n {
+        raw.nodes[node].1 = antichain(rng, raw.initials(node), MAX_SETS);
+    }
+    raw
+}
+
 /// A pair of two rings whose numbers of nodes have no common divisor, so that a common
 /// trace meets every pair of nodes before it meets one again. One pair of nodes at most
 /// is violating, by a stray or by a refusal; now and then there is a short cut.

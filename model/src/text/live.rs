@@ -1,6 +1,6 @@
 //! The whole output of the program `live`.
 
-use super::{cut, events, head_line, set_words};
+use super::{cut, events, head_line, number, set_words};
 use crate::sheet::{read, Sheet};
 use crate::tests::{open, step, Answer, Report, Run};
 
@@ -62,15 +62,6 @@ fn asked(words: &[String]) -> Option<(u16, u16, bool)> {
         Some(_) => return None,
     };
     Some((number(&words[0])?, number(&words[1])?, traces))
-}
-
-/// A number of one to five digits up to 65,535.
-fn number(word: &str) -> Option<u16> {
-    let digits = word.bytes().all(|byte| byte.is_ascii_digit());
-    if !digits || !matches!(word.len(), 1..=5) {
-        return None;
-    }
-    word.parse().ok()
 }
 
 /// The lines that are typed, each without its newline and without a carriage return before that.

@@ -3,6 +3,7 @@
 pub mod compare;
 pub mod live;
 pub mod probe_list;
+pub mod script_counts;
 pub mod show;
 pub mod suite;
 
@@ -59,6 +60,15 @@ fn sheet_lines(
         }
         Err(number) => format!("sheet refused {number} {}\n", meaning(number)),
     }
+}
+
+/// A number of one to five digits up to 65,535.
+fn number(word: &str) -> Option<u16> {
+    let digits = word.bytes().all(|byte| byte.is_ascii_digit());
+    if !digits || !matches!(word.len(), 1..=5) {
+        return None;
+    }
+    word.parse().ok()
 }
 
 /// The line of an accepted sheet.
