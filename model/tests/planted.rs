@@ -1,18 +1,20 @@
 //! The variants in which faults are planted answer as the plain model does where no fault
-//! is planted, and each fault of a verdict, of all verdicts, of a comparison and of a text shows
-//! on some input. The random comparison with the library looks for the faults of every call.
+//! is planted, and each fault of a verdict, of all verdicts, of a comparison, of a count of
+//! scripts and of a text shows on some input. The random comparison with the library looks for the faults of every call.
 
 use model::comparison::{compare_into, Outcome, MAX_WORDS};
 use model::examples::program_pair;
-use model::numbers::{judged, listed, Record, Suited};
+use model::numbers::{count_numbers, judged, listed, Record, Suited};
 use model::planted::comparisons::{compare_with, CompareFault};
 use model::planted::probes::{fill_with, ProbeFault};
 use model::planted::runs::{open_with, step_with, RunFault};
+use model::planted::scripts::{count_with, ScriptFault};
 use model::planted::suites::{suite_with, SuiteFault};
 use model::planted::text;
 use model::planted::text::compare::TextFault;
 use model::planted::text::live::LiveFault;
 use model::planted::text::probe_list::ProbeTextFault;
+use model::planted::text::script_counts::ScriptTextFault;
 use model::planted::text::show::ShowFault;
 use model::planted::text::suite::SuiteTextFault;
 use model::planted::verdicts::{verdict_with, VerdictFault};
@@ -20,7 +22,7 @@ use model::probes::fill;
 use model::random::*;
 use model::sheet::{check, Sheet};
 use model::tests::{open, step};
-use model::text::{compare, live, probe_list, show, suite};
+use model::text::{compare, live, probe_list, script_counts, show, suite};
 use model::verdict::{verdict, verdicts};
 
 #[test]
@@ -137,6 +139,39 @@ fn no_fault_in_all_verdicts() {
             Err(refusal) => assert_eq!(answer, Suited { refusal, count: 0 }),
         }
     }
+}
+
+/// Two sheets and a length of scripts, which lead to counts of every size or are refused.
+fn counted_scripts(rng: &mut Rng, round: usize) -> (Sheet, Sheet, u16) {
+    let (reference, device) = match round % 3 {
+        0 => full_pair(rng),
+        _ => two_sheets(rng, round),
+    };
+    (reference, device, script_length(rng))
+}
+
+#[test]
+fn no_fault_in_scripts() {
+    let mut rng = Rng::new(96);
+    for round in 0..1_500 {
+        let (reference, device, length) = counted_scripts(&mut rng, round);
+        let plain = count_numbers(&reference, &device, length);
+        let planted = count_with(ScriptFault::None, &reference, &device, length);
+        assert_eq!(plain, planted);
+    }
+}
+
+#[test]
+fn every_fault_of_a_count_of_scripts_shows() {
+    let mut rng = Rng::new(97);
+    let mut hidden = ScriptFault::ALL.to_vec();
+    for round in 0..1_500 {
+        let (reference, device, length) = counted_scripts(&mut rng, round);
+        let played = |fault| count_with(fault, &reference, &device, length);
+        let plain = played(ScriptFault::None);
+        hidden.retain(|&fault| played(fault) == plain);
+    }
+    assert_eq!(hidden, []);
 }
 
 #[test]
@@ -265,6 +300,20 @@ fn every_fault_of_a_live_text_shows() {
         let plain = live::output(&call);
         assert_eq!(plain, text::live::output_with(LiveFault::None, &call));
         hidden.retain(|&fault| text::live::output_with(fault, &call) == plain);
+    }
+    assert_eq!(hidden, []);
+}
+
+#[test]
+fn every_fault_of_the_text_of_scripts_shows() {
+    let mut rng = Rng::new(98);
+    let mut hidden = ScriptTextFault::ALL.to_vec();
+    for round in 0..2_000 {
+        let call = script_call(&mut rng, round);
+        let plain = script_counts::output(&call);
+        let planted = text::script_counts::output_with(ScriptTextFault::None, &call);
+        assert_eq!(plain, planted);
+        hidden.retain(|&fault| text::script_counts::output_with(fault, &call) == plain);
     }
     assert_eq!(hidden, []);
 }

@@ -3,7 +3,7 @@
 use std::mem::{offset_of, size_of};
 
 use model::faults::ReadAnswer;
-use model::numbers::{Compared, Judged, Listed, Record, Said, Stepped, Suited};
+use model::numbers::{Compared, Judged, Listed, Record, Said, Scripts, Stepped, Suited};
 use model::sheet::{Row, Sheet};
 
 /// What reading answers, in the layout of C.
@@ -35,6 +35,8 @@ const _: () = assert!(size_of::<Compared>() == 12);
 const _: () = assert!(offset_of!(Compared, d) == 2 && offset_of!(Compared, cleared) == 4);
 const _: () = assert!(offset_of!(Compared, event) == 6 && offset_of!(Compared, probe) == 8);
 const _: () = assert!(offset_of!(Compared, acceptance) == 10);
+const _: () = assert!(size_of::<Scripts>() == 32 && offset_of!(Scripts, walked) == 8);
+const _: () = assert!(offset_of!(Scripts, device) == 16 && offset_of!(Scripts, reference) == 24);
 
 extern "C" {
     fn bench_read(bytes: *const u8, length: usize) -> ReadSheet;
@@ -60,6 +62,7 @@ extern "C" {
         trace: *mut u8,
         places: usize,
     ) -> Compared;
+    fn bench_count(reference: Sheet, device: Sheet, length: u16) -> Scripts;
 }
 
 /// Reads a sheet: 0 and the kept sheet, or the refusal and zeros.
@@ -134,4 +137,10 @@ pub fn compare(
             trace.len(),
         )
     }
+}
+
+/// Counts the scripts of some length.
+pub fn count(reference: &Sheet, device: &Sheet, length: u16) -> Scripts {
+    // Sound: everything is handed over by value.
+    unsafe { bench_count(*reference, *device, length) }
 }

@@ -3,6 +3,7 @@
 mod comparisons;
 mod probes;
 mod runs;
+mod scripts;
 mod sheets;
 mod suites;
 mod texts;
@@ -17,18 +18,20 @@ use crate::findings::Findings;
 use crate::play::Part;
 
 /// Every part, in the order in which they are played.
-pub static ALL: [Part; 11] = [
+pub static ALL: [Part; 13] = [
     sheets::PART,
     probes::PART,
     runs::PART,
     verdicts::PART,
     suites::PART,
     comparisons::PART,
+    scripts::PART,
     texts::compare::PART,
     texts::suite::PART,
     texts::show::PART,
     texts::probe_list::PART,
     texts::live::PART,
+    texts::script_counts::PART,
 ];
 
 /// 01's mistakes that a good bench hand makes: the name under which each is planted, in every

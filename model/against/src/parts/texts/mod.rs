@@ -4,6 +4,7 @@
 pub mod compare;
 pub mod live;
 pub mod probe_list;
+pub mod script_counts;
 pub mod show;
 pub mod suite;
 
