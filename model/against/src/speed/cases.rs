@@ -5,12 +5,13 @@ use std::hint::black_box;
 
 use model::comparison::{MAX_WORDS, WORDS_A_PAIR};
 use model::numbers::{Record, STRAY};
+use model::scripts::MAX_SCRIPT;
 use model::sheet::{encode, Sheet, MAX_BYTES};
 use model::tests::MAX_TEST;
 
-use super::inputs::{crowded, dense, longest};
+use super::inputs::{crowded, dense, longest, spread};
 use super::tables::Tables;
-use super::{pairs, runs, same, tables};
+use super::{pairs, runs, same, scripts, tables};
 use crate::edge;
 
 /// One side of a case: a call whose answer nobody needs.
@@ -51,6 +52,8 @@ pub fn worst() -> Vec<Case> {
     let last = same::compare((&reference, &device), 0, (MAX_WORDS, 1_023));
     assert_eq!((last.kind, last.d, last.cleared), (STRAY, 1_023, 1_023));
     cases.push(comparison("violating, d 1023", reference, device));
+    let (reference, device) = spread();
+    cases.push(counting(reference, device));
     cases
 }
 
@@ -201,6 +204,23 @@ fn comparison(case: &str, reference: Sheet, device: Sheet) -> Case {
         case: format!("{p} x {q} {case}"),
         ours: used(ours),
         plain: used(plain),
+    }
+}
+
+/// The scripts of 16 events, counted over all pairs of nodes of two sheets.
+fn counting(reference: Sheet, device: Sheet) -> Case {
+    let counts = same::count(&reference, &device, MAX_SCRIPT);
+    assert_eq!(
+        counts.walked,
+        model::scripts::scripts(reference.e, MAX_SCRIPT)
+    );
+    let (mine, theirs) = (Tables::of(&reference), Tables::of(&device));
+    let (p, q, e) = (reference.n, device.n, reference.e);
+    Case {
+        call: "count",
+        case: format!("L {MAX_SCRIPT}, {p} x {q}, {e} events"),
+        ours: used(move || edge::count(black_box(&reference), &device, MAX_SCRIPT)),
+        plain: used(move || scripts::count(black_box(&mine), &theirs, MAX_SCRIPT)),
     }
 }
 

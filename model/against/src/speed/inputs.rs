@@ -56,6 +56,24 @@ pub fn dense(n: u8) -> (Sheet, Sheet) {
     (ring(0, &mine), ring(1, &theirs))
 }
 
+/// A reference and a device of 32 nodes each, with 12 events and 16 sets, that have every successor:
+/// on event 0 the next node, on the others any. Every event leads on to any pair of nodes.
+pub fn spread() -> (Sheet, Sheet) {
+    let mut rng = Rng::new(2);
+    let six = (0..1u16 << MAX_EVENTS).filter(|set| set.count_ones() == 6);
+    let sets: Vec<u16> = six.take(MAX_SETS).collect();
+    let mut sheet = || {
+        let node = |v: u8| {
+            let mut succ = [0; MAX_EVENTS].map(|_| rng.below(MAX_NODES) as u8);
+            succ[0] = (v + 1) % MAX_NODES as u8;
+            (succ, sets.clone())
+        };
+        let nodes: Vec<Node> = (0..MAX_NODES as u8).map(node).collect();
+        Sheet::build(MAX_EVENTS as u8, &nodes)
+    };
+    (sheet(), sheet())
+}
+
 /// A reference and a device of `n` nodes each whose nearest violation, a stray, comes after
 /// n n - 1 events: the device climbs on event 0 and goes from its last node back to its first
 /// on event 1; the reference stays on 0 and climbs on 1, and its last node knows only 0.

@@ -1,6 +1,6 @@
 //! The speed of the proved library beside plain Rust.
 //!
-//! `tables`, `runs` and `pairs` are the calls of the library as plain Rust over flat tables:
+//! `tables`, `runs`, `pairs` and `scripts` are the calls of the library as plain Rust over flat tables:
 //! the same inputs, every check and the same answers, written for speed, but without a
 //! cleverer method: each set of events is tried once, each layer of a verdict is made from
 //! the one before it, a loop is left at the first hit. `inputs` has the worst case of each call,
@@ -11,5 +11,6 @@ pub mod inputs;
 pub mod pairs;
 pub mod runs;
 pub mod same;
+pub mod scripts;
 pub mod tables;
 pub mod timing;

@@ -14,7 +14,7 @@ type Bits = [[u32; MAX_NODES]; MAX_EVENTS];
 type Layer = [u32; MAX_NODES];
 
 /// The refusals of two sheets handed together: the reference's, the device's, 11, 19.
-fn pair_fault(reference: &Tables, device: &Tables) -> u8 {
+pub(super) fn pair_fault(reference: &Tables, device: &Tables) -> u8 {
     match (check(reference), check(device)) {
         (0, 0) if reference.e != device.e => 11,
         (0, 0) => u8::from(reference.codes() != device.codes()) * 19,

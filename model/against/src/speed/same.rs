@@ -2,15 +2,15 @@
 //! list must be equal. A difference ends the program.
 
 use model::comparison::WORDS_A_PAIR;
-use model::numbers::{Compared, Record};
+use model::numbers::{Compared, Record, Scripts};
 use model::random::{
-    damaged, deep_pair, kept, kept_twice, pair, random_record, random_sheet, recoded, spelled, Rng,
-    AIMS_KEPT, AIMS_READ,
+    damaged, deep_pair, kept, kept_twice, pair, random_record, random_sheet, recoded,
+    script_length, spelled, Rng, AIMS_KEPT, AIMS_READ,
 };
 use model::sheet::Sheet;
 
 use super::tables::Tables;
-use super::{pairs, runs, tables};
+use super::{pairs, runs, scripts, tables};
 use crate::edge;
 
 /// One reading.
@@ -90,6 +90,14 @@ pub fn compare(
     ours
 }
 
+/// One count of scripts.
+pub fn count(reference: &Sheet, device: &Sheet, length: u16) -> Scripts {
+    let ours = edge::count(reference, device, length);
+    let (mine, theirs) = (Tables::of(reference), Tables::of(device));
+    assert_eq!(ours, scripts::count(&mine, &theirs, length));
+    ours
+}
+
 /// Some random inputs of every call, refused ones among them.
 pub fn random(rounds: usize) {
     let mut rng = Rng::new(1);
@@ -139,4 +147,5 @@ fn two_sheets(rng: &mut Rng, reference: &Sheet, device: &Sheet) {
     let words = rng.pick(&[words, words + 1, words.saturating_sub(1), words + pairs]);
     let places = rng.pick(&[pairs, pairs.saturating_sub(1), pairs.saturating_sub(2)]);
     compare((reference, device), traces, (words, places));
+    count(reference, device, script_length(rng));
 }
