@@ -1,4 +1,4 @@
-//! A plain model of the dialogue bench: sheets, probes, tests and comparisons.
+//! A plain model of the dialogue bench: sheets, probes, tests, comparisons and scripts.
 //!
 //! Everything here follows the written definitions as directly as possible.
 //! Speed is given up wherever it would need a cleverer argument.

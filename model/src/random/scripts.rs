@@ -1,10 +1,13 @@
 //! Random lengths of scripts, and calls of the program that counts them.
 
+use super::codes::{recoded, spelled};
 use super::damage::{damaged, AIMS_READ};
 use super::input::{program_input, wrong_word};
 use super::pairs::{full_pair, small_pair};
-use super::{spelled, Rng};
+use super::raw::random_sheet;
+use super::Rng;
 use crate::scripts::MAX_SCRIPT;
+use crate::sheet::Sheet;
 use crate::text::script_counts::Call;
 
 /// A length of scripts: mostly 0 to 16, at times one that is refused.
@@ -26,8 +29,9 @@ fn too_long(rng: &mut Rng) -> u16 {
     }
 }
 
-/// A call of `script_counts`: sheets that are small or lead far, each refusal of a sheet in turn as
-/// the reference's and as the device's, a few bytes, or any other, and a word that is mostly right.
+/// A call of `script_counts`: sheets that are small or lead far, at times with other events or
+/// codes, each refusal of a sheet in turn as the reference's and as the device's, a few bytes, or
+/// any other, and a word that is mostly right.
 pub fn script_call(rng: &mut Rng, round: u64) -> Call {
     let aim = AIMS_READ[(round / 8) as usize % AIMS_READ.len()];
     let words = script_words(rng);
@@ -47,10 +51,20 @@ pub fn script_call(rng: &mut Rng, round: u64) -> Call {
     match round % 8 {
         2 => first = damaged(rng, aim),
         3 => second = damaged(rng, aim),
+        4 if rng.one_in(4) => second = spelled_other(rng, &device),
         _ => {}
     }
     let input = [first, second].concat();
     Call { input, words }
+}
+
+/// The bytes of a sheet with other codes than a device's, or of any sheet.
+fn spelled_other(rng: &mut Rng, device: &Sheet) -> Vec<u8> {
+    let other = match rng.one_in(2) {
+        true => recoded(rng, device),
+        false => random_sheet(rng),
+    };
+    spelled(rng, &other)
 }
 
 /// The words of a call: a length, at times with zeros before it, or something else.

@@ -52,8 +52,8 @@ pub fn worst() -> Vec<Case> {
     let last = same::compare((&reference, &device), 0, (MAX_WORDS, 1_023));
     assert_eq!((last.kind, last.d, last.cleared), (STRAY, 1_023, 1_023));
     cases.push(comparison("violating, d 1023", reference, device));
-    let (reference, device) = spread();
-    cases.push(counting(reference, device));
+    cases.push(counting("all there", spread(false)));
+    cases.push(counting("a quarter missing", spread(true)));
     cases
 }
 
@@ -208,17 +208,14 @@ fn comparison(case: &str, reference: Sheet, device: Sheet) -> Case {
 }
 
 /// The scripts of 16 events, counted over all pairs of nodes of two sheets.
-fn counting(reference: Sheet, device: Sheet) -> Case {
-    let counts = same::count(&reference, &device, MAX_SCRIPT);
-    assert_eq!(
-        counts.walked,
-        model::scripts::scripts(reference.e, MAX_SCRIPT)
-    );
+fn counting(case: &str, (reference, device): (Sheet, Sheet)) -> Case {
+    let answer = same::count(&reference, &device, MAX_SCRIPT);
+    assert_eq!((answer.refusal, answer.walked == 0), (0, false));
     let (mine, theirs) = (Tables::of(&reference), Tables::of(&device));
-    let (p, q, e) = (reference.n, device.n, reference.e);
+    let (p, q) = (reference.n, device.n);
     Case {
         call: "count",
-        case: format!("L {MAX_SCRIPT}, {p} x {q}, {e} events"),
+        case: format!("L {MAX_SCRIPT}, {p} x {q}, {case}"),
         ours: used(move || edge::count(black_box(&reference), &device, MAX_SCRIPT)),
         plain: used(move || scripts::count(black_box(&mine), &theirs, MAX_SCRIPT)),
     }

@@ -56,15 +56,24 @@ pub fn dense(n: u8) -> (Sheet, Sheet) {
     (ring(0, &mine), ring(1, &theirs))
 }
 
-/// A reference and a device of 32 nodes each, with 12 events and 16 sets, that have every successor:
-/// on event 0 the next node, on the others any. Every event leads on to any pair of nodes.
-pub fn spread() -> (Sheet, Sheet) {
+/// A reference and a device of 32 nodes each, with 12 events: on event 0 a node leads to the next,
+/// on each other event to any node, or, if there are gaps, in one of four places to none. Without
+/// gaps every node has 16 sets, with gaps it may stop.
+pub fn spread(gaps: bool) -> (Sheet, Sheet) {
     let mut rng = Rng::new(2);
     let six = (0..1u16 << MAX_EVENTS).filter(|set| set.count_ones() == 6);
-    let sets: Vec<u16> = six.take(MAX_SETS).collect();
+    let sets = match gaps {
+        true => vec![0],
+        false => six.take(MAX_SETS).collect(),
+    };
     let mut sheet = || {
         let node = |v: u8| {
-            let mut succ = [0; MAX_EVENTS].map(|_| rng.below(MAX_NODES) as u8);
+            let mut succ = [NO_NODE; MAX_EVENTS];
+            for place in &mut succ {
+                if !(gaps && rng.one_in(4)) {
+                    *place = rng.below(MAX_NODES) as u8;
+                }
+            }
             succ[0] = (v + 1) % MAX_NODES as u8;
             (succ, sets.clone())
         };

@@ -6,8 +6,8 @@ use model::sheet::{MAX_NODES, NO_NODE};
 use super::pairs::pair_fault;
 use super::tables::Tables;
 
-/// Walked, device stops and reference stops at each pair of nodes, coded q v + w.
-type Counts = [[u64; 3]; MAX_NODES * MAX_NODES];
+/// Walked, device stops and reference stops, each at every pair of nodes, coded q v + w.
+type Counts = [[u64; MAX_NODES * MAX_NODES]; 3];
 
 /// Counts the scripts of some length.
 pub fn count(reference: &Tables, device: &Tables, length: u16) -> Scripts {
@@ -29,16 +29,17 @@ pub fn count(reference: &Tables, device: &Tables, length: u16) -> Scripts {
 
 /// The counts at the start, from two tables that change places.
 fn worked(reference: &Tables, device: &Tables, length: u16) -> [u64; 3] {
-    let mut now: Counts = [[1, 0, 0]; MAX_NODES * MAX_NODES];
-    let mut next: Counts = now;
-    let (mut now, mut next) = (&mut now, &mut next);
+    let mut one: Counts = [[0; MAX_NODES * MAX_NODES]; 3];
+    let mut other = one;
+    one[0].fill(1);
+    let (mut now, mut next) = (&mut one, &mut other);
     let mut stop = 1;
     for _ in 0..length {
         longer(reference, device, stop, now, next);
         (now, next) = (next, now);
         stop *= u64::from(reference.e);
     }
-    now[0]
+    [now[0][0], now[1][0], now[2][0]]
 }
 
 /// The counts for one event more; a stop counts as given.
@@ -54,13 +55,15 @@ fn longer(reference: &Tables, device: &Tables, stop: u64, from: &Counts, to: &mu
                 } else if a == NO_NODE {
                     sums[2] += stop;
                 } else {
-                    let there = &from[a as usize * q + b as usize];
-                    sums[0] += there[0];
-                    sums[1] += there[1];
-                    sums[2] += there[2];
+                    let pair = a as usize * q + b as usize;
+                    sums[0] += from[0][pair];
+                    sums[1] += from[1][pair];
+                    sums[2] += from[2][pair];
                 }
             }
-            to[v * q + w] = sums;
+            for (table, sum) in to.iter_mut().zip(sums) {
+                table[v * q + w] = sum;
+            }
         }
     }
 }
