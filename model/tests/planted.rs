@@ -1,6 +1,7 @@
 //! The variants in which faults are planted answer as the plain model does where no fault
 //! is planted, and each fault of a verdict, of all verdicts, of a comparison, of a count of
-//! scripts and of a text shows on some input. The random comparison with the library looks for the faults of every call.
+//! scripts and of a text shows on some input. The random comparison with the library looks for
+//! the faults of every call.
 
 use model::comparison::{compare_into, Outcome, MAX_WORDS};
 use model::examples::program_pair;
