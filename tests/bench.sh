@@ -5,7 +5,7 @@
 set -u
 cd "$(dirname "$0")/.." || exit 1
 . tests/shared
-for name in compare suite show probe_list live; do built "$name"; done
+for name in compare suite show probe_list live script_counts; do built "$name"; done
 begins
 root=$PWD
 example=samples/example
@@ -60,6 +60,15 @@ ends_with 2 'suite refused' ./bench suite $example/reference.sheet "$scratch/sto
 ends_with 2 'suite refused by its codes' ./bench suite $codes/reference.sheet $codes/other.sheet
 ends_with 2 'suite, reference refused' ./bench suite "$scratch/version" $example/device.sheet
 ends_with 2 'suite, device refused' ./bench suite $example/reference.sheet "$scratch/empty"
+ends_with 0 'scripts, all walked' ./bench scripts $example/reference.sheet $example/device.sheet 2
+ends_with 0 'scripts, some stopped' ./bench scripts $tray/reference.sheet $tray/device.sheet 16
+ends_with 2 'scripts refused' ./bench scripts $example/reference.sheet "$scratch/stopped" 3
+ends_with 2 'scripts refused by its codes' ./bench scripts $codes/reference.sheet $codes/other.sheet 3
+ends_with 2 'scripts refused by their length' ./bench scripts $example/reference.sheet $example/device.sheet 17
+ends_with 2 'scripts refused by a word' ./bench scripts $example/reference.sheet $example/device.sheet three
+ends_with 2 'scripts, reference refused' ./bench scripts "$scratch/version" $example/device.sheet 3
+ends_with 2 'scripts, reference refused by its length' ./bench scripts "$scratch/empty" $example/device.sheet 3
+ends_with 2 'scripts, device refused' ./bench scripts $example/reference.sheet "$scratch/version" 3
 for name in show probe_list; do
     ends_with 0 "$name, shown" ./bench "$name" $example/reference.sheet
     ends_with 2 "$name, refused" ./bench "$name" "$scratch/version"
@@ -88,6 +97,15 @@ ends_with 2 'no such program' ./bench judge
 ends_with 2 'no such file' ./bench show "$scratch/nowhere"
 ends_with 2 'too few files' ./bench compare $example/reference.sheet
 ends_with 2 'too many words' ./bench build now
+wrong_words() { # WORD..: scripts is not so called
+    ends_with 2 "scripts $*" ./bench scripts "$@"
+    told "scripts $*" 'scripts refused 20: scripts takes two files and a length, 0 to 16: ./bench scripts REF DEV L'
+}
+wrong_words
+wrong_words $example/reference.sheet $example/device.sheet
+wrong_words $example/reference.sheet $example/device.sheet 3 3
+ends_with 2 'scripts, no such file' ./bench scripts $example/reference.sheet "$scratch/nowhere" 3
+told 'scripts, no such file' "there is no file $scratch/nowhere"
 ends_with 0 'build, where all is built' ./bench build
 held 'build, where all is built' "built $(pwd -P)/target/bin"
 
@@ -147,10 +165,14 @@ told 'a reader that went away' 'the output could not be written'
 ends_with 2 'help to a full device' sh -c './bench help > /dev/full'
 # the programs themselves tell it too; their own status is always 0
 cat $example/reference.sheet $example/device.sheet > "$scratch/pair"
-for program in compare suite show probe_list; do
+for program in compare suite show probe_list script_counts; do
     input=$scratch/pair
-    case $program in show | probe_list) input=$example/reference.sheet ;; esac
-    ends_with 0 "$program itself" sh -c "target/bin/$program < '$input' > /dev/full"
+    word=
+    case $program in
+        show | probe_list) input=$example/reference.sheet ;;
+        script_counts) word=3 ;;
+    esac
+    ends_with 0 "$program itself" sh -c "target/bin/$program $word < '$input' > /dev/full"
     told "$program itself" "$program: the output could not be written"
 done
 ends_with 2 'a live run to a full device' \
@@ -176,6 +198,16 @@ stand_in suite 'printf "tests 1 run 1 all pass"'
 ends_with 2 'a last line that is not whole' "$scratch/copy/bench" suite $example/reference.sheet $example/device.sheet
 stand_in suite 'printf "tests 1 run 1 all pass\n"; exit 3'
 ends_with 2 'a program that ends badly' "$scratch/copy/bench" suite $example/reference.sheet $example/device.sheet
+stand_in script_counts 'printf "scripts of 1 events 2\nwalked 2\ndevice stops 0\nreference stops 0\n"'
+ends_with 2 'counts without their last line' \
+    "$scratch/copy/bench" scripts $example/reference.sheet $example/device.sheet 1
+# the length is handed over as it was given, as one word
+stand_in script_counts 'printf "%s\n" "ends early $# ($*)"'
+for length in 3 00016 '' '1 2' '*'; do
+    ends_with 0 "the length '$length'" \
+        "$scratch/copy/bench" scripts $example/reference.sheet $example/device.sheet "$length"
+    held "the length '$length'" "ends early 1 ($length)"
+done
 stand_in show 'echo "sheet 1 nodes 1 events"; kill -KILL $$'
 ends_with 2 'a program that is killed' "$scratch/copy/bench" show $example/reference.sheet
 stand_in show ':'

@@ -19,6 +19,11 @@ for folder in samples/*/; do
         same "compare $sheet" "$name.compare"
         ./bench suite "${folder}reference.sheet" "$sheet" > "$scratch/printed"
         same "suite $sheet" "$name.suite"
+        # what is printed for scripts of L events stands in NAME.scripts_L
+        for text in "$name".scripts_*; do
+            ./bench scripts "${folder}reference.sheet" "$sheet" "${text##*.scripts_}" > "$scratch/printed"
+            same "scripts $text" "$text"
+        done
     done
     # shellcheck disable=SC2046
     ./bench live "${folder}reference.sheet" $(cat "${folder}live.words") < "${folder}live.reports" > "$scratch/printed"
@@ -51,6 +56,8 @@ says 2 'there is no file nowhere' ./bench show nowhere
 says 2 'is not a file' ./bench show samples
 says 2 'takes one file' ./bench probe_list
 says 2 'takes two files' ./bench compare "$reference_file"
+says 2 'takes two files and a length' ./bench scripts
+says 2 'takes two files and a length' ./bench scripts "$reference_file" "$device_file"
 says 2 'takes a file and two numbers' ./bench live
 says 2 'takes a file and two numbers' ./bench live "$reference_file" 1
 # refused_meaning NUMBER MEANING HEX..: both programs refuse these bytes, with the number and its meaning
@@ -101,12 +108,19 @@ held 'probe_list, version 2' 'sheet 2 nodes 2 events' 'node 0 probes 3 ( 0 1 )' 
 cp "$reference_file" "$scratch/-n"
 says 0 'sheet 6 nodes 8 events' sh -c 'cd "$1" && "$2/bench" show -n' sh "$scratch" "$PWD"
 says 0 'reference 6 nodes 8 events' sh -c 'cd "$1" && "$2/bench" compare -n -n' sh "$scratch" "$PWD"
-for program in compare suite; do
-    for wrong in cut long empty; do
+says 0 'ends early 134217236' sh -c 'cd "$1" && "$2/bench" scripts -n -n 9' sh "$scratch" "$PWD"
+for wrong in cut long empty; do
+    for program in compare suite; do
         says 2 'reference refused 1' ./bench "$program" "$scratch/$wrong" "$device_file"
         says 2 'device refused 1' ./bench "$program" "$reference_file" "$scratch/$wrong"
     done
+    says 2 'reference refused 1' ./bench scripts "$scratch/$wrong" "$device_file" 17
+    says 2 'device refused 1' ./bench scripts "$reference_file" "$scratch/$wrong" 17
 done
+says 2 'scripts refused 20' ./bench scripts "$reference_file" "$device_file" 17
+says 2 'scripts refused 20' ./bench scripts "$reference_file" "$device_file" L
+says 2 'scripts refused 20' ./bench scripts "$reference_file" "$device_file" ''
+says 2 'scripts refused 20' ./bench scripts "$reference_file" "$device_file" '9 '
 says 2 'test refused 14' ./bench live "$reference_file" 1024 0
 says 2 'test refused 14' ./bench live "$reference_file" 0 h
 says 2 'test refused 14' ./bench live "$reference_file" 0 0 trace
