@@ -1,6 +1,7 @@
-/* The dialogue bench: sheets, probes, tests and comparisons. The functions are those of the proved library libedge.a,
- * which `rt staticlib edge` writes below target/staticlib. It is for Linux on x86-64 and needs nothing but the C
- * library, of which it calls memcpy and memset alone: it takes no memory but the stack and what it is lent.
+/* The dialogue bench: sheets, probes, tests, comparisons and counts of scripts. The functions are those of the proved
+ * library libedge.a, which `rt staticlib edge` writes below target/staticlib. It is for Linux on x86-64 and needs
+ * nothing but the C library, of which it calls memcpy and memset alone: it takes no memory but the stack and what it is
+ * lent.
  *
  * An event is a number below E, a node a number below N. The catalogue code of an event says what the event is. A set
  * of events is a 16-bit number in which event i adds 2 to the power i. Every content of what is lent or handed over is
@@ -14,8 +15,8 @@
  *
  * The stack that a call needs, measured on worst cases and rounded up, in bytes, with the copies of the sheets that are
  * handed over: bench_check and bench_read 9,000; bench_open 14,000; bench_step and bench_report 16,000; bench_list
- * 19,000; bench_judge and bench_judge_all 22,000; bench_compare 25,000. The compiled library has no recursion, so no
- * call needs more for larger sheets or longer traces.
+ * 19,000; bench_judge and bench_judge_all 22,000; bench_compare 25,000; bench_count XX. The compiled library has no
+ * recursion, so no call needs more for larger sheets, longer traces or longer scripts.
  */
 #ifndef BENCH_H
 #define BENCH_H
@@ -76,7 +77,8 @@ enum {
     BENCH_BAD_TEST = 14,     /* a test number k above 1,023 */
     BENCH_BAD_EVENT = 15,    /* an event that is not below E */
     BENCH_ENDED = 16,        /* the run has ended */
-    BENCH_NOT_OFFERED = 17   /* an event that is not offered */
+    BENCH_NOT_OFFERED = 17,  /* an event that is not offered */
+    BENCH_LONG_SCRIPT = 20   /* a length of scripts above 16 */
 };
 
 /* What is kept of one node: its successor on each event, 255 for none; its minimal acceptances, strictly ascending; how
@@ -241,6 +243,27 @@ struct bench_compared {
 struct bench_compared bench_compare(struct bench_sheet reference, struct bench_sheet device, uint8_t traces, uint16_t *work,
                                     size_t words, uint8_t *trace, size_t places);
 
+/* The longest scripts that are counted. */
+enum { BENCH_SCRIPT_EVENTS = 16 };
+
+/* What a count of scripts answers: the refusal, 0 for none; and, of all sequences of L events, how many are walked by
+ * both to the end (`walked`), how many are stopped first at an event that the device cannot do (`device`), and how many
+ * are stopped first at an event that the device can do and the reference cannot (`reference`). The device is asked
+ * first: an event that neither can do counts for it. The three sum to E to the power L; the last two of them are the
+ * scripts that end early. Acceptances play no part: a script counts as walked even if the device may refuse an event of
+ * it. If the call is refused, all three are 0. */
+struct bench_scripts {
+    uint8_t refusal;
+    uint64_t walked;
+    uint64_t device;
+    uint64_t reference;
+};
+
+/* Counts the scripts of `length` events, 0 to BENCH_SCRIPT_EVENTS. Handed over: copies of both sheets. Answered: the
+ * three counts; or the refusal (the reference's; the device's; 11; 19; 20, a length above 16). With length 0 there is
+ * one script, without an event, which both walk. */
+struct bench_scripts bench_count(struct bench_sheet reference, struct bench_sheet device, uint16_t length);
+
 /* The places of each struct, on which the library and its callers agree, held where the compiler can: from C11 and from
  * C++11 on. */
 #if defined(__cplusplus) && __cplusplus >= 201103L
@@ -267,6 +290,8 @@ BENCH_HOLDS(sizeof(struct bench_compared) == 12 && offsetof(struct bench_compare
 BENCH_HOLDS(offsetof(struct bench_compared, d) == 2 && offsetof(struct bench_compared, cleared) == 4);
 BENCH_HOLDS(offsetof(struct bench_compared, event) == 6 && offsetof(struct bench_compared, probe) == 8);
 BENCH_HOLDS(offsetof(struct bench_compared, acceptance) == 10);
+BENCH_HOLDS(sizeof(struct bench_scripts) == 32 && offsetof(struct bench_scripts, walked) == 8);
+BENCH_HOLDS(offsetof(struct bench_scripts, device) == 16 && offsetof(struct bench_scripts, reference) == 24);
 #undef BENCH_HOLDS
 #endif
 
