@@ -16,9 +16,11 @@ ghost use Rattle.verdicts_spec.specs.Numbers.{suited};
 ghost use Rattle.comparison_spec.specs.declared.Outcome.the-variants.{Denied};
 ghost use Rattle.comparison_spec.specs.Comparison.{outcomeOf, traceAfter, workAfter};
 ghost use Rattle.comparison_spec.specs.Numbers.{compared};
+ghost use Rattle.scripts_spec.specs.Scripts.{scriptsOf};
 ghost use Rattle.edge.specs.Flat.{reportFlat, listedFlat, saidFlat, steppedFlat, judgedFlat, suitedFlat, comparedFlat};
 use comparison_spec::Outcome;
 use probes_spec::Listed;
+use scripts_spec::Scripts;
 use sheet_spec::ReadSheet;
 use sheet_spec::Sheet;
 use tests_spec::Answer;
@@ -351,4 +353,15 @@ pub extern "C" fn bench_compare(
 {
     let outcome = comparison::compare(reference, device, trace_only != 0, work, trace);
     compared_flat(outcome)
+}
+
+// ---- scripts
+
+// Counts the scripts of `length` events that go each way; or answers the number of the refusal, and 0 in every other
+// place.
+#[no_mangle]
+pub extern "C" fn bench_count(reference: Sheet, device: Sheet, length: u16) -> Scripts
+    ensures { λ r. ⌜ r ≡ scriptsOf reference device length ⌝ }
+{
+    scripts::count(reference, device, length)
 }
