@@ -54,9 +54,19 @@ unfoldable pub tableCounts : List ℕ → List ℕ → ℕ → ℕ → ℕ → �
 tableCounts a b p q e zero n m = one
 tableCounts a b p q e (suc l) n m = sums a b (e ^ l) p q n m (tableCounts a b p q e l) e
 
+-- the place that an event leads to, by its nodes x and y: that of the pair; after the pairs, that of what the reference
+-- stops, and that of what the device stops
+unfoldable pub place : ℕ → ℕ → ℕ → ℕ → ℕ
+place p q x y = cond (ltb y q) (cond (ltb x p) (x * q + y) (p * q)) (p * q + 1)
+
+-- the sums over the places of the first i events at the pair (n, m)
+unfoldable pub placeSums : List ℕ → List ℕ → ℕ → ℕ → List ℕ → ℕ → ℕ → ℕ → Counts
+placeSums a b p q t n m zero = none
+placeSums a b p q t n m (suc i) = plus (placeSums a b p q t n m i) (cell t (place p q (getD a (n * 12 + i) 0) (getD b (m * 12 + i) 0)))
+
 -- what a table for one event more holds at place c
-unfoldable pub nextCell : List ℕ → List ℕ → ℕ → ℕ → ℕ → ℕ → List ℕ → ℕ → Counts
-nextCell a b power p q e before c = sums a b power p q (c / q) (c % q) (cellIn before q) e
+unfoldable pub nextCell : List ℕ → List ℕ → ℕ → ℕ → ℕ → List ℕ → ℕ → Counts
+nextCell a b p q e before c = placeSums a b p q before (c / q) (c % q) e
 
 -- each of three counts is at most x
 pub record Most (x : ℕ) (c : Counts) : Type 0 where
@@ -64,24 +74,19 @@ pub record Most (x : ℕ) (c : Counts) : Type 0 where
   pub device : c .device ≤ x
   pub reference : c .reference ≤ x
 
--- no count of a table exceeds the power
-abbrev pub Small : List ℕ → ℕ → ℕ → ℕ → Type 0
-Small t power p q = (x y : ℕ) → x < p → y < q → Most power (cellIn t q x y)
+-- the most scripts that go on with one event: 12 to the power 15
+abbrev pub most : ℕ
+most = 15407021574586368
 
--- the numbers of nodes, of events and of scripts are in range
-pub record Sizes (p q e power : ℕ) : Type 0 where
+-- no count of a table, its two last places included, exceeds that
+abbrev pub Small : List ℕ → ℕ → ℕ → Type 0
+Small t p q = (c : ℕ) → c < p * q + 2 → Most most (cell t c)
+
+-- the numbers of nodes and of events are in range
+pub record Sizes (p q e : ℕ) : Type 0 where
   pub p-few : p ≤ 32
   pub q-few : q ≤ 32
   pub e-few : e ≤ 12
-  pub power-few : power ≤ 15407021574586368
-
--- one event may be added: the sums are at most eleven times the power, and what is added is at most the power
-pub record AddOk (before : List ℕ) (power p q x y : ℕ) (sums : Counts) : Type 0 where
-  pub p-few : p ≤ 32
-  pub q-few : q ≤ 32
-  pub power-few : power ≤ 15407021574586368
-  pub so-far : Most (11 * power) sums
-  pub after : x < p → y < q → Most power (cellIn before q x y)
 
 -- a table after the counts of one place were put: they stand there, and all else as before
 pub record Stored (t : List ℕ) (c : ℕ) (v : Counts) (t′ : List ℕ) : Type 0 where
@@ -89,9 +94,16 @@ pub record Stored (t : List ℕ) (c : ℕ) (v : Counts) (t′ : List ℕ) : Type
   pub there : cell t′ c ≡ v
   pub others : (k : ℕ) → k ≢ c → cell t′ k ≡ cell t k
 
+-- a table after what an event adds that cannot be done was put: it stands after the pairs, which are as before
+pub record Stopped (t : List ℕ) (pairs power : ℕ) (t′ : List ℕ) : Type 0 where
+  pub long : length t′ ≡ length t
+  pub reference : cell t′ pairs ≡ record { walked = 0; device = 0; reference = power }
+  pub device : cell t′ (pairs + 1) ≡ record { walked = 0; device = power; reference = 0 }
+  pub others : (k : ℕ) → k < pairs → cell t′ k ≡ cell t k
+
 -- the first c places of a table hold f
 pub record Filled (f : ℕ → Counts) (c : ℕ) (t : List ℕ) : Type 0 where
-  pub long : length t ≡ 3072
+  pub long : length t ≡ 3078
   pub holds : (k : ℕ) → k < c → cell t k ≡ f k
 
 -- the first table holds the counts for l events, of which there are E to the power l; L are asked for
@@ -104,6 +116,6 @@ pub record Begun (a b : List ℕ) (p q e l L power : ℕ) (from to : List ℕ) :
   pub l-few : l ≤ L
   pub L-few : L ≤ 16
   pub power-is : power ≡ e ^ l
-  pub from-long : length from ≡ 3072
-  pub to-long : length to ≡ 3072
+  pub from-long : length from ≡ 3078
+  pub to-long : length to ≡ 3078
   pub holds : (x y : ℕ) → x < p → y < q → cellIn from q x y ≡ tableCounts a b p q e l x y

@@ -58,8 +58,8 @@ fn count_rows(
 {
     let a = sheet_rows::flat(mine);
     let b = sheet_rows::flat(theirs);
-    let mut from = [0u64; 3072];
-    let mut to = [0u64; 3072];
+    let mut from = [0u64; 3078];
+    let mut to = [0u64; 3078];
     tables::start(&mut from, p, q);
     tables::advance(&a, &b, p, q, e, 0, length, 1, &mut from, &mut to)
 }

@@ -1,85 +1,79 @@
 // Tables of counts: for each pair of nodes three numbers, how many scripts of so many events go each way from that pair
-// on. The table for one event more is filled from the one before; two tables change places.
+// on. After the pairs come two places for an event that cannot be done: what the reference stops, and what the device
+// stops. So a step adds the counts of one place, whatever the sheets can do, and no branch waits for them. The table for
+// one event more is filled from the one before; two tables change places.
 ghost use mathlib.Core.Path.{_≡_};
 ghost use Prim.Native.Nat.{_+_, _*_, _≤_, _<_};
 ghost use lib.ListN.{length};
-ghost use Rattle.scripts.specs.Shapes.{one, cell, cellIn, plus, eventCounts, sums, tableCounts};
-ghost use Rattle.scripts.specs.Shapes.{Sizes, Small, Stored, Filled, AddOk, Begun, nextCell};
+ghost use Rattle.scripts.specs.Shapes.{one, most, cell, plus, place, placeSums, nextCell, tableCounts};
+ghost use Rattle.scripts.specs.Shapes.{Most, Sizes, Small, Stored, Stopped, Filled, Begun};
 use super::Counts;
 
-// The counts of a pair.
-fn load(table: &[u64; 3072], pair: usize) -> Counts
-    requires { ⌜ pair < 1024 ⌝ }
-    ensures { λ r. ⌜ r ≡ cell (now (table .entry)) pair ⌝ }
+// The counts at a place.
+fn load(table: &[u64; 3078], place: usize) -> Counts
+    requires { ⌜ place < 1026 ⌝ }
+    ensures { λ r. ⌜ r ≡ cell (now (table .entry)) place ⌝ }
 {
     Counts {
-        walked: table[pair * 3],
-        device: table[pair * 3 + 1],
-        reference: table[pair * 3 + 2],
+        walked: table[place * 3],
+        device: table[place * 3 + 1],
+        reference: table[place * 3 + 2],
     }
 }
 
-// Puts the counts of a pair.
-fn store(table: &mut [u64; 3072], pair: usize, counts: Counts)
-    requires { ⌜ (pair < 1024) × (length (now table) ≡ 3072) ⌝ }
-    ensures { λ _. ⌜ Stored (now (table .entry)) pair counts (now (table .exit)) ⌝ }
+// Puts the counts of a place.
+fn store(table: &mut [u64; 3078], place: usize, counts: Counts)
+    requires { ⌜ (place < 1026) × (length (now table) ≡ 3078) ⌝ }
+    ensures { λ _. ⌜ Stored (now (table .entry)) place counts (now (table .exit)) ⌝ }
 {
-    table[pair * 3] = counts.walked;
-    table[pair * 3 + 1] = counts.device;
-    table[pair * 3 + 2] = counts.reference;
+    table[place * 3] = counts.walked;
+    table[place * 3 + 1] = counts.device;
+    table[place * 3 + 2] = counts.reference;
 }
 
-// The sums with those of one event more, which leads the reference to x and the device to y: if the device has no node
-// y, all scripts that go on with this event stop at it, by the device; if the reference has no node x, by the
-// reference; else as many go each way as from the pair of x and y on. `power` is how many there are.
-fn with_event(
-    sums: Counts,
-    before: &[u64; 3072],
-    power: u64,
-    p: usize,
-    q: usize,
-    x: usize,
-    y: usize,
-) -> Counts
-    requires { ⌜ AddOk (now before) power p q x y sums ⌝ }
-    ensures { λ r. ⌜ r ≡ plus sums (eventCounts power p q x y (cellIn (now (before .entry)) q x y)) ⌝ }
+// The place of an event that leads the reference to x and the device to y: that of the pair; if the device has no node
+// y, the place of what the device stops, whatever x is; if the reference has no node x, that of what it stops.
+fn place_of(p: usize, q: usize, x: u8, y: u8) -> usize
+    requires { ⌜ (p ≤ 32) × (q ≤ 32) ⌝ }
+    ensures { λ r. ⌜ r ≡ place p q x y ⌝ }
 {
-    if y < q {
-        if x < p {
-            let after = load(before, x * q + y);
-            return Counts {
-                walked: sums.walked + after.walked,
-                device: sums.device + after.device,
-                reference: sums.reference + after.reference,
-            };
+    let n = base::wide(x);
+    let m = base::wide(y);
+    if m < q {
+        if n < p {
+            return n * q + m;
         }
-        return Counts {
-            walked: sums.walked,
-            device: sums.device,
-            reference: sums.reference + power,
-        };
+        return p * q;
     }
+    p * q + 1
+}
+
+// The sums with the counts of one place more.
+fn with_place(sums: Counts, table: &[u64; 3078], place: usize) -> Counts
+    requires { ⌜ (place < 1026) × Most (11 * most) sums × Most most (cell (now table) place) ⌝ }
+    ensures { λ r. ⌜ r ≡ plus sums (cell (now (table .entry)) place) ⌝ }
+{
+    let more = load(table, place);
     Counts {
-        walked: sums.walked,
-        device: sums.device + power,
-        reference: sums.reference,
+        walked: sums.walked + more.walked,
+        device: sums.device + more.device,
+        reference: sums.reference + more.reference,
     }
 }
 
-// The counts of the pair of nodes n and m for one event more: the sums over its events.
+// The counts of the pair of nodes n and m for one event more: the sums over the places of its events.
 fn pair_counts(
     a: &[u8; 384],
     b: &[u8; 384],
     p: usize,
     q: usize,
     e: usize,
-    before: &[u64; 3072],
-    power: u64,
+    before: &[u64; 3078],
     n: usize,
     m: usize,
 ) -> Counts
-    requires { ⌜ Sizes p q e power × (n < 32) × (m < 32) × Small (now before) power p q ⌝ }
-    ensures { λ r. ⌜ r ≡ sums (now (a .entry)) (now (b .entry)) power p q n m (cellIn (now (before .entry)) q) e ⌝ }
+    requires { ⌜ Sizes p q e × (n < 32) × (m < 32) × Small (now before) p q ⌝ }
+    ensures { λ r. ⌜ r ≡ placeSums (now (a .entry)) (now (b .entry)) p q (now (before .entry)) n m e ⌝ }
 {
     let mut s = Counts {
         walked: 0,
@@ -87,9 +81,8 @@ fn pair_counts(
         reference: 0,
     };
     for i in 0..e {
-        let x = base::wide(a[n * 12 + i]);
-        let y = base::wide(b[m * 12 + i]);
-        s = with_event(s, before, power, p, q, x, y);
+        let place = place_of(p, q, a[n * 12 + i], b[m * 12 + i]);
+        s = with_place(s, before, place);
     }
     s
 }
@@ -101,18 +94,17 @@ fn fill_row(
     p: usize,
     q: usize,
     e: usize,
-    before: &[u64; 3072],
-    power: u64,
-    after: &mut [u64; 3072],
+    before: &[u64; 3078],
+    after: &mut [u64; 3078],
     n: usize,
 )
-    requires { ⌜ Sizes p q e power × (n < p) × Small (now before) power p q
-        × Filled (nextCell (now a) (now b) power p q e (now before)) (n * q) (now after) ⌝ }
-    ensures { λ _. ⌜ Filled (nextCell (now (a .entry)) (now (b .entry)) power p q e (now (before .entry)))
+    requires { ⌜ Sizes p q e × (n < p) × Small (now before) p q
+        × Filled (nextCell (now a) (now b) p q e (now before)) (n * q) (now after) ⌝ }
+    ensures { λ _. ⌜ Filled (nextCell (now (a .entry)) (now (b .entry)) p q e (now (before .entry)))
         ((n + 1) * q) (now (after .exit)) ⌝ }
 {
     for m in 0..q {
-        let counts = pair_counts(a, b, p, q, e, before, power, n, m);
+        let counts = pair_counts(a, b, p, q, e, before, n, m);
         store(after, n * q + m, counts);
     }
 }
@@ -124,22 +116,47 @@ fn fill(
     p: usize,
     q: usize,
     e: usize,
-    before: &[u64; 3072],
-    power: u64,
-    after: &mut [u64; 3072],
+    before: &[u64; 3078],
+    after: &mut [u64; 3078],
 )
-    requires { ⌜ Sizes p q e power × Small (now before) power p q × (length (now after) ≡ 3072) ⌝ }
-    ensures { λ _. ⌜ Filled (nextCell (now (a .entry)) (now (b .entry)) power p q e (now (before .entry)))
+    requires { ⌜ Sizes p q e × Small (now before) p q × (length (now after) ≡ 3078) ⌝ }
+    ensures { λ _. ⌜ Filled (nextCell (now (a .entry)) (now (b .entry)) p q e (now (before .entry)))
         (p * q) (now (after .exit)) ⌝ }
 {
     for n in 0..p {
-        fill_row(a, b, p, q, e, before, power, after, n);
+        fill_row(a, b, p, q, e, before, after, n);
     }
 }
 
+// Puts what an event that cannot be done adds, after the pairs: all of the scripts that go on with it, `power` of them,
+// stop there, by the reference or by the device.
+fn put_stops(table: &mut [u64; 3078], pairs: usize, power: u64)
+    requires { ⌜ (pairs ≤ 1024) × (length (now table) ≡ 3078) ⌝ }
+    ensures { λ _. ⌜ Stopped (now (table .entry)) pairs power (now (table .exit)) ⌝ }
+{
+    store(
+        table,
+        pairs,
+        Counts {
+            walked: 0,
+            device: 0,
+            reference: power,
+        },
+    );
+    store(
+        table,
+        pairs + 1,
+        Counts {
+            walked: 0,
+            device: power,
+            reference: 0,
+        },
+    );
+}
+
 // The table for no event: from each pair on there is one script, which both walk to its end.
-pub(crate) fn start(table: &mut [u64; 3072], p: usize, q: usize)
-    requires { ⌜ (p ≤ 32) × (q ≤ 32) × (length (now table) ≡ 3072) ⌝ }
+pub(crate) fn start(table: &mut [u64; 3078], p: usize, q: usize)
+    requires { ⌜ (p ≤ 32) × (q ≤ 32) × (length (now table) ≡ 3078) ⌝ }
     ensures { λ _. ⌜ Filled (λ c. one) (p * q) (now (table .exit)) ⌝ }
 {
     let pairs = p * q;
@@ -167,8 +184,8 @@ pub(crate) fn advance(
     l: usize,
     wanted: usize,
     power: u64,
-    from: &mut [u64; 3072],
-    to: &mut [u64; 3072],
+    from: &mut [u64; 3078],
+    to: &mut [u64; 3078],
 ) -> Counts
     requires { ⌜ Begun (now a) (now b) p q e l wanted power (now from) (now to) ⌝ }
     ensures { λ r. ⌜ r ≡ tableCounts (now (a .entry)) (now (b .entry)) p q e wanted 0 0 ⌝ }
@@ -176,6 +193,7 @@ pub(crate) fn advance(
     if l >= wanted {
         return load(from, 0);
     }
-    fill(a, b, p, q, e, from, power, to);
+    put_stops(from, p * q, power);
+    fill(a, b, p, q, e, from, to);
     advance(a, b, p, q, e, l + 1, wanted, power * (e as u64), to, from)
 }

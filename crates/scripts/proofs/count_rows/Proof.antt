@@ -13,11 +13,11 @@ flat-requires-2 : tie.Need-flat-requires-2
 flat-requires-2 c κs = tt
 
 start-requires : tie.Need-start-requires
-start-requires c κs = let s = c .before .before .before .pre in (s .1, s .3, length-replicate {A = ℕ} 3072 0)
+start-requires c κs = let s = c .before .before .before .pre in (s .1, s .3, length-replicate {A = ℕ} 3078 0)
 
 advance-requires : tie.Need-advance-requires
 advance-requires c κs =
-    rounds-start _ _ _ _ _ _ _ _ (c .before .before .before .before .before .before .before .before .pre) (c .before .before .before .before .start .ensures) (length-replicate {A = ℕ} 3072 0)
+    rounds-start _ _ _ _ _ _ _ _ (c .before .before .before .before .before .before .before .before .pre) (c .before .before .before .before .start .ensures) (length-replicate {A = ℕ} 3078 0)
 
 returns : tie.Need-returns
 returns c =

@@ -5,7 +5,7 @@ use mathlib.Core.Logic.{_⊎_, inl, inr}
 use mathlib.Core.Bool.{Bool, true, false, cond}
 use mathlib.Core.List.{List}
 use Prim.Native.Nat.{ℕ, zero, suc, _+_, _*_, _^_, _≤_, _<_}
-use native.Mathlib.Nat.{add-zero, le-of-suc-le-suc, suc-mul, zero-mul, pow-zero, pow-succ', le-trans, pow-le-pow-left, pow-le-pow-right, mul-le-mul-right}
+use native.Mathlib.Nat.{suc-mul, pow-zero, pow-succ', le-trans, pow-le-pow-left, pow-le-pow-right}
 use native.Mathlib.Numerals.{add-one}
 use native.Mathlib.Omega.{arith}
 use lib.Dec.{ltb}
@@ -13,7 +13,8 @@ use lib.ListN.{getD}
 use borrow.Author.Tests.{lt-ltb, le-ltb}
 use Rattle.base.specs.Truth.{lt-or-ge}
 use Rattle.scripts.specs.declared.Counts.{Counts}
-use Rattle.scripts.specs.Shapes.{none, plus, cellIn, eventCounts, sums, tableCounts, Most, Small, Sizes, AddOk}
+use Rattle.scripts.specs.Shapes.{none, most, plus, cell, cellIn, eventCounts, sums, place, placeSums, tableCounts, Most, Small}
+use Rattle.scripts.proofs.tables.Cells.{place-both, place-reference, place-device, place-lt}
 
 -- what one event adds, by what the two sheets can do
 module _ (power p q x y : ℕ) (after : Counts) where
@@ -49,16 +50,6 @@ event-ext power p q x y c d h = go (lt-or-ge y q) (lt-or-ge x p)
 
 module _ (a b : List ℕ) (power p q n m : ℕ) where
   module _ (after : ℕ → ℕ → Counts) where
-    pub sums-none : sums a b power p q n m after 0 ≡ none
-    unfolding sums
-    sums-none = refl
-
-    -- a loop's sums with one event more
-    pub sums-more : (i x y : ℕ) (s r : Counts) → s ≡ sums a b power p q n m after i → x ≡ getD a (n * 12 + i) 0 → y ≡ getD b (m * 12 + i) 0
-        → r ≡ plus s (eventCounts power p q x y (after x y)) → r ≡ sums a b power p q n m after (i + 1)
-    unfolding sums
-    sums-more i x y s r e u v h = rw (add-one i, h, e, u, v)
-
     -- the sums over i events are at most i times the power
     pub sums-most : ((x y : ℕ) → x < p → y < q → Most power (after x y)) → (i : ℕ) → Most (i * power) (sums a b power p q n m after i)
     unfolding sums plus
@@ -90,33 +81,48 @@ table-most a b p q e (suc l) n m =
 pub power-most : (e l : ℕ) → e ≤ 12 → l < 16 → e ^ l ≤ 15407021574586368
 power-most e l h k = le-trans (pow-le-pow-left h l) (pow-le-pow-right {n = 12} (omega arith) {j = 15} (omega arith))
 
--- the sums with one event more, by what the two sheets can do
-module _ (power p q x y : ℕ) (s after : Counts) where
-  pub add-both : y < q → x < p → (c : Counts) → c ≡ after
-      → record { walked = s .walked + c .walked; device = s .device + c .device; reference = s .reference + c .reference } ≡ plus s (eventCounts power p q x y after)
-  unfolding plus
-  add-both h k c e = rw (event-both power p q x y after h k, e)
+module _ (a b : List ℕ) (p q : ℕ) (t : List ℕ) (n m : ℕ) where
+  pub places-none : placeSums a b p q t n m 0 ≡ none
+  unfolding placeSums
+  places-none = refl
 
-  pub add-reference : y < q → p ≤ x
-      → record { walked = s .walked; device = s .device; reference = s .reference + power } ≡ plus s (eventCounts power p q x y after)
-  unfolding plus
-  add-reference h k = rw (event-reference power p q x y after h k, add-zero (s .walked), add-zero (s .device))
+  -- a loop's sums with one event more
+  pub places-more : (i c : ℕ) (s r : Counts) → s ≡ placeSums a b p q t n m i → c ≡ place p q (getD a (n * 12 + i) 0) (getD b (m * 12 + i) 0)
+      → r ≡ plus s (cell t c) → r ≡ placeSums a b p q t n m (i + 1)
+  unfolding placeSums
+  places-more i c s r e u h = rw (add-one i, h, e, u)
 
-  pub add-device : q ≤ y
-      → record { walked = s .walked; device = s .device + power; reference = s .reference } ≡ plus s (eventCounts power p q x y after)
-  unfolding plus
-  add-device h = rw (event-device power p q x y after h, add-zero (s .walked), add-zero (s .reference))
+  -- the sums over i events are at most i times what a place holds
+  places-most : Small t p q → (i : ℕ) → Most (i * most) (placeSums a b p q t n m i)
+  unfolding placeSums plus
+  places-most h zero = record { walked = omega arith; device = omega arith; reference = omega arith }
+  places-most h (suc i) =
+      let s = places-most h i in
+      let e = h (place p q (getD a (n * 12 + i) 0) (getD b (m * 12 + i) 0)) (place-lt p q _ _) in
+      record {
+        walked = omega (arith, s .walked, e .walked);
+        device = omega (arith, s .device, e .device);
+        reference = omega (arith, s .reference, e .reference);
+      }
 
--- at event i of at most twelve there is room for one event more
-pub room : (a b : List ℕ) (before : List ℕ) (power p q e n m i x y : ℕ) {s : Counts} → Sizes p q e power → Small before power p q
-    → s ≡ sums a b power p q n m (cellIn before q) i → i < e → AddOk before power p q x y s
-room a b before power p q e n m i x y z h g l = record {
-  p-few = z .p-few;
-  q-few = z .q-few;
-  power-few = z .power-few;
-  so-far =
-      let t = sums-most a b power p q n m (cellIn before q) h i in
-      let k = mul-le-mul-right power (le-of-suc-le-suc (le-trans l (z .e-few))) in
-      rw g (record { walked = le-trans (t .walked) k; device = le-trans (t .device) k; reference = le-trans (t .reference) k });
-  after = h x y;
-}
+  -- at event i of at most twelve there is room for one place more
+  pub places-room : {s : Counts} (i e : ℕ) → Small t p q → s ≡ placeSums a b p q t n m i → i < e → e ≤ 12 → Most (11 * most) s
+  places-room i e h g l k =
+      let s = places-most h i in
+      rw g (record { walked = omega (arith, s .walked); device = omega (arith, s .device); reference = omega (arith, s .reference) })
+
+  -- where the two last places hold what the sheets stop, the sums over the places are those over the events
+  pub places-sums : (power : ℕ) → cell t (p * q) ≡ record { walked = 0; device = 0; reference = power } → cell t (p * q + 1) ≡ record { walked = 0; device = power; reference = 0 }
+      → (i : ℕ) → placeSums a b p q t n m i ≡ sums a b power p q n m (cellIn t q) i
+  unfolding placeSums sums
+  places-sums power hr hd zero = refl
+  places-sums power hr hd (suc i) =
+      rw (places-sums power hr hd i) (ap (plus (sums a b power p q n m (cellIn t q) i)) (at (getD a (n * 12 + i) 0) (getD b (m * 12 + i) 0)))
+    where
+      at : (x y : ℕ) → cell t (place p q x y) ≡ eventCounts power p q x y (cellIn t q x y)
+      at x y = go (lt-or-ge y q) (lt-or-ge x p)
+        where
+          go : (y < q) ⊎ (q ≤ y) → (x < p) ⊎ (p ≤ x) → cell t (place p q x y) ≡ eventCounts power p q x y (cellIn t q x y)
+          go (inl h) (inl k) = ap (cell t) (place-both p q x y h k) ∙ sym (event-both power p q x y (cellIn t q x y) h k)
+          go (inl h) (inr k) = ap (cell t) (place-reference p q x y h k) ∙ hr ∙ sym (event-reference power p q x y (cellIn t q x y) h k)
+          go (inr h) k = ap (cell t) (place-device p q x y h) ∙ hd ∙ sym (event-device power p q x y (cellIn t q x y) h)

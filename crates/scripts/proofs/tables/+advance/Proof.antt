@@ -1,6 +1,7 @@
 -- `tables::advance`: recursion on the number of events that are left.
 use mathlib.Core.Path.{refl}
 use Prim.Native.Nat.{ℕ, _-_, _<_}
+use native.Mathlib.Nat.{mul-le-mul}
 use native.Mathlib.Omega.{arith}
 use borrow.Fn.Kinds.{In}
 use borrow.Fn.PlainCycle.{Measures, is, falls, and}
@@ -9,6 +10,7 @@ use Rattle.scripts.proofs.tables.advance.Kinds as advance-kinds
 use Rattle.scripts.proofs.tables.+advance.Lts-advance as advance-lts
 use Rattle.scripts.proofs.tables.fill.Reads as fill-reads
 use Rattle.scripts.proofs.tables.load.Reads as load-reads
+use Rattle.scripts.proofs.tables.put_stops.Reads as put-stops-reads
 use Rattle.scripts.proofs.tables.Rounds.{rounds-end, rounds-sizes, rounds-small, rounds-power, rounds-next}
 use Rattle.scripts.proofs.tables.+advance.{statement}
 use Rattle.scripts.proofs.tables.+advance.Tie.{close}
@@ -25,6 +27,8 @@ advance-below t = and 4 advance-kinds.ps (falls 4 advance-kinds.ps _<_ μ-advanc
 advance-load-requires : (t : ℕ) → advance-lts.Need-load-requires (
   load-reads.Asked,
   load-reads.Learnt,
+  put-stops-reads.Asked,
+  put-stops-reads.Learnt,
   fill-reads.Asked,
   fill-reads.Learnt,
   advance-below t,
@@ -35,6 +39,8 @@ advance-load-requires t c κs = omega arith
 advance-returns : (t : ℕ) → advance-lts.Need-returns (
   load-reads.Asked,
   load-reads.Learnt,
+  put-stops-reads.Asked,
+  put-stops-reads.Learnt,
   fill-reads.Asked,
   fill-reads.Learnt,
   advance-below t,
@@ -42,57 +48,91 @@ advance-returns : (t : ℕ) → advance-lts.Need-returns (
 ) (advance-at t) advance.Post
 advance-returns t c = rounds-end _ _ _ _ _ _ _ _ _ _ (c .before .before .before .pre .1) (c .before .before .if1 .taken) _ (c .load .ensures)
 
+advance-mul-put-stops : (t : ℕ) → advance-lts.Need-mul-put-stops (
+  load-reads.Asked,
+  load-reads.Learnt,
+  put-stops-reads.Asked,
+  put-stops-reads.Learnt,
+  fill-reads.Asked,
+  fill-reads.Learnt,
+  advance-below t,
+  advance.Post,
+) (advance-at t) advance.Post
+advance-mul-put-stops t c = let s = c .before .before .pre .1 in omega (arith, mul-le-mul (s .p-few) (s .q-few))
+
+advance-put-stops-requires : (t : ℕ) → advance-lts.Need-put-stops-requires (
+  load-reads.Asked,
+  load-reads.Learnt,
+  put-stops-reads.Asked,
+  put-stops-reads.Learnt,
+  fill-reads.Asked,
+  fill-reads.Learnt,
+  advance-below t,
+  advance.Post,
+) (advance-at t) advance.Post
+advance-put-stops-requires t c κs = let s = c .before .before .pre .1 in (omega (arith, mul-le-mul (s .p-few) (s .q-few)), s .from-long)
+
 advance-fill-requires : (t : ℕ) → advance-lts.Need-fill-requires (
   load-reads.Asked,
   load-reads.Learnt,
+  put-stops-reads.Asked,
+  put-stops-reads.Learnt,
   fill-reads.Asked,
   fill-reads.Learnt,
   advance-below t,
   advance.Post,
 ) (advance-at t) advance.Post
 advance-fill-requires t c κs =
-    let s = c .before .before .before .pre .1 in
-    let k = c .before .before .if1 .left in
-    (rounds-sizes _ _ _ _ _ _ _ _ _ _ s k, rounds-small _ _ _ _ _ _ _ _ _ _ s k, s .to-long)
+    let s = c .before .before .before .before .before .pre .1 in
+    let k = c .before .before .before .before .if1 .left in
+    (rounds-sizes _ _ _ _ _ _ _ _ _ _ s k, rounds-small _ _ _ _ _ _ _ _ _ _ s k _ (c .before .before .put-stops .ensures), s .to-long)
 
 advance-add-advance : (t : ℕ) → advance-lts.Need-add-advance (
   load-reads.Asked,
   load-reads.Learnt,
+  put-stops-reads.Asked,
+  put-stops-reads.Learnt,
   fill-reads.Asked,
   fill-reads.Learnt,
   advance-below t,
   advance.Post,
 ) (advance-at t) advance.Post
-advance-add-advance t c = omega (arith, c .before .before .before .before .pre .1 .L-few)
+advance-add-advance t c = omega (arith, c .before .before .before .before .before .before .pre .1 .L-few)
 
 advance-mul-advance : (t : ℕ) → advance-lts.Need-mul-advance (
   load-reads.Asked,
   load-reads.Learnt,
+  put-stops-reads.Asked,
+  put-stops-reads.Learnt,
   fill-reads.Asked,
   fill-reads.Learnt,
   advance-below t,
   advance.Post,
 ) (advance-at t) advance.Post
 advance-mul-advance t c =
-    let s = c .before .before .before .before .pre .1 in
-    omega (arith, rounds-power _ _ _ _ _ _ _ _ _ _ s (c .before .before .before .if1 .left) _ refl)
+    let s = c .before .before .before .before .before .before .pre .1 in
+    omega (arith, rounds-power _ _ _ _ _ _ _ _ _ _ s (c .before .before .before .before .before .if1 .left) _ refl)
 
 advance-advance-requires : (t : ℕ) → advance-lts.Need-advance-requires (
   load-reads.Asked,
   load-reads.Learnt,
+  put-stops-reads.Asked,
+  put-stops-reads.Learnt,
   fill-reads.Asked,
   fill-reads.Learnt,
   advance-below t,
   advance.Post,
 ) (advance-at t) advance.Post
 advance-advance-requires t c κs =
-    let s = c .before .before .before .before .before .before .pre in
-    let k = c .before .before .before .before .before .if1 .left in
-    (omega (arith, s .0, k), rounds-next _ _ _ _ _ _ _ _ _ _ (s .1) k _ _ refl (c .before .before .fill .ensures))
+    let s = c .before .before .before .before .before .before .before .before .pre in
+    let k = c .before .before .before .before .before .before .before .if1 .left in
+    (omega (arith, s .0, k), rounds-next _ _ _ _ _ _ _ _ _ _ (s .1) k _ (c .before .before .before .before .before .put-stops .ensures) _ _ refl (c .before .before .fill .ensures))
 
 advance-returns-2 : (t : ℕ) → advance-lts.Need-returns-2 (
   load-reads.Asked,
   load-reads.Learnt,
+  put-stops-reads.Asked,
+  put-stops-reads.Learnt,
   fill-reads.Asked,
   fill-reads.Learnt,
   advance-below t,
@@ -104,6 +144,8 @@ pub +advance-spec : {M : Type 1} → statement M
 +advance-spec = close μ-advance λ t. advance-lts.spec (
   load-reads.Asked,
   load-reads.Learnt,
+  put-stops-reads.Asked,
+  put-stops-reads.Learnt,
   fill-reads.Asked,
   fill-reads.Learnt,
   advance-below t,
@@ -113,6 +155,8 @@ pub +advance-spec : {M : Type 1} → statement M
     advance.Post
     (advance-load-requires t)
     (advance-returns t)
+    (advance-mul-put-stops t)
+    (advance-put-stops-requires t)
     (advance-fill-requires t)
     (advance-add-advance t)
     (advance-mul-advance t)

@@ -9,10 +9,10 @@ use Rattle.scripts.proofs.tables.fill.Statement.{statement}
 use Rattle.scripts.proofs.tables.fill.Tie as tie
 
 abbrev Inv-loop : tie.InvT-loop
-Inv-loop a b p q e before power after₀ n₀ after n = (n ≤ p) × Filled (nextCell a b power p q e before) (n * q) after
+Inv-loop a b p q e before after₀ n₀ after n = (n ≤ p) × Filled (nextCell a b p q e before) (n * q) after
 
 abbrev μ-loop : tie.MeasureT-loop
-μ-loop a b p q e before power after₀ n₀ after n = p - n
+μ-loop a b p q e before after₀ n₀ after n = p - n
 
 loop-holds : tie.Need-loop-holds Inv-loop μ-loop
 loop-holds c = (omega arith, filled-none _ _ _ (c .pre .2) (zero-mul (c .args .q)))
