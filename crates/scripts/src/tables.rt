@@ -39,13 +39,14 @@ fn place_of(p: usize, q: usize, x: u8, y: u8) -> usize
 {
     let n = base::wide(x);
     let m = base::wide(y);
-    if m < q {
-        if n < p {
-            return n * q + m;
-        }
-        return p * q;
+    let mut place = n * q + m;
+    if n >= p {
+        place = p * q;
     }
-    p * q + 1
+    if m >= q {
+        place = p * q + 1;
+    }
+    place
 }
 
 // The sums with the counts of one place more.
