@@ -1,3 +1,4 @@
 pub mod Claim
 pub mod Theorem
 pub mod Uses
+pub mod Strays
