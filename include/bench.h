@@ -15,7 +15,7 @@
  *
  * The stack that a call needs, measured on worst cases and rounded up, in bytes, with the copies of the sheets that are
  * handed over: bench_check and bench_read 9,000; bench_open 14,000; bench_step and bench_report 16,000; bench_list
- * 19,000; bench_judge and bench_judge_all 22,000; bench_compare 25,000; bench_count XX. The compiled library has no
+ * 19,000; bench_judge and bench_judge_all 22,000; bench_compare 25,000; bench_count 62,000. The compiled library has no
  * recursion, so no call needs more for larger sheets, longer traces or longer scripts.
  */
 #ifndef BENCH_H

@@ -60,8 +60,14 @@ fn count_rows(
     let b = sheet_rows::flat(theirs);
     let mut from = [0u64; 3078];
     let mut to = [0u64; 3078];
+    let mut out = [0u64; 3];
     tables::start(&mut from, p, q);
-    tables::advance(&a, &b, p, q, e, 0, length, 1, &mut from, &mut to)
+    tables::advance(&a, &b, p, q, e, 0, length, 1, &mut from, &mut to, &mut out);
+    Counts {
+        walked: out[0],
+        device: out[1],
+        reference: out[2],
+    }
 }
 
 // Counts the scripts of `length` events by what becomes of them: both sheets walk it to the end; it stops first at an

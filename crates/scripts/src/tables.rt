@@ -174,8 +174,9 @@ pub(crate) fn start(table: &mut [u64; 3078], p: usize, q: usize)
     }
 }
 
-// The counts of the pair of the two first nodes for `wanted` events, from the table for `l` events: it fills the table
-// for one event more and goes on from that one. `power` is E to the power l.
+// Puts the counts of the pair of the two first nodes for `wanted` events into `out`, from the table for `l` events: it
+// fills the table for one event more and goes on from that one. `power` is E to the power l. It answers nothing, so that
+// the compiler makes a loop of it.
 pub(crate) fn advance(
     a: &[u8; 384],
     b: &[u8; 384],
@@ -187,14 +188,30 @@ pub(crate) fn advance(
     power: u64,
     from: &mut [u64; 3078],
     to: &mut [u64; 3078],
-) -> Counts
-    requires { ⌜ Begun (now a) (now b) p q e l wanted power (now from) (now to) ⌝ }
-    ensures { λ r. ⌜ r ≡ tableCounts (now (a .entry)) (now (b .entry)) p q e wanted 0 0 ⌝ }
+    out: &mut [u64; 3],
+)
+    requires { ⌜ Begun (now a) (now b) p q e l wanted power (now from) (now to) × (length (now out) ≡ 3) ⌝ }
+    ensures { λ _. ⌜ cell (now (out .exit)) 0 ≡ tableCounts (now (a .entry)) (now (b .entry)) p q e wanted 0 0 ⌝ }
 {
     if l >= wanted {
-        return load(from, 0);
+        out[0] = from[0];
+        out[1] = from[1];
+        out[2] = from[2];
+        return;
     }
     put_stops(from, p * q, power);
     fill(a, b, p, q, e, from, to);
-    advance(a, b, p, q, e, l + 1, wanted, power * (e as u64), to, from)
+    advance(
+        a,
+        b,
+        p,
+        q,
+        e,
+        l + 1,
+        wanted,
+        power * (e as u64),
+        to,
+        from,
+        out,
+    );
 }

@@ -42,6 +42,21 @@ module _ (t : List ℕ) (c : ℕ) (v : Counts) (h : length t ≡ 3078) (l : c < 
       kept k j x y z =
           getD-set-other two (c * 3 + 2) j (v .reference) 0 z ∙ getD-set-other one (c * 3 + 1) j (v .device) 0 y ∙ getD-set-other t (c * 3) j (v .walked) 0 x
 
+-- the counts of the first place, put into three places
+pub first-put : (t out : List ℕ) → length out ≡ 3 → cell (set (set (set out 0 (getD t 0 0)) 1 (getD t 1 0)) 2 (getD t 2 0)) 0 ≡ cell t 0
+unfolding cell
+first-put t out h =
+    let one = set out 0 (getD t 0 0) in
+    let two = set one 1 (getD t 1 0) in
+    rw (
+      getD-set-other two 2 0 (getD t 2 0) 0 (λ e. omega arith),
+      getD-set-other one 1 0 (getD t 1 0) 0 (λ e. omega arith),
+      getD-set-same out 0 (getD t 0 0) 0 (omega arith),
+      getD-set-other two 2 1 (getD t 2 0) 0 (λ e. omega arith),
+      getD-set-same one 1 (getD t 1 0) 0 (omega (arith, length-set out 0 (getD t 0 0))),
+      getD-set-same two 2 (getD t 2 0) 0 (omega (arith, length-set one 1 (getD t 1 0), length-set out 0 (getD t 0 0))),
+    )
+
 -- no place is filled yet
 pub filled-none : (f : ℕ → Counts) (c : ℕ) (t : List ℕ) → length t ≡ 3078 → c ≡ 0 → Filled f c t
 filled-none f c t h z = record { long = h; holds = λ k l. absurd (omega arith) }
