@@ -1,8 +1,8 @@
 -- Nothing to believe: 01's cases (P) as one table, to be read beside 01 and in its order: each row is a call or a whole
 -- run, beside it stand the numbers that it answers, and one equation has them all. Comments that begin with 01 have the
--- words of its case. The rows `adding` are for 02, K5, the rows `lending` for K7, and the last for K1. Sheets come as
--- bytes, through the definition of reading. The rows compute through the definitions that the contracts cite, the probe
--- lists among them.
+-- words of its case. The rows `adding` are for 02, K5, the rows `lending` for K7, those after them for K1, and the rows
+-- `counting` for K2. Sheets come as bytes, through the definition of reading. The rows compute through the definitions
+-- that the contracts cite, the probe lists among them.
 use mathlib.Core.Path.{_≡_, refl}
 use mathlib.Core.Bool.{Bool, true, false}
 use mathlib.Core.List.{List, [], _∷_, _++_, map}
@@ -10,6 +10,7 @@ use Prim.Native.Nat.{ℕ, _+_, _-_, _*_}
 use lib.ListN.{length, replicate, drop}
 use Rattle.base.specs.Range.{all, any, first}
 use Rattle.base.specs.Count.{count}
+use Rattle.base.specs.Sum.{sum}
 use Rattle.base.specs.Table.{upTo}
 use Rattle.base.specs.Gather.{gather, select}
 use Rattle.events.specs.Bit.{bit, setOf}
@@ -44,6 +45,8 @@ use Rattle.tests_spec.specs.Numbers.{Said, said}
 use Rattle.verdicts_spec.specs.Numbers.{Judgement, judged}
 use Rattle.comparison_spec.specs.Comparison.{pairCount, nearest, nearestTrace, clearedOf, lastRow, refusalNamed, named, comparisonOf, compareFault, outcomeOf, traceAfter, workAfter}
 use Rattle.comparison_spec.specs.Numbers.{Compared, compared}
+use Rattle.scripts_spec.specs.declared.Scripts.{Scripts}
+use Rattle.scripts_spec.specs.Scripts.{beginning, countFrom, countOf, scriptsFault, scriptsOf}
 use Rattle.sheet_spec.specs.Examples.{exampleReference, exampleDevice, codedReference, codedDevice, onlyZero, onlyOne, mayLoop, mustLoop, stopped, sheet}
 
 -- a row of the table
@@ -67,8 +70,10 @@ pub data Case : Type 0 where
   -- the refusal of a kept sheet: the one of these bytes, with these codes and 0 in the other places (02, K1)
   checking : List ℕ → List ℕ → Case
   -- the refusals of two such sheets, the reference first, by each call that takes two: the comparison with empty lists,
-  -- the verdict for k 1,024, all verdicts in an empty list (02, K1)
+  -- the verdict for k 1,024, all verdicts in an empty list, the scripts of 17 events (02, K1, K2)
   pairing : List ℕ → List ℕ → List ℕ → List ℕ → Case
+  -- the scripts of so many events for a reference and a device (02, K2)
+  counting : List ℕ → List ℕ → ℕ → Case
 
 -- sets below 256 as bytes, two for each
 unfoldable pub setBytes : List ℕ → List ℕ
@@ -133,9 +138,13 @@ filled size filler l = l ++ replicate (size - length l) filler
 unfoldable pub keptWith : List ℕ → List ℕ → Sheet
 keptWith b codes = recoded (sheet b) (filled 12 0 codes)
 
--- the refusals of two kept sheets by each call that takes two, which lack their lists, and k is 1,024
+-- the refusals of two kept sheets by each call that takes two, which lack their lists, k is 1,024, and L is 17
 unfoldable pub pairNumbers : Sheet → Sheet → List ℕ
-pairNumbers P Q = compareFault P Q [] [] ∷ verdictFault P Q 1024 ∷ suiteFault P Q [] ∷ []
+pairNumbers P Q = compareFault P Q [] [] ∷ verdictFault P Q 1024 ∷ suiteFault P Q [] ∷ scriptsFault P Q 17 ∷ []
+
+-- the numbers of a count: the refusal, how many scripts both walk, how many the device stops, and the reference
+unfoldable pub scriptsNumbers : Scripts → List ℕ
+scriptsNumbers a = a .refusal ∷ a .walked ∷ a .device ∷ a .reference ∷ []
 
 -- what a row answers
 unfoldable pub numbersOf : Case → List ℕ
@@ -149,6 +158,7 @@ numbersOf (lending P Q words places) =
     compareFault (sheet P) (sheet Q) (replicate words 7) (replicate places 9) ∷ workAfter (sheet P) (sheet Q) (replicate words 7) (replicate places 9)
 numbersOf (checking b codes) = sheetFault (keptWith b codes) ∷ []
 numbersOf (pairing P codes Q others) = pairNumbers (keptWith P codes) (keptWith Q others)
+numbersOf (counting P Q L) = scriptsNumbers (scriptsOf (sheet P) (sheet Q) L)
 
 -- the numbers of a kept node with these successors and these sets: unused successors are 255, unused sets 0, then C
 unfoldable pub keptNode : List ℕ → List ℕ → List ℕ
@@ -413,21 +423,56 @@ table =
     ∷ (checking exampleReference (0 ∷ 7 ∷ []), 0 ∷ [])
     ∷ (checking exampleReference (1 ∷ 2 ∷ 3 ∷ []), 7 ∷ [])
     ∷ (checking exampleReference (7 ∷ 7 ∷ 3 ∷ []), 18 ∷ [])
-    -- 02, K1: sheets that agree get the refusals of the calls themselves: 12, 14 and 10
-    ∷ (pairing exampleReference (5 ∷ 9 ∷ []) exampleDevice (5 ∷ 9 ∷ []), 12 ∷ 14 ∷ 10 ∷ [])
+    -- 02, K1, K2: sheets that agree get the refusals of the calls themselves: 12, 14, 10 and 20
+    ∷ (pairing exampleReference (5 ∷ 9 ∷ []) exampleDevice (5 ∷ 9 ∷ []), 12 ∷ 14 ∷ 10 ∷ 20 ∷ [])
     -- 02, K1: unequal codes get 19 before them
-    ∷ (pairing exampleReference (5 ∷ 9 ∷ []) exampleDevice (9 ∷ 5 ∷ []), 19 ∷ 19 ∷ 19 ∷ [])
+    ∷ (pairing exampleReference (5 ∷ 9 ∷ []) exampleDevice (9 ∷ 5 ∷ []), 19 ∷ 19 ∷ 19 ∷ 19 ∷ [])
     -- 02, K1: E differs and so does a code: 11
-    ∷ (pairing exampleReference (5 ∷ 9 ∷ []) stopped (6 ∷ []), 11 ∷ 11 ∷ 11 ∷ [])
+    ∷ (pairing exampleReference (5 ∷ 9 ∷ []) stopped (6 ∷ []), 11 ∷ 11 ∷ 11 ∷ 11 ∷ [])
     -- 02, K1: 18 is the sheet writer's: of the reference it comes before a device's 7, and a reference's 7 before it
-    ∷ (pairing exampleReference (7 ∷ 7 ∷ []) exampleDevice (1 ∷ 2 ∷ 3 ∷ []), 18 ∷ 18 ∷ 18 ∷ [])
-    ∷ (pairing exampleReference (1 ∷ 2 ∷ 3 ∷ []) exampleDevice (7 ∷ 7 ∷ []), 7 ∷ 7 ∷ 7 ∷ [])
+    ∷ (pairing exampleReference (7 ∷ 7 ∷ []) exampleDevice (1 ∷ 2 ∷ 3 ∷ []), 18 ∷ 18 ∷ 18 ∷ 18 ∷ [])
+    ∷ (pairing exampleReference (1 ∷ 2 ∷ 3 ∷ []) exampleDevice (7 ∷ 7 ∷ []), 7 ∷ 7 ∷ 7 ∷ 7 ∷ [])
     -- 02, K1: of a device it comes before 19, and before 11
-    ∷ (pairing exampleReference (1 ∷ 2 ∷ []) exampleDevice (7 ∷ 7 ∷ []), 18 ∷ 18 ∷ 18 ∷ [])
-    ∷ (pairing stopped (1 ∷ []) exampleDevice (7 ∷ 7 ∷ []), 18 ∷ 18 ∷ 18 ∷ [])
+    ∷ (pairing exampleReference (1 ∷ 2 ∷ []) exampleDevice (7 ∷ 7 ∷ []), 18 ∷ 18 ∷ 18 ∷ 18 ∷ [])
+    ∷ (pairing stopped (1 ∷ []) exampleDevice (7 ∷ 7 ∷ []), 18 ∷ 18 ∷ 18 ∷ 18 ∷ [])
+    -- 02, K2: of 01's pair, by length: no refusal, walked by both, stopped by the device, stopped by the reference
+    ∷ (counting exampleReference exampleDevice 0, 0 ∷ 1 ∷ 0 ∷ 0 ∷ [])
+    ∷ (counting exampleReference exampleDevice 1, 0 ∷ 2 ∷ 0 ∷ 0 ∷ [])
+    ∷ (counting exampleReference exampleDevice 2, 0 ∷ 4 ∷ 0 ∷ 0 ∷ [])
+    ∷ (counting exampleReference exampleDevice 3, 0 ∷ 4 ∷ 4 ∷ 0 ∷ [])
+    ∷ (counting exampleReference exampleDevice 6, 0 ∷ 16 ∷ 48 ∷ 0 ∷ [])
+    -- 02, K2: of 01's pair exchanged: what stopped the device now stops the reference
+    ∷ (counting exampleDevice exampleReference 3, 0 ∷ 4 ∷ 0 ∷ 4 ∷ [])
+    -- 02, K2: of version 2, where the codes agree
+    ∷ (counting exampleReference codedDevice 3, 0 ∷ 4 ∷ 4 ∷ 0 ∷ [])
+    -- 02, K2: of the reference that does only event 0 and the device that does only event 1
+    ∷ (counting onlyZero onlyOne 1, 0 ∷ 0 ∷ 1 ∷ 1 ∷ [])
+    ∷ (counting onlyZero onlyOne 3, 0 ∷ 0 ∷ 4 ∷ 4 ∷ [])
+    -- 02, K2: an event that neither can do stops the device, which is asked first
+    ∷ (counting stopped stopped 1, 0 ∷ 0 ∷ 1 ∷ 0 ∷ [])
+    ∷ (counting onlyZero onlyZero 3, 0 ∷ 1 ∷ 7 ∷ 0 ∷ [])
+    -- 02, K2: the looping reference with acceptance 1 against the stopped node, and exchanged
+    ∷ (counting mustLoop stopped 2, 0 ∷ 0 ∷ 1 ∷ 0 ∷ [])
+    ∷ (counting stopped mustLoop 2, 0 ∷ 0 ∷ 0 ∷ 1 ∷ [])
+    -- 02, K2: acceptances play no part: a device that may stop walks
+    ∷ (counting mustLoop mayLoop 2, 0 ∷ 1 ∷ 0 ∷ 0 ∷ [])
+    -- 02, K2: L 16 is counted, above it 20 applies, and all counts are 0
+    ∷ (counting mustLoop mustLoop 16, 0 ∷ 1 ∷ 0 ∷ 0 ∷ [])
+    ∷ (counting mustLoop mustLoop 17, 20 ∷ 0 ∷ 0 ∷ 0 ∷ [])
+    ∷ (counting exampleReference exampleDevice 17, 20 ∷ 0 ∷ 0 ∷ 0 ∷ [])
+    ∷ (counting exampleReference exampleDevice 65535, 20 ∷ 0 ∷ 0 ∷ 0 ∷ [])
+    -- 02, K2: 11 and 19 hold here too, and come before 20
+    ∷ (counting exampleReference stopped 2, 11 ∷ 0 ∷ 0 ∷ 0 ∷ [])
+    ∷ (counting exampleReference stopped 17, 11 ∷ 0 ∷ 0 ∷ 0 ∷ [])
+    ∷ (counting codedReference codedDevice 2, 19 ∷ 0 ∷ 0 ∷ 0 ∷ [])
+    ∷ (counting codedReference codedDevice 17, 19 ∷ 0 ∷ 0 ∷ 0 ∷ [])
+    ∷ (counting codedReference stopped 17, 11 ∷ 0 ∷ 0 ∷ 0 ∷ [])
+    -- 02, K2: a sheet's own refusal comes before them: that of a refused reading, all 0, is 3
+    ∷ (counting [] exampleDevice 2, 3 ∷ 0 ∷ 0 ∷ 0 ∷ [])
+    ∷ (counting exampleReference [] 17, 3 ∷ 0 ∷ 0 ∷ 0 ∷ [])
     ∷ []
 
 -- every row answers what 01 and 02 say
 pub cases-hold : map (λ (c : Case × List ℕ). numbersOf (c .0)) table ≡ map (λ (c : Case × List ℕ). c .1) table
-unfolding setBytes accepting deviceWith keptWith pairNumbers testCount suiteFault codedReference codedDevice rowNumbers listNumbers filled keptNode joined kept unread nodeProbes listFault listedNumbers listedOf listAfter numbersOf table lists lent workAfter readNumbers numbers judgedNumbers recordNumbers answersOf comparedNumbers work trace sheet exampleReference exampleDevice onlyZero onlyOne mayLoop mustLoop stopped readSheet answer bytesFault headFault lengthField layoutFault nextAt startOf succOf setsOf rowAt rowOf sheetOf graphFault rangesOk countOk countsOk successorsOk rowSuccessorsOk successorOk setsOk rowSetsOk setOk ascends noneInside blank unusedOk blanksOk reachedOk sheetFault successor acceptance acceptances initials mayStop step bit has inside meets insert setOf walk nearer leads meetsIn distance later choice leastFrom leastTrace cleared code pairNext product onCodes pairDistance pairTrace pairCleared all any first count upTo hits isProbe gather select probes missing orNext firstMissing firstMissed strays hasStray firstStray covers hasRefusal violates violating allEvents outside probesAt chosen flag flagOf offerOf newRun recordOk openFault openOf endedRun eventFault reportFault movedBy answerOf stepOf failsFrom verdictFault verdictOf nearest said judged pairCount nearestTrace clearedOf lastRow refusalNamed named comparisonOf compareFault outcomeOf traceAfter compared codesFault nodesAt codeOf codesOk codeNew codesBlank sharedFault codesAgree
+unfolding setBytes accepting deviceWith keptWith pairNumbers testCount suiteFault codedReference codedDevice rowNumbers listNumbers filled keptNode joined kept unread nodeProbes listFault listedNumbers listedOf listAfter numbersOf table lists lent workAfter readNumbers numbers judgedNumbers recordNumbers answersOf comparedNumbers work trace sheet exampleReference exampleDevice onlyZero onlyOne mayLoop mustLoop stopped readSheet answer bytesFault headFault lengthField layoutFault nextAt startOf succOf setsOf rowAt rowOf sheetOf graphFault rangesOk countOk countsOk successorsOk rowSuccessorsOk successorOk setsOk rowSetsOk setOk ascends noneInside blank unusedOk blanksOk reachedOk sheetFault successor acceptance acceptances initials mayStop step bit has inside meets insert setOf walk nearer leads meetsIn distance later choice leastFrom leastTrace cleared code pairNext product onCodes pairDistance pairTrace pairCleared all any first count upTo hits isProbe gather select probes missing orNext firstMissing firstMissed strays hasStray firstStray covers hasRefusal violates violating allEvents outside probesAt chosen flag flagOf offerOf newRun recordOk openFault openOf endedRun eventFault reportFault movedBy answerOf stepOf failsFrom verdictFault verdictOf nearest said judged pairCount nearestTrace clearedOf lastRow refusalNamed named comparisonOf compareFault outcomeOf traceAfter compared codesFault nodesAt codeOf codesOk codeNew codesBlank sharedFault codesAgree scriptsNumbers sum beginning countFrom countOf scriptsFault scriptsOf
 cases-hold = refl
