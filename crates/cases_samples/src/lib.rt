@@ -38,7 +38,7 @@ fn small_sample(which: u16) -> Sheet
 // 48, 65; 10 with 3, 5, 6, 9, 10, 12, 257, 258, 260, 264, 513, 514, 1025, 1026, 2049, 3072; 11 with 7, 56, 448, 3584.
 // Of two events, 12 loops on event 0 and goes on event 1 to a node that has only event 0, which leads back; 13 loops on
 // both. 16 and 17 are 01's reference and device in version 2, with the codes 257 and 258, and 1 and 2. Else a small
-// sheet. (The numbers 14 and 15 are left to the programs.)
+// sheet. (The numbers 14 and 15, and those from 18 on, are left to the programs.)
 fn some_sample(which: u16) -> Sheet
     ensures { λ r. ⌜ r ≡ readSheet (sampleBytes which) .sheet ⌝ }
 {
