@@ -23,7 +23,7 @@ use Rattle.sheet_spec.specs.PairFaults.{pair-reference, pair-device, pair-sheet
 use Rattle.scripts_spec.specs.declared.Scripts.{Scripts}
 use Rattle.scripts_spec.specs.Scripts.{Fate, Walked, DeviceStops, ReferenceStops, byFate, countOf, scriptsFault, scriptsOf}
 use Rattle.scripts_spec.specs.Fates.{Script, Goes, told}
-use Rattle.scripts_spec.specs.CountLaws.{counts-sum, counted}
+use Rattle.scripts_spec.specs.CountLaws.{from-le, counts-sum, counted}
 
 module _ (P Q : Sheet) (L : ℕ) where
   -- the reference's own refusal comes first, then the device's
@@ -115,7 +115,7 @@ module _ (P Q : Sheet) (L : ℕ) where
     pub told-sum : scriptsOf P Q L .walked + (scriptsOf P Q L .device + scriptsOf P Q L .reference) ≡ P .e ^ L
     told-sum = rw (scripts-given z) (counts-sum P Q L)
 
-    -- E to the power L, and so each number, is at most 12 to the power 16, which fits in 64 bits
+    -- E to the power L is at most 12 to the power 16, which fits in 64 bits
     pub told-fits : P .e ^ L ≤ 184884258895036416
     told-fits =
         le-trans (pow-le-pow-left (sound .0 .ranges .e-high) L) (pow-le-pow-right {n = 12} (omega arith) (few (lt-or-ge 16 L)))
@@ -123,3 +123,8 @@ module _ (P Q : Sheet) (L : ℕ) where
         few : (16 < L) ⊎ (L ≤ 16) → L ≤ 16
         few (inl h) = absurd (scripts-0 .0 z .1 h)
         few (inr h) = h
+
+    -- and so is each number
+    pub told-most : (f : Fate) → told (scriptsOf P Q L) f ≤ 184884258895036416
+    unfolding countOf
+    told-most f = rw (given-told f) (le-trans (from-le P Q L 0 0 f) told-fits)

@@ -21,15 +21,15 @@ use Rattle.scripts_spec.specs.Fates.{ComesTo, Goes, fateFrom}
 
 -- one event, by what the two sheets can do
 module _ (P Q : Sheet) (n m i : ℕ) (t : List ℕ) where
-  pub fate-device : Q .n ≤ step Q m i → fateFrom P Q n m (i ∷ t) ≡ DeviceStops
+  fate-device : Q .n ≤ step Q m i → fateFrom P Q n m (i ∷ t) ≡ DeviceStops
   unfolding fateFrom
   fate-device h = rw (le-ltb (step Q m i) (Q .n) h)
 
-  pub fate-reference : step Q m i < Q .n → P .n ≤ step P n i → fateFrom P Q n m (i ∷ t) ≡ ReferenceStops
+  fate-reference : step Q m i < Q .n → P .n ≤ step P n i → fateFrom P Q n m (i ∷ t) ≡ ReferenceStops
   unfolding fateFrom
   fate-reference h k = rw (lt-ltb (step Q m i) (Q .n) h, le-ltb (step P n i) (P .n) k)
 
-  pub fate-on : step Q m i < Q .n → step P n i < P .n → fateFrom P Q n m (i ∷ t) ≡ fateFrom P Q (step P n i) (step Q m i) t
+  fate-on : step Q m i < Q .n → step P n i < P .n → fateFrom P Q n m (i ∷ t) ≡ fateFrom P Q (step P n i) (step Q m i) t
   unfolding fateFrom
   fate-on h k = rw (lt-ltb (step Q m i) (Q .n) h, lt-ltb (step P n i) (P .n) k)
 
@@ -118,5 +118,5 @@ module _ {P Q : Sheet} (op : Sound P) (oq : Sound Q) where
   fate-some t = (fateFrom P Q 0 0 t, fate-means t (fateFrom P Q 0 0 t) .0 refl)
 
   -- and no list goes two ways
-  pub fate-one : (t : List ℕ) (f g : Fate) → Goes P Q t f → Goes P Q t g → f ≡ g
+  fate-one : (t : List ℕ) (f g : Fate) → Goes P Q t f → Goes P Q t g → f ≡ g
   fate-one t f g x y = sym (fate-means t f .1 x) ∙ fate-means t g .1 y
