@@ -4,15 +4,15 @@
 use mathlib.Core.Path.{_≡_, refl, sym, ap, _∙_}
 use mathlib.Core.Logic.{_⊎_, inl, inr, _↔_}
 use mathlib.Core.Bool.{Bool, true, false, false≢true, cond}
-use mathlib.Core.List.{List, [], _∷_, _++_, append-assoc}
-use Prim.Native.Nat.{ℕ, suc, _≤_, _<_}
+use mathlib.Core.List.{List, [], _++_, append-assoc}
+use Prim.Native.Nat.{ℕ}
 use native.Mathlib.Omega.{arith}
 use lib.Dec.{eqb}
-use lib.ListN.{length, getD, drop}
+use lib.ListN.{getD, drop}
 use Rattle.sheet_spec.specs.declared.Sheet.{Sheet}
-use Rattle.text_spec.specs.Lines.{ascii, decimal, valueFrom, numberLine, sheetLine}
+use Rattle.text_spec.specs.Lines.{ascii, decimal, numberLine, sheetLine}
 use Rattle.text_spec.specs.Sets.{setWords}
-use Rattle.text_spec.specs.DecimalLaws.{decimal-value, decimal-digits}
+use Rattle.text_spec.specs.TellLaws.{same-rest, after-number, sheet-tells}
 use Rattle.tests_spec.specs.declared.Run.{Run}
 use Rattle.tests_spec.specs.declared.Report.{Report}
 use Rattle.tests_spec.specs.declared.Report.the-variants.{Event, Blocked}
@@ -225,42 +225,24 @@ unfolding headLine kindWords
 head-kind true k h n e = (λ w. refl, λ t. (_, refl))
 head-kind false k h n e = (λ w. absurd (let z = ap (λ (l : List ℕ). getD l 1 0) (w .1) in omega (arith, z)), λ t. absurd (false≢true t))
 
--- texts that begin with digits and a blank have the same digits, and go on alike
-after-digits : (a b : List ℕ) → ((i : ℕ) → i < length a → 48 ≤ getD a i 0) → ((i : ℕ) → i < length b → 48 ≤ getD b i 0) → (x y : List ℕ) → a ++ (32 ∷ x) ≡ b ++ (32 ∷ y)
-    → (a ≡ b) × (x ≡ y)
-after-digits [] [] f g x y e = (refl, ap (λ (l : List ℕ). drop 1 l) e)
-after-digits [] (k ∷ b) f g x y e = let z : 32 ≡ k = ap (λ (l : List ℕ). getD l 0 0) e in absurd (omega (arith, z, g 0 (omega arith)))
-after-digits (k ∷ a) [] f g x y e = let z : k ≡ 32 = ap (λ (l : List ℕ). getD l 0 0) e in absurd (omega (arith, z, f 0 (omega arith)))
-after-digits (k ∷ a) (m ∷ b) f g x y e =
-    let z : k ≡ m = ap (λ (l : List ℕ). getD l 0 0) e in
-    let w = after-digits a b (λ i l. f (suc i) (omega arith)) (λ i l. g (suc i) (omega arith)) x y (ap (λ (l : List ℕ). drop 1 l) e) in
-    (rw (z, w .0), w .1)
-
--- texts that begin with numbers and a blank have the same number, and go on alike
-same-number : (m n : ℕ) (x y : List ℕ) → decimal m ++ (32 ∷ x) ≡ decimal n ++ (32 ∷ y) → (m ≡ n) × (x ≡ y)
-same-number m n x y e =
-    let w = after-digits (decimal m) (decimal n) (λ i l. decimal-digits m i l .0) (λ i l. decimal-digits n i l .0) x y e in
-    (sym (decimal-value m) ∙ ap (valueFrom 0) (w .0) ∙ decimal-value n, w .1)
-
 -- what follows the kind of a run in its first line
 abbrev afterKind : ℕ → ℕ → ℕ → ℕ → List ℕ
-afterKind k h n e = ascii "test " ++ (decimal k ++ (ascii " choice " ++ (decimal h ++ (ascii " reference " ++ (decimal n ++ (ascii " nodes " ++ (decimal e ++ ascii " events\n")))))))
+afterKind k h n e = ascii "test " ++ (decimal k ++ (ascii " choice " ++ (decimal h ++ (ascii " " ++ sheetLine (ascii "reference ") n e))))
 
 head-parts : (traceOnly : Bool) (k h n e : ℕ) → headLine traceOnly k h n e ≡ kindWords traceOnly ++ afterKind k h n e
-unfolding headLine sheetLine
+unfolding headLine
 head-parts traceOnly k h n e =
-    let rest : List ℕ = ascii "reference " ++ (decimal n ++ (ascii " nodes " ++ (decimal e ++ ascii " events\n"))) in
+    let rest : List ℕ = sheetLine (ascii "reference ") n e in
     ap (λ (l : List ℕ). kindWords traceOnly ++ (ascii "test " ++ l))
     (append-assoc (decimal k) (ascii " choice " ++ (decimal h ++ ascii " ")) rest
     ∙ ap (λ (l : List ℕ). decimal k ++ (ascii " choice " ++ l)) (append-assoc (decimal h) (ascii " ") rest))
 
 numbers-told : (k h n e k′ h′ n′ e′ : ℕ) → afterKind k h n e ≡ afterKind k′ h′ n′ e′ → (k ≡ k′) × (h ≡ h′) × (n ≡ n′) × (e ≡ e′)
 numbers-told k h n e k′ h′ n′ e′ q =
-    let a = same-number k k′ _ _ (ap (λ (l : List ℕ). drop 5 l) q) in
-    let b = same-number h h′ _ _ (ap (λ (l : List ℕ). drop 7 l) (a .1)) in
-    let c = same-number n n′ _ _ (ap (λ (l : List ℕ). drop 10 l) (b .1)) in
-    let d = same-number e e′ _ _ (ap (λ (l : List ℕ). drop 6 l) (c .1)) in
-    (a .0, b .0, c .0, d .0)
+    let a = after-number 32 (omega arith) k k′ _ _ (same-rest (ascii "test ") _ _ q) in
+    let b = after-number 32 (omega arith) h h′ _ _ (same-rest (ascii "choice ") _ _ (a .1)) in
+    let c = sheet-tells (ascii "reference ") n e n′ e′ [] [] (ap (λ (l : List ℕ). l ++ []) (b .1)) in
+    (a .0, b .0, c .0, c .1)
 
 -- two runs with the same first line have the same kind, test and choice number, on references of the same size
 pub head-tells : (traceOnly traceOnly′ : Bool) (k h n e k′ h′ n′ e′ : ℕ) → headLine traceOnly k h n e ≡ headLine traceOnly′ k′ h′ n′ e′

@@ -4,6 +4,7 @@ pub mod Input
 pub mod Joined
 pub mod Adds
 pub mod DecimalLaws
+pub mod TellLaws
 pub mod SetLaws
 pub mod InputLaws
 pub mod AddsLaws
