@@ -19,12 +19,8 @@ use Rattle.claim.specs.Claim.{Violated}
 use Rattle.text_spec.specs.Lines.{ascii, numberLine, sheetLine}
 use Rattle.text_spec.specs.Input.{cutInput}
 use Rattle.text_pair_spec.specs.Split.{firstSheet}
-use Rattle.text_pair_spec.specs.BackToBack.{Begins, BackToBack}
+use Rattle.text_pair_spec.specs.BackToBack.{Begins, BackToBack, afterSheets}
 use Rattle.compare_lines_spec.specs.Lines.{violatesLine, traceLine, refusedProbeLine}
-
--- the line of the reference, the line of the device, and then the findings
-abbrev pub afterSheets : Sheet → Sheet → List ℕ → List ℕ
-afterSheets P Q findings = sheetLine (ascii "reference ") (P .n) (P .e) ++ (sheetLine (ascii "device ") (Q .n) (Q .e) ++ findings)
 
 -- the last line of a violation: the stray event that an answer names, or the probe and the acceptance
 pub data LastLine : Outcome → List ℕ → Type 0 where

@@ -31,15 +31,16 @@ use Rattle.comparison_spec.specs.CallLaws.{compare-11, compare-19, denied-outco
 use Rattle.claim.specs.Claim.{LongEnough, Reports, stray-reports, refusal-reports, Violated, Claim}
 use Rattle.claim.specs.Theorem.{claim}
 use Rattle.text_spec.specs.Lines.{ascii, numberLine, sheetLine}
+use Rattle.text_spec.specs.TellLaws.{same-number, sheet-tells}
 use Rattle.text_pair_spec.specs.ProgramLaws as text
 use Rattle.text_pair_spec.specs.Program.{reference, device}
-use Rattle.text_pair_spec.specs.BackToBack.{BackToBack}
-use Rattle.text_pair_spec.specs.BackToBackLaws.{begins-read, reference-accepted, both-exactly, pair-text, begins-text}
+use Rattle.text_pair_spec.specs.BackToBack.{BackToBack, afterSheets}
+use Rattle.text_pair_spec.specs.BackToBackLaws.{begins-read, reference-accepted, both-exactly, pair-text, begins-text, sheets-tell}
 use Rattle.compare_lines_spec.specs.Lines.{violatesLine, traceLine, refusedProbeLine, outcomeLines}
 use Rattle.compare_lines_spec.specs.Program.{workList, traceList, comparedLines, compareText}
-use Rattle.compare_lines_spec.specs.LineLaws.{same-number, refines-refused, violates-refused, violates-refines, same-after, accepted-refused}
+use Rattle.compare_lines_spec.specs.LineLaws.{refines-refused, violates-refused, violates-refines, accepted-refused}
 use Rattle.compare_lines_spec.specs.Lengths.{lists-fit}
-use Rattle.compare_lines_spec.specs.Says.{afterSheets, LastLine, of-stray, of-refusal, Says, reference-refused, device-refused, unequal, unequal-codes, refines, violates}
+use Rattle.compare_lines_spec.specs.Says.{LastLine, of-stray, of-refusal, Says, reference-refused, device-refused, unequal, unequal-codes, refines, violates}
 
 -- the numbers that an answer reports
 reports-are : (o : Outcome) (d c : ℕ) → Reports o d c → (compared o .d ≡ d) × (compared o .cleared ≡ c)
@@ -137,12 +138,6 @@ module _ (P Q : Sheet) (accP : sheetFault P ≡ 0) (accQ : sheetFault Q ≡ 0) w
         ∙ sym (describes-only (check-sound P accP) (check-sound Q accQ) same false o (take (v .d) after) (v .describes) .1) in
         ap (λ (x : Outcome). outcomeLines x (traceAfter false P Q workList traceList)) (sym e) ∙ lines-end o end l (traceAfter false P Q workList traceList) ∙ rw (a .0, a .1, t)
 
--- the lines after those of the sheets are the same where the texts are
-same-found : (P Q : Sheet) (n e n′ e′ : ℕ) (x y : List ℕ) → afterSheets P Q x ≡ sheetLine (ascii "reference ") n e ++ (sheetLine (ascii "device ") n′ e′ ++ y) → x ≡ y
-same-found P Q n e n′ e′ x y h =
-    same-after (ascii "device ") (Q .n) (Q .e) n′ e′ x y
-    (same-after (ascii "reference ") (P .n) (P .e) n e (sheetLine (ascii "device ") (Q .n) (Q .e) ++ x) (sheetLine (ascii "device ") n′ e′ ++ y) h)
-
 module _ (input : List ℕ) (P Q : Sheet) (b : BackToBack input P Q) where
   accP : sheetFault P ≡ 0
   accP = b .reference-accepted .1
@@ -155,8 +150,9 @@ module _ (input : List ℕ) (P Q : Sheet) (b : BackToBack input P Q) where
   unfolding compareText
   pair-says = pair-text input comparedLines P Q b
 
+  -- the lines after those of the sheets are the same where the texts are
   pair-found : (l : List ℕ) → compareText input ≡ afterSheets P Q l → comparedLines P Q ≡ l
-  pair-found l e = same-found P Q (P .n) (P .e) (Q .n) (Q .e) (comparedLines P Q) l (sym pair-says ∙ e)
+  pair-found l e = sheets-tell P Q (P .n) (P .e) (Q .n) (Q .e) (comparedLines P Q) l (sym pair-says ∙ e) .4
 
   -- two accepted sheets that agree get no refusal of the comparison
   none-refused : Agree P Q → (m : ℕ) → compareText input ≢ afterSheets P Q (numberLine (ascii "comparison refused ") m)
@@ -282,13 +278,13 @@ says-pair input y n e n′ e′ l h = go (compareText input) (compare-says input
     Pair = (P : Sheet) × (Q : Sheet) × BackToBack input P Q × (compareText input ≡ afterSheets P Q l)
 
     pair : (P Q : Sheet) → BackToBack input P Q → (x : List ℕ) → afterSheets P Q x ≡ compareText input → Pair
-    pair P Q b x t = (P, Q, b, sym t ∙ ap (afterSheets P Q) (same-found P Q n e n′ e′ x l (t ∙ h)))
+    pair P Q b x t = (P, Q, b, sym t ∙ ap (afterSheets P Q) (sheets-tell P Q n e n′ e′ x l (t ∙ h) .4))
 
     go : (t : List ℕ) → Says input t → t ≡ compareText input → Pair
     go t (reference-refused m z r) q = absurd (accepted-refused (ascii "reference ") n e m (sheetLine (ascii "device ") n′ e′ ++ l) (sym (q ∙ h)))
     go t (device-refused P rest m b z r) q =
         absurd (accepted-refused (ascii "device ") n′ e′ m l
-        (sym (same-after (ascii "reference ") (P .n) (P .e) n e (numberLine (ascii "device refused ") m) (sheetLine (ascii "device ") n′ e′ ++ l) (q ∙ h))))
+        (sym (sheet-tells (ascii "reference ") (P .n) (P .e) n e (numberLine (ascii "device refused ") m) (sheetLine (ascii "device ") n′ e′ ++ l) (q ∙ h) .2)))
     go t (unequal P Q b z) q = pair P Q b (numberLine (ascii "comparison refused ") 11) q
     go t (unequal-codes P Q b same z) q = pair P Q b (numberLine (ascii "comparison refused ") 19) q
     go t (refines P Q b agree r c k) q = pair P Q b (numberLine (ascii "refines cleared ") c) q

@@ -14,13 +14,13 @@ use Rattle.sheet_spec.specs.Refusals.{Agree}
 use Rattle.sheet_spec.specs.Sound.{Sound}
 use Rattle.sheet_spec.specs.SoundLaws.{check-sound}
 use Rattle.text_spec.specs.Lines.{valueFrom}
-use Rattle.text_pair_spec.specs.BackToBack.{BackToBack}
+use Rattle.text_pair_spec.specs.BackToBack.{BackToBack, afterSheets}
 use Rattle.scripts_spec.specs.Scripts.{Fate, Walked, DeviceStops, ReferenceStops, byFate, countOf}
 use Rattle.scripts_spec.specs.Fates.{Script, Goes}
 use Rattle.scripts_spec.specs.FateLaws.{fate-some, fate-one}
 use Rattle.scripts_spec.specs.CountLaws.{scripts-counted, counted}
 use Rattle.script_counts_lines_spec.specs.Program.{scriptsText}
-use Rattle.script_counts_lines_spec.specs.Says.{IsLength, afterSheets, spelled, Means}
+use Rattle.script_counts_lines_spec.specs.Says.{IsLength, spelled, Means}
 use Rattle.script_counts_lines_spec.specs.ProgramLaws.{says-counts, says-numbers}
 
 module _ {P Q : Sheet} (op : Sound P) (oq : Sound Q) (L : ℕ) where

@@ -14,17 +14,18 @@ use Rattle.sheet_spec.specs.declared.Sheet.{Sheet}
 use Rattle.sheet_spec.specs.Refusals.{sheetFault, Agree, CodesDiffer, PairWays}
 use Rattle.sheet_spec.specs.PairFaults.{pair-ways}
 use Rattle.text_spec.specs.Lines.{ascii, valueFrom, numberLine, sheetLine}
+use Rattle.text_spec.specs.TellLaws.{same-number}
 use Rattle.text_pair_spec.specs.Program.{reference, device}
 use Rattle.text_pair_spec.specs.ProgramLaws.{reference-refused, device-refused}
-use Rattle.text_pair_spec.specs.BackToBack.{BackToBack}
-use Rattle.text_pair_spec.specs.BackToBackLaws.{pair-text}
+use Rattle.text_pair_spec.specs.BackToBack.{BackToBack, afterSheets}
+use Rattle.text_pair_spec.specs.BackToBackLaws.{pair-text, sheets-tell}
 use Rattle.scripts_spec.specs.Scripts.{Walked, DeviceStops, ReferenceStops, countOf, scriptsFault, scriptsOf}
 use Rattle.scripts_spec.specs.CountLaws.{counts-sum}
 use Rattle.scripts_spec.specs.CallLaws.{scripts-11, scripts-19, scripts-20, scripts-0, scripts-denied, scripts-given, scripts-refusal}
 use Rattle.script_counts_lines_spec.specs.Lines.{scriptsLines}
 use Rattle.script_counts_lines_spec.specs.Program.{lengthOf, countedLines, scriptsText}
-use Rattle.script_counts_lines_spec.specs.Says.{IsLength, afterSheets, refusedLine, spelled, fiveLines}
-use Rattle.script_counts_lines_spec.specs.LineLaws.{same-rest, five-spelled, spelled-tells, refused-tells, spelled-refused, sheet-tells}
+use Rattle.script_counts_lines_spec.specs.Says.{IsLength, refusedLine, spelled, fiveLines}
+use Rattle.script_counts_lines_spec.specs.LineLaws.{five-spelled, spelled-tells, spelled-refused}
 use Rattle.script_counts_lines_spec.specs.WordLaws.{length-is, length-short, short-or-not}
 
 -- ---- the lines of an answer
@@ -51,7 +52,7 @@ lines-tell P Q L P′ Q′ L′ e = go (ℕ-discrete (scriptsFault P Q L) 0) (�
     go (yes f) (no k) = absurd (spelled-refused L _ _ _ _ _ (scriptsFault P′ Q′ L′) (sym (given-lines P Q L f) ∙ e ∙ denied-lines P′ Q′ L′ k))
     go (no n) (yes g) = absurd (spelled-refused L′ _ _ _ _ _ (scriptsFault P Q L) (sym (given-lines P′ Q′ L′ g) ∙ sym e ∙ denied-lines P Q L n))
     go (no n) (no k) =
-        let w = refused-tells (scriptsFault P Q L) (scriptsFault P′ Q′ L′) (sym (denied-lines P Q L n) ∙ e ∙ denied-lines P′ Q′ L′ k) in
+        let w = same-number (ascii "scripts refused ") (scriptsFault P Q L) (scriptsFault P′ Q′ L′) (sym (denied-lines P Q L n) ∙ e ∙ denied-lines P′ Q′ L′ k) in
         (rw (scripts-denied P Q L n, scripts-denied P′ Q′ L′ k, w), λ z. absurd (n (sym (scripts-refusal P Q L) ∙ z)))
 
 -- ---- the lines of a word and two accepted sheets
@@ -113,7 +114,7 @@ module _ (word input : List ℕ) (P Q : Sheet) (b : BackToBack input P Q) where
 
   -- the lines after those of the sheets are the same where the texts are
   found : (l : List ℕ) → scriptsText word input ≡ afterSheets P Q l → countedLines word P Q ≡ l
-  found l e = same-rest (sheetLine (ascii "device ") (Q .n) (Q .e)) _ _ (same-rest (sheetLine (ascii "reference ") (P .n) (P .e)) _ _ (sym text-says ∙ e))
+  found l e = sheets-tell P Q (P .n) (P .e) (Q .n) (Q .e) (countedLines word P Q) l (sym text-says ∙ e) .4
 
   -- the refusals of the call: 11, 19 and 20
   abbrev Refused : ℕ → Type 0
@@ -124,7 +125,7 @@ module _ (word input : List ℕ) (P Q : Sheet) (b : BackToBack input P Q) where
   pair-refused m t = go (pair-ways P Q) (short-or-not word)
     where
       number : (k : ℕ) → countedLines word P Q ≡ refusedLine k → m ≡ k
-      number k l = refused-tells m k (sym (found _ t) ∙ l)
+      number k l = same-number (ascii "scripts refused ") m k (sym (found _ t) ∙ l)
 
       go : PairWays P Q → IsLength word ⊎ (¬ IsLength word) → Refused m
       go (inl a) (inl w) = absurd (spelled-refused _ _ _ _ _ _ m (sym (length-lines word P Q accP accQ a w) ∙ found _ t))
@@ -205,6 +206,5 @@ pub text-tells : (word input : List ℕ) (P Q : Sheet) → BackToBack input P Q 
     → (scriptsOf P Q (lengthOf word) ≡ scriptsOf P′ Q′ (lengthOf word′)) × (scriptsOf P Q (lengthOf word) .refusal ≡ 0 → lengthOf word ≡ lengthOf word′)
 unfolding countedLines
 text-tells word input P Q b word′ input′ P′ Q′ b′ t =
-    let x = sheet-tells (ascii "reference ") _ _ _ _ _ _ (sym (text-says word input P Q b) ∙ t ∙ text-says word′ input′ P′ Q′ b′) in
-    let y = sheet-tells (ascii "device ") _ _ _ _ _ _ (x .2) in
-    lines-tell P Q (lengthOf word) P′ Q′ (lengthOf word′) (y .2)
+    lines-tell P Q (lengthOf word) P′ Q′ (lengthOf word′)
+    (sheets-tell P Q (P′ .n) (P′ .e) (Q′ .n) (Q′ .e) _ _ (sym (text-says word input P Q b) ∙ t ∙ text-says word′ input′ P′ Q′ b′) .4)

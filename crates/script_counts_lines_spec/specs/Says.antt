@@ -5,16 +5,12 @@ use Rattle.base.specs.Counted.{Counted}
 use Rattle.sheet_spec.specs.declared.Sheet.{Sheet}
 use Rattle.scripts_spec.specs.Scripts.{Walked, DeviceStops, ReferenceStops, countOf}
 use Rattle.scripts_spec.specs.Fates.{Script, Goes}
-use Rattle.text_spec.specs.Lines.{ascii, decimal, valueFrom, numberLine, sheetLine}
+use Rattle.text_spec.specs.Lines.{ascii, decimal, valueFrom, numberLine}
 use Rattle.words_spec.specs.Numbers.{Digits}
 
 -- a word is the length of a script: one to five digits whose value is at most 16
 abbrev pub IsLength : List ℕ → Type 0
 IsLength word = Digits 5 word × (valueFrom 0 word ≤ 16)
-
--- the line of the reference, the line of the device, and then the findings
-abbrev pub afterSheets : Sheet → Sheet → List ℕ → List ℕ
-afterSheets P Q findings = sheetLine (ascii "reference ") (P .n) (P .e) ++ (sheetLine (ascii "device ") (Q .n) (Q .e) ++ findings)
 
 -- the line of a refusal of the call
 abbrev pub refusedLine : ℕ → List ℕ

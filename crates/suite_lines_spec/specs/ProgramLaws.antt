@@ -14,8 +14,8 @@ use Rattle.base.specs.Count.{count-le, count-all→, count-all←}
 use Rattle.sheet_spec.specs.declared.Sheet.{Sheet}
 use Rattle.sheet_spec.specs.Refusals.{sheetFault, Agree, CodesDiffer}
 use Rattle.refinement_spec.specs.Refinement.{RefinesIn}
-use Rattle.text_spec.specs.Lines.{ascii, numberLine, sheetLine}
-use Rattle.text_pair_spec.specs.BackToBack.{BackToBack}
+use Rattle.text_spec.specs.Lines.{ascii, numberLine}
+use Rattle.text_pair_spec.specs.BackToBack.{BackToBack, afterSheets}
 use Rattle.text_pair_spec.specs.BackToBackLaws.{pair-text}
 use Rattle.verdicts_spec.specs.Numbers.{passesNumber}
 use Rattle.verdicts_spec.specs.Suites.{testCount, suiteFault}
@@ -80,15 +80,13 @@ module _ (P Q : Sheet) (accP : sheetFault P ≡ 0) (accQ : sheetFault Q ≡ 0) w
 
 module _ (input : List ℕ) (P Q : Sheet) (b : BackToBack input P Q) where
   -- two accepted sheets back to back get the line of each, and then what is judged of them
-  pub suite-says : suiteText input ≡ sheetLine (ascii "reference ") (P .n) (P .e) ++ (sheetLine (ascii "device ") (Q .n) (Q .e) ++ judgedLines P Q)
+  pub suite-says : suiteText input ≡ afterSheets P Q (judgedLines P Q)
   unfolding suiteText
   suite-says = pair-text input judgedLines P Q b
 
   -- with one E and other codes they get `suite refused 19` after the two lines, with another E 11
-  pub suite-says-19 : (P .e ≡ Q .e) × CodesDiffer P Q
-      → suiteText input ≡ sheetLine (ascii "reference ") (P .n) (P .e) ++ (sheetLine (ascii "device ") (Q .n) (Q .e) ++ numberLine (ascii "suite refused ") 19)
+  pub suite-says-19 : (P .e ≡ Q .e) × CodesDiffer P Q → suiteText input ≡ afterSheets P Q (numberLine (ascii "suite refused ") 19)
   suite-says-19 w = suite-says ∙ rw (unequal-codes-lines P Q (b .reference-accepted .1) (b .device-accepted .1) w)
 
-  pub suite-says-11 : P .e ≢ Q .e
-      → suiteText input ≡ sheetLine (ascii "reference ") (P .n) (P .e) ++ (sheetLine (ascii "device ") (Q .n) (Q .e) ++ numberLine (ascii "suite refused ") 11)
+  pub suite-says-11 : P .e ≢ Q .e → suiteText input ≡ afterSheets P Q (numberLine (ascii "suite refused ") 11)
   suite-says-11 n = suite-says ∙ rw (unequal-lines P Q (b .reference-accepted .1) (b .device-accepted .1) n)

@@ -1,6 +1,6 @@
 -- Nothing to believe: laws. An input is two accepted sheets back to back exactly if both of its parts are read without
--- refusal, and its text is then their two lines and the findings. The cut at 4,096 bytes plays no part there: two
--- accepted sheets have at most 2,942.
+-- refusal, and its text is then their two lines and the findings, which it tells. The cut at 4,096 bytes plays no part
+-- there: two accepted sheets have at most 2,942.
 use mathlib.Core.Path.{_≡_, sym, ap, _∙_}
 use mathlib.Core.Logic.{_≢_, _↔_}
 use mathlib.Core.List.{List, _++_}
@@ -18,12 +18,13 @@ use Rattle.sheet_spec.specs.Octets.{below-take}
 use Rattle.sheet_spec.specs.EncodingLaws.{reads→, reads-as, accepted-exactly, bytes-length}
 use Rattle.text_spec.specs.Lines.{ascii, numberLine, sheetLine}
 use Rattle.text_spec.specs.Input.{cutInput}
+use Rattle.text_spec.specs.TellLaws.{sheet-tells}
 use Rattle.text_spec.specs.InputLaws.{cut-short}
 use Rattle.text_pair_spec.specs.Split.{firstEnd, firstSheet, secondSheet}
 use Rattle.text_pair_spec.specs.SplitLaws.{split-whole, split-accepted}
 use Rattle.text_pair_spec.specs.Program.{Findings, pairText, reference, device}
 use Rattle.text_pair_spec.specs.ProgramLaws.{device-refused, both-accepted}
-use Rattle.text_pair_spec.specs.BackToBack.{AcceptedSheet, Begins, BackToBack}
+use Rattle.text_pair_spec.specs.BackToBack.{AcceptedSheet, Begins, BackToBack, afterSheets}
 
 -- a part of bytes is bytes
 take-bytes : (n : ℕ) (b : List ℕ) → Bytes b → Bytes (take n b)
@@ -152,8 +153,7 @@ module _ (input : List ℕ) where
 
   module _ (findings : Findings) where
     -- two accepted sheets back to back print the line of each, its nodes and its events, and then the findings
-    pub pair-text : (P Q : Sheet) → BackToBack input P Q
-        → pairText findings input ≡ sheetLine (ascii "reference ") (P .n) (P .e) ++ (sheetLine (ascii "device ") (Q .n) (Q .e) ++ findings P Q)
+    pub pair-text : (P Q : Sheet) → BackToBack input P Q → pairText findings input ≡ afterSheets P Q (findings P Q)
     pair-text P Q b =
         let r = pair-read P Q b in
         both-accepted input findings (refusal-of (r .0)) (refusal-of (r .1)) ∙ rw (r .0, r .1)
@@ -164,3 +164,11 @@ module _ (input : List ℕ) where
     begins-text P rest b n =
         let r = begins-read P rest b in
         device-refused input findings (refusal-of (r .0)) (λ z. n (ap (λ (x : ReadSheet). x .refusal) (sym (r .1)) ∙ z)) ∙ rw (r .0, r .1)
+
+-- texts that begin with the lines of two sheets, be their numbers what they may, have the same numbers and findings
+pub sheets-tell : (P Q : Sheet) (n e n′ e′ : ℕ) (x y : List ℕ) → afterSheets P Q x ≡ sheetLine (ascii "reference ") n e ++ (sheetLine (ascii "device ") n′ e′ ++ y)
+    → (P .n ≡ n) × (P .e ≡ e) × (Q .n ≡ n′) × (Q .e ≡ e′) × (x ≡ y)
+sheets-tell P Q n e n′ e′ x y h =
+    let p = sheet-tells (ascii "reference ") (P .n) (P .e) n e _ _ h in
+    let q = sheet-tells (ascii "device ") (Q .n) (Q .e) n′ e′ x y (p .2) in
+    (p .0, p .1, q .0, q .1, q .2)

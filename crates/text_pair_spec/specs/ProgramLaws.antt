@@ -22,6 +22,7 @@ use Rattle.text_pair_spec.specs.Split.{firstSheet, secondSheet}
 use Rattle.text_spec.specs.InputLaws.{cut-more}
 use Rattle.text_spec.specs.LengthLaws.{number-length, sheet-length}
 use Rattle.text_pair_spec.specs.Program.{Findings, deviceLines, sheetsLines, inputLines, pairText, reference, device}
+use Rattle.text_pair_spec.specs.BackToBack.{afterSheets}
 
 -- bytes behind 4,096 count as absent
 pub later-absent : (findings : Findings) (input more : List ℕ) → length input ≡ 4096 → pairText findings (input ++ more) ≡ pairText findings input
@@ -44,7 +45,7 @@ module _ (input : List ℕ) where
 
       -- two accepted sheets: their sizes, and the findings
       pub both-accepted : device input .refusal ≡ 0
-          → pairText findings input ≡ sheetLine (ascii "reference ") (reference input .sheet .n) (reference input .sheet .e) ++ (sheetLine (ascii "device ") (device input .sheet .n) (device input .sheet .e) ++ findings (reference input .sheet) (device input .sheet))
+          → pairText findings input ≡ afterSheets (reference input .sheet) (device input .sheet) (findings (reference input .sheet) (device input .sheet))
       unfolding pairText inputLines sheetsLines deviceLines
       both-accepted k = rw (eq-eqb (reference input .refusal) 0 h, eq-eqb (device input .refusal) 0 k)
 
