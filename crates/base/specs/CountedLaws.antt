@@ -1,5 +1,5 @@
 -- Nothing to believe: laws. How many things have a property (Counted): none, one, those of two kinds or of many, what
--- a function makes of them, and that no two numbers count the same things.
+-- a function makes of them, and that no two numbers count the same things; what `count` counts.
 use mathlib.Core.Path.{_≡_, refl, sym, ap, _∙_}
 use mathlib.Core.Logic.{_⊎_, inl, inr, _↔_, _≢_}
 use mathlib.Core.Bool.{Bool, true, false, cond}
@@ -8,7 +8,8 @@ use native.Mathlib.Omega.{arith}
 use native.Mathlib.Nat.{eq-or-lt-of-le}
 use lib.Dec.{ltb}
 use borrow.Author.Tests.{lt-ltb, le-ltb}
-use Rattle.base.specs.Truth.{lt-or-ge}
+use Rattle.base.specs.Truth.{lt-or-ge, clash}
+use Rattle.base.specs.Count.{count}
 use Rattle.base.specs.Sum.{sum}
 use Rattle.base.specs.Pigeon.{pigeonhole, Twice}
 use Rattle.base.specs.Counted.{Listing, Counted}
@@ -150,3 +151,29 @@ module _ {A B : Type 0} where
       every = λ b w. let v = l .every (w .0) (w .1) in (v .0, v .1, ap f (v .2) ∙ w .2);
     },
   )
+
+-- the numbers below n that pass a test are as many as are counted
+count-counted : (f : ℕ → Bool) (n : ℕ) → Counted (λ v. (v < n) × (f v ≡ true)) (count f n)
+unfolding count
+count-counted f zero = counted-none 0 (λ v p. omega (arith, p .0))
+count-counted f (suc n) =
+    counted-as (λ v. (forth v, λ p. back v p (eq-or-lt-of-le (p .0)))) (counted-either (count-counted f n) (last (f n) refl) (λ v p q. omega (arith, p .0, q .0)))
+  where
+    last : (b : Bool) → f n ≡ b → Counted (λ v. (v ≡ n) × (f v ≡ true)) (cond b 1 0)
+    last true e = counted-one n (refl, e) (λ v p. sym (p .0))
+    last false e = counted-none 0 (λ v p. clash (rw (p .0) at (p .1)) e)
+
+    forth : (v : ℕ) → ((v < n) × (f v ≡ true)) ⊎ ((v ≡ n) × (f v ≡ true)) → (v < suc n) × (f v ≡ true)
+    forth v (inl p) = (omega (arith, p .0), p .1)
+    forth v (inr p) = (omega (arith, p .0), p .1)
+
+    back : (v : ℕ) → (v < suc n) × (f v ≡ true) → (suc v ≡ suc n) ⊎ (suc v < suc n) → ((v < n) × (f v ≡ true)) ⊎ ((v ≡ n) × (f v ≡ true))
+    back v p (inl e) = inr (omega arith, p .1)
+    back v p (inr l) = inl (omega arith, p .1)
+
+-- the count is L exactly if L numbers below n have the property that is tested
+pub count-means : (f : ℕ → Bool) (n L : ℕ) {R : ℕ → Type 0} → ((v : ℕ) → v < n → (f v ≡ true) ↔ R v) → (count f n ≡ L) ↔ Counted (λ v. (v < n) × R v) L
+count-means f n L {R} h = (λ e. rw e at all, λ c. counted-unique all c)
+  where
+    all : Counted (λ v. (v < n) × R v) (count f n)
+    all = counted-as (λ v. (λ p. (p .0, h v (p .0) .0 (p .1)), λ p. (p .0, h v (p .0) .1 (p .1)))) (count-counted f n)

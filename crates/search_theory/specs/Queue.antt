@@ -21,7 +21,7 @@ use Rattle.walks.specs.Bound.{bound}
 use Rattle.walks.specs.Reach.{ReachedBefore}
 use Rattle.walks.specs.Order.{rank, rankFrom, rank-snoc, rank-length, rank-lex←}
 use Rattle.walks.specs.Near.{LeadsToBad, distance, distance≤, distance<, distance→, distance-le, leastTrace, leastTrace-unique}
-use Rattle.walks.specs.Cleared.{cleared, cleared-listed}
+use Rattle.walks.specs.Cleared.{cleared, cleared-means}
 
 -- The link to entry j and event i, and the two in a link: 16 is above every event.
 abbrev pub linkOf : ℕ → ℕ → ℕ
@@ -237,12 +237,14 @@ module _ {g : Graph} (w : WellFormed g) (N K D : ℕ → ℕ) (head tail : ℕ) 
   cleared-is : (k L : ℕ) → L ≤ tail → ((x : ℕ) → x < L → ReachedBefore g k (N x)) → ((x : ℕ) → L ≤ x → x < tail → k ≤ D (N x))
       → ((x : ℕ) → head ≤ x → x < tail → k ≤ D (N x)) → cleared g k ≡ L
   unfolding Known
-  cleared-is k L le near far left = cleared-listed w k L N (record {
-    below = λ x h. q .entry x (omega arith) .0;
-    holds = near;
-    differ = λ x y a b. distinct q x y a (omega arith);
-    every = λ v l r. listed v l r;
-  })
+  cleared-is k L le near far left = cleared-means w k L .1 (
+    N,
+    record {
+      holds = λ x h. (q .entry x (omega arith) .0, near x h);
+      differ = λ x y a b. distinct q x y a (omega arith);
+      every = λ v p. listed v (p .0) (p .1);
+    },
+  )
     where
       listed : (v : ℕ) → v < g .size → ReachedBefore g k v → (x : ℕ) × (x < L) × (N x ≡ v)
       listed v l (t, s, e) = pick (known t tr)

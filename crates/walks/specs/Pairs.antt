@@ -7,13 +7,14 @@ use mathlib.Core.List.{List}
 use Prim.Native.Nat.{ℕ, _*_, _/_, _%_, _≤_, _<_}
 use native.Mathlib.Omega.{arith}
 use lib.ListN.{length}
+use Rattle.base.specs.Counted.{Listing}
 use Rattle.walks.specs.Graph.{Graph, WellFormed, walk, Trace}
 use Rattle.walks.specs.Bound.{bound}
 use Rattle.walks.specs.Reach.{ReachedBefore, Reachable}
 use Rattle.walks.specs.Order.{Lex}
 use Rattle.walks.specs.Near.{LeadsToBad, distance, distance-le, distance≤, distance<, distance-means}
 use Rattle.walks.specs.Near.{leastTrace, leastTrace-length, leastTrace-leads, leastTrace-least, leastTrace-unique}
-use Rattle.walks.specs.Cleared.{Lists, cleared, cleared-means, cleared-all, cleared-more}
+use Rattle.walks.specs.Cleared.{cleared, cleared-means, cleared-all, cleared-more}
 use Rattle.walks.specs.Product.{code, code-div, code-mod, code-lt, code-unique, code-split, code-start, code-div-lt, code-mod-lt}
 use Rattle.walks.specs.Product.{product, product-wellFormed, product-walk, product-both, product-trace, product-at}
 
@@ -167,30 +168,29 @@ module _ {r d : Graph} (wr : WellFormed r) (wd : WellFormed d) where
 
   module _ {P : ℕ → Type 0} {R : ℕ → ℕ → Type 0} (same : (n m : ℕ) → n < r .size → m < d .size → P (code d n m) ↔ R n m) where
     -- a listing of codes lists pairs
-    decode : {L : ℕ} {Q : ℕ → ℕ} → Lists (r .size * d .size) P L Q → PairLists r d R L (λ x. Q x / d .size) (λ x. Q x % d .size)
+    decode : {L : ℕ} {Q : ℕ → ℕ} → Listing (λ c. (c < r .size * d .size) × P c) L Q → PairLists r d R L (λ x. Q x / d .size) (λ x. Q x % d .size)
     decode {L} {Q} l = record {
       in-r = inside;
       in-d = λ x k. code-mod-lt d (Q x) (wd .start);
-      holds = λ x k. same (Q x / d .size) (Q x % d .size) (inside x k) (code-mod-lt d (Q x) (wd .start)) .0 (rw (code-split d (Q x)) (l .holds x k));
+      holds = λ x k. same (Q x / d .size) (Q x % d .size) (inside x k) (code-mod-lt d (Q x) (wd .start)) .0 (rw (code-split d (Q x)) (l .holds x k .1));
       differ = λ x y k m e. l .differ x y k m (sym (code-split d (Q x)) ∙ pair x y (e .0) (e .1) ∙ code-split d (Q y));
-      every = λ n m h k p. let v = l .every (code d n m) (code-lt r d n m h k) (same n m h k .1 p) in
+      every = λ n m h k p. let v = l .every (code d n m) (code-lt r d n m h k, same n m h k .1 p) in
           (v .0, v .1, ap (λ (a : ℕ). a / d .size) (v .2) ∙ code-div d n m k, ap (λ (a : ℕ). a % d .size) (v .2) ∙ code-mod d n m k);
     }
       where
         inside : (x : ℕ) → x < L → Q x / d .size < r .size
-        inside x k = code-div-lt r d (Q x) (wd .start) (l .below x k)
+        inside x k = code-div-lt r d (Q x) (wd .start) (l .holds x k .0)
 
         pair : (x y : ℕ) → Q x / d .size ≡ Q y / d .size → Q x % d .size ≡ Q y % d .size
             → code d (Q x / d .size) (Q x % d .size) ≡ code d (Q y / d .size) (Q y % d .size)
         pair x y e f = rw (e, f)
 
     -- a listing of pairs lists their codes
-    encode : {L : ℕ} {N M : ℕ → ℕ} → PairLists r d R L N M → Lists (r .size * d .size) P L (λ x. code d (N x) (M x))
+    encode : {L : ℕ} {N M : ℕ → ℕ} → PairLists r d R L N M → Listing (λ c. (c < r .size * d .size) × P c) L (λ x. code d (N x) (M x))
     encode {L} {N} {M} l = record {
-      below = λ x k. code-lt r d (N x) (M x) (l .in-r x k) (l .in-d x k);
-      holds = λ x k. same (N x) (M x) (l .in-r x k) (l .in-d x k) .1 (l .holds x k);
+      holds = λ x k. (code-lt r d (N x) (M x) (l .in-r x k) (l .in-d x k), same (N x) (M x) (l .in-r x k) (l .in-d x k) .1 (l .holds x k));
       differ = λ x y k m e. l .differ x y k m (code-unique d (N x) (M x) (N y) (M y) (l .in-d x (omega arith)) (l .in-d y m) e);
-      every = every′;
+      every = λ c p. every′ c (p .0) (p .1);
     }
       where
         every′ : (c : ℕ) → c < r .size * d .size → P c → (x : ℕ) × (x < L) × (code d (N x) (M x) ≡ c)
