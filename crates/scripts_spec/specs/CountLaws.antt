@@ -2,10 +2,10 @@
 -- them, each once, and every such script is in it. No other number is; the three sum to E to the power L; scripts that
 -- the reference stops are there exactly if the device strays after a shorter common trace.
 use mathlib.Core.Path.{_≡_, refl, sym, ap, _∙_, subst}
-use mathlib.Core.Logic.{_⊎_, inl, inr, _↔_, Iff·trans, Iff·and, Iff·rfl}
+use mathlib.Core.Logic.{_↔_, Iff·and, Iff·rfl}
 use mathlib.Core.Bool.{Bool, true, false, cond}
 use mathlib.Core.List.{List, [], _∷_, _++_}
-use Prim.Native.Nat.{ℕ, zero, suc, _+_, _-_, _*_, _^_, _≤_, _<_}
+use Prim.Native.Nat.{ℕ, zero, suc, _+_, _-_, _^_, _≤_, _<_}
 use native.Mathlib.Nat.{pow-zero, pow-succ'}
 use native.Mathlib.Omega.{arith}
 use lib.Dec.{ltb}
@@ -15,9 +15,9 @@ use Rattle.base.specs.Counted.{Counted}
 use Rattle.base.specs.CountedLaws.{counted-as, counted-none, counted-one, counted-kinds, counted-map, counted-unique, counted-some}
 use Rattle.walks.specs.Graph.{Below, trace-below}
 use Rattle.sheet_spec.specs.declared.Sheet.{Sheet}
-use Rattle.sheet_spec.specs.Kept.{step, graph}
+use Rattle.sheet_spec.specs.Kept.{step}
 use Rattle.sheet_spec.specs.Sound.{Sound}
-use Rattle.refinement_spec.specs.Refinement.{Trace, TraceViolation}
+use Rattle.refinement_spec.specs.Refinement.{TraceViolation}
 use Rattle.refinement_spec.specs.RefinementLaws.{trace-means}
 use Rattle.scripts_spec.specs.Scripts.{Fate, Walked, DeviceStops, ReferenceStops, byFate, beginning, countFrom, countOf}
 use Rattle.scripts_spec.specs.Fates.{Script, Goes, fateFrom}
@@ -87,6 +87,12 @@ module _ (E l : ℕ) where
   all-reference ReferenceStops = every ReferenceStops
 
 module _ (P Q : Sheet) where
+  -- a script of no event is not stopped
+  unstopped : (n m : ℕ) (f : Fate) → byFate 1 0 0 f ≡ 0 → (t : List ℕ) → ¬ (Script (P .e) 0 t × (fateFrom P Q n m t ≡ f))
+  unfolding fateFrom
+  unstopped n m f z [] x = omega (arith, z, ap (byFate 1 0 0) (x .1))
+  unstopped n m f z (i ∷ t) x = omega (arith, x .0 .0)
+
   -- of no event there is one script, which both walk
   empty : (n m : ℕ) (f : Fate) → Counted (λ t. Script (P .e) 0 t × (fateFrom P Q n m t ≡ f)) (byFate 1 0 0 f)
   unfolding fateFrom
@@ -95,16 +101,8 @@ module _ (P Q : Sheet) where
       only : (t : List ℕ) → Script (P .e) 0 t × (fateFrom P Q n m t ≡ Walked) → [] ≡ t
       only [] x = refl
       only (i ∷ t) x = absurd (omega (arith, x .0 .0))
-  empty n m DeviceStops = counted-none [] stopped
-    where
-      stopped : (t : List ℕ) → ¬ (Script (P .e) 0 t × (fateFrom P Q n m t ≡ DeviceStops))
-      stopped [] x = omega (arith, ap (byFate 1 0 0) (x .1))
-      stopped (i ∷ t) x = omega (arith, x .0 .0)
-  empty n m ReferenceStops = counted-none [] stopped
-    where
-      stopped : (t : List ℕ) → ¬ (Script (P .e) 0 t × (fateFrom P Q n m t ≡ ReferenceStops))
-      stopped [] x = omega (arith, ap (byFate 1 0 0) (x .1))
-      stopped (i ∷ t) x = omega (arith, x .0 .0)
+  empty n m DeviceStops = counted-none [] (unstopped n m DeviceStops refl)
+  empty n m ReferenceStops = counted-none [] (unstopped n m ReferenceStops refl)
 
   -- those that begin with event i are as many as are counted, if those that go on after it are
   module _ (l n m i : ℕ) where

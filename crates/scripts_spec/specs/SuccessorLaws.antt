@@ -1,8 +1,8 @@
--- Nothing to believe: laws. The counts look at successors alone: acceptances play no part in them, and codes none but by
--- the refusals.
+-- Nothing to believe: laws. The counts look at successors alone: acceptances play no part in them, and codes none but
+-- by the refusals.
 use mathlib.Core.Path.{_≡_, refl, sym, ap, _∙_}
 use mathlib.Core.List.{List}
-use Prim.Native.Nat.{ℕ, zero, suc, _^_}
+use Prim.Native.Nat.{ℕ, zero, suc}
 use Rattle.base.specs.Sum.{sum, sum-ext}
 use Rattle.sheet_spec.specs.declared.Sheet.{Sheet}
 use Rattle.sheet_spec.specs.Kept.{recoded, step}
