@@ -3,7 +3,18 @@
 use std::fs::{read, read_dir, read_to_string};
 use std::path::{Path, PathBuf};
 
-use model::text::{compare, probe_list, show, suite};
+use model::text::script_counts::Call;
+use model::text::{compare, probe_list, script_counts, show, suite};
+
+/// The lengths for which a sheet has counts of scripts beside it, as its files name them.
+fn lengths(sheet: &Path) -> Vec<String> {
+    let stem = sheet.with_extension("scripts_").display().to_string();
+    let folder = files(sheet.parent().expect("a folder"), "");
+    let names = folder.iter().map(|file| file.display().to_string());
+    names
+        .filter_map(|name| name.strip_prefix(&stem).map(String::from))
+        .collect()
+}
 
 /// The files of a folder whose names end in some way, in order.
 fn files(folder: &Path, end: &str) -> Vec<PathBuf> {
@@ -34,10 +45,17 @@ fn the_samples() {
                 let input = [&reference[..], &bytes[..]].concat();
                 held("compare", compare::output(&input));
                 held("suite", suite::output(&input));
+                for length in lengths(&file) {
+                    let call = Call {
+                        input: input.clone(),
+                        words: vec![length.clone()],
+                    };
+                    held(&format!("scripts_{length}"), script_counts::output(&call));
+                }
             }
         }
     }
-    assert!(texts >= 42, "{texts}");
+    assert!(texts >= 61, "{texts}");
 }
 
 #[test]

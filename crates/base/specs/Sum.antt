@@ -1,7 +1,6 @@
 -- Sums over the numbers below a bound.
 use mathlib.Core.Path.{_≡_, refl, sym}
-use Prim.Native.Nat.{ℕ, zero, suc, _+_, _*_, _≤_, _<_}
-use native.Mathlib.Numerals.{add-one}
+use Prim.Native.Nat.{ℕ, zero, suc, _+_, _*_, _<_}
 use native.Mathlib.Nat.{suc-mul, zero-mul}
 use native.Mathlib.Omega.{arith}
 
@@ -9,15 +8,6 @@ use native.Mathlib.Omega.{arith}
 unfoldable pub sum : (ℕ → ℕ) → ℕ → ℕ
 sum f zero = 0
 sum f (suc n) = sum f n + f n
-
--- how a loop that counts up works a sum
-pub sum-none : (f : ℕ → ℕ) → sum f 0 ≡ 0
-unfolding sum
-sum-none f = refl
-
-pub sum-more : (f : ℕ → ℕ) (n : ℕ) → sum f (n + 1) ≡ sum f n + f n
-unfolding sum
-sum-more f n = rw (add-one n)
 
 -- functions that agree below the bound have one sum
 pub sum-ext : (f g : ℕ → ℕ) (n : ℕ) → ((i : ℕ) → i < n → f i ≡ g i) → sum f n ≡ sum g n
@@ -36,9 +26,3 @@ pub sum-add : (f g h : ℕ → ℕ) (n : ℕ) → ((i : ℕ) → i < n → f i +
 unfolding sum
 sum-add f g h zero e = refl
 sum-add f g h (suc n) e = omega (arith, sum-add f g h n (λ i l. e i (omega arith)), e n (omega arith))
-
--- numbers that are at most c each
-pub sum-le : (f : ℕ → ℕ) (c n : ℕ) → ((i : ℕ) → i < n → f i ≤ c) → sum f n ≤ n * c
-unfolding sum
-sum-le f c zero h = omega arith
-sum-le f c (suc n) h = rw (suc-mul n c) (omega (arith, sum-le f c n (λ i l. h i (omega arith)), h n (omega arith)))

@@ -57,7 +57,8 @@ fn put_counted(out: &mut [u8], at: usize, word: &[u8], p: Sheet, q: Sheet) -> us
 // Puts the program's text for a word and an input over the front of the lent list, and answers how many bytes of it
 // stand there.
 pub fn scripts_text(word: &[u8], input: &[u8], out: &mut [u8]) -> usize
-    ensures { λ r. ⌜ Holds (now (out .entry)) (scriptsText (now (word .entry)) (now (input .entry))) (now (out .exit)) r ⌝ }
+    ensures { λ r. ⌜ Holds (now (out .entry)) (scriptsText (now (word .entry)) (now (input .entry)))
+        (now (out .exit)) r ⌝ }
 {
     let t = text_pair::put_pair(out, input);
     if t.both {

@@ -70,8 +70,9 @@ fn count_rows(
     }
 }
 
-// Counts the scripts of `length` events by what becomes of them: both sheets walk it to the end; it stops first at an
-// event that the device cannot do; or at one that the device can do and the reference cannot.
+// Counts the scripts of `length` events by what becomes of them: both sheets walk them to the end; they stop first at an
+// event that the device cannot do; or at one that the device can do and the reference cannot. Or answers the number of
+// the refusal, and 0 in the other places.
 pub fn count(reference: Sheet, device: Sheet, length: u16) -> Scripts
     ensures { λ r. ⌜ r ≡ scriptsOf reference device length ⌝ }
 {

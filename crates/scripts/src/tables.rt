@@ -1,7 +1,8 @@
 // Tables of counts: for each pair of nodes three numbers, how many scripts of so many events go each way from that pair
-// on. After the pairs come two places for an event that cannot be done: what the reference stops, and what the device
-// stops. So a step adds the counts of one place, whatever the sheets can do, and no branch waits for them. The table for
-// one event more is filled from the one before; two tables change places.
+// on; with 32 times 32 pairs and the two places after them these are 3,078. The two places are for an event that cannot
+// be done: what the reference stops, and what the device stops. So a step adds the counts of one place, whatever the
+// sheets can do, and no jump hangs on them. The table for one event more is filled from the one before; two tables
+// change places.
 ghost use mathlib.Core.Path.{_≡_};
 ghost use Prim.Native.Nat.{_+_, _*_, _≤_, _<_};
 ghost use lib.ListN.{length};

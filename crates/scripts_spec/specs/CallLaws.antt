@@ -128,3 +128,30 @@ module _ (P Q : Sheet) (L : ℕ) where
     pub told-most : (f : Fate) → told (scriptsOf P Q L) f ≤ 184884258895036416
     unfolding countOf
     told-most f = rw (given-told f) (le-trans (from-le P Q L 0 0 f) told-fits)
+
+-- the call answers three numbers exactly if neither sheet is refused, they agree, L is not above 16, and each number is
+-- that of the different scripts of L events that go so
+pub scripts-means : (P Q : Sheet) (L w d r : ℕ) → (scriptsOf P Q L ≡ record { refusal = 0; walked = w; device = d; reference = r })
+    ↔ (((BothAccepted P Q × Agree P Q) × (¬ (16 < L))) × ((f : Fate) → Counted (λ t. Script (P .e) L t × Goes P Q t f) (byFate w d r f)))
+scripts-means P Q L w d r = (to, from)
+  where
+    Given : Type 0
+    Given = ((BothAccepted P Q × Agree P Q) × (¬ (16 < L))) × ((f : Fate) → Counted (λ t. Script (P .e) L t × Goes P Q t f) (byFate w d r f))
+
+    same : (a : Scripts) → a ≡ record { refusal = 0; walked = w; device = d; reference = r } → (f : Fate) → told a f ≡ byFate w d r f
+    same a e Walked = ap (λ (x : Scripts). x .walked) e
+    same a e DeviceStops = ap (λ (x : Scripts). x .device) e
+    same a e ReferenceStops = ap (λ (x : Scripts). x .reference) e
+
+    to : scriptsOf P Q L ≡ record { refusal = 0; walked = w; device = d; reference = r } → Given
+    to e =
+        let z : scriptsFault P Q L ≡ 0 = sym (scripts-refusal P Q L) ∙ ap (λ (a : Scripts). a .refusal) e in
+        (scripts-0 P Q L .0 z, λ f. rw (same _ e f) at (told-counted P Q L z f))
+
+    from : Given → scriptsOf P Q L ≡ record { refusal = 0; walked = w; device = d; reference = r }
+    from (g, c) =
+        let z = scripts-0 P Q L .1 g in
+        let x : w ≡ countOf P Q L Walked = told-only P Q L z Walked w (c Walked) ∙ given-told P Q L z Walked in
+        let y : d ≡ countOf P Q L DeviceStops = told-only P Q L z DeviceStops d (c DeviceStops) ∙ given-told P Q L z DeviceStops in
+        let v : r ≡ countOf P Q L ReferenceStops = told-only P Q L z ReferenceStops r (c ReferenceStops) ∙ given-told P Q L z ReferenceStops in
+        scripts-given P Q L z ∙ rw (x, y, v)

@@ -223,3 +223,10 @@ module _ {P Q : Sheet} (op : Sound P) (oq : Sound Q) where
 
           goes : Goes P Q script ReferenceStops
           goes = (s, i, record { rest = zeros; split = refl; reference = x; device = y }, does, no-does)
+
+module _ {P Q : Sheet} (op : Sound P) (oq : Sound Q) (same : P .e ≡ Q .e) where
+  -- exchanged, the two sheets walk as many scripts
+  pub walked-exchanged : (L : ℕ) → countOf Q P L Walked ≡ countOf P Q L Walked
+  walked-exchanged L =
+      counted-only op oq L (countOf Q P L Walked) Walked
+      (counted-as (λ t. ((λ x. (rw same (x .0), (x .1 .1, x .1 .0))), λ x. (rw (sym same) (x .0), (x .1 .1, x .1 .0)))) (counted oq op L Walked))
