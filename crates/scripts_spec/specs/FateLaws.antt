@@ -116,5 +116,5 @@ module _ {P Q : Sheet} (op : Sound P) (oq : Sound Q) where
   fate-some t = (fateFrom P Q 0 0 t, fate-means t (fateFrom P Q 0 0 t) .0 refl)
 
   -- and no list goes two ways
-  fate-one : (t : List ℕ) (f g : Fate) → Goes P Q t f → Goes P Q t g → f ≡ g
+  pub fate-one : (t : List ℕ) (f g : Fate) → Goes P Q t f → Goes P Q t g → f ≡ g
   fate-one t f g x y = sym (fate-means t f .1 x) ∙ fate-means t g .1 y
