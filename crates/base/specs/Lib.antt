@@ -6,6 +6,10 @@ pub mod Pigeon
 pub mod Counted
 pub mod CountedLaws
 pub mod Gather
+pub mod Joined
+pub mod JoinedLaws
+pub mod Sorted
+pub mod SortedLaws
 pub mod Table
 pub mod Front
 pub mod Finds

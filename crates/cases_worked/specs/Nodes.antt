@@ -7,6 +7,7 @@ use lib.ListN.{replicate}
 use Rattle.base.specs.Range.{all, any}
 use Rattle.base.specs.Table.{upTo}
 use Rattle.base.specs.Gather.{gather, select}
+use Rattle.base.specs.Joined.{joined}
 use Rattle.events.specs.Bit.{bit, setOf}
 use Rattle.events.specs.Sets.{has, inside, meets}
 use Rattle.walks.specs.Graph.{walk}
@@ -20,7 +21,6 @@ use Rattle.probes_spec.specs.Probes.{hits, isProbe, probes}
 use Rattle.probes_spec.specs.Listing.{nodeProbes, listFault}
 use Rattle.text_spec.specs.Lines.{ascii, decimalIn, decimal, eventList}
 use Rattle.text_spec.specs.Sets.{eventsIn, members, setWords}
-use Rattle.text_spec.specs.Joined.{joined}
 use Rattle.text_sheet_spec.specs.Node.{probeSpace, placeWords, setList, probesLine, mayStopLine, deniedLine, nodeLine, optional, optionalLine, optionalText, nodeText}
 use Rattle.text_sheet_spec.specs.Cases.{threeNodes}
 use Rattle.sheet_spec.specs.Examples.{exampleReference, codedReference, sheet}

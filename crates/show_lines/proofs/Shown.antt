@@ -5,12 +5,12 @@ use mathlib.Core.Logic.{_≢_}
 use mathlib.Core.List.{List}
 use Prim.Native.Nat.{ℕ, _≤_}
 use lib.ListN.{take}
+use Rattle.base.specs.Joined.{joined}
 use Rattle.sheet_spec.specs.declared.ReadSheet.{ReadSheet}
 use Rattle.sheet_spec.specs.Reading.{readSheet}
 use Rattle.text_spec.specs.Input.{cutInput}
 use Rattle.text_spec.specs.Adds.{Holds, Adds}
 use Rattle.text_spec.specs.AddsLaws.{adds-then, adds-all}
-use Rattle.text_spec.specs.Joined.{joined}
 use Rattle.text_sheet_spec.specs.Head.{headLine}
 use Rattle.text_sheet_spec.specs.Show.{codesLines, nodeLines, showLines, showText}
 use Rattle.text_sheet_spec.specs.ShowLaws.{show-accepted, show-refused, read-events, read-nodes}

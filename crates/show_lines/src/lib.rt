@@ -1,8 +1,8 @@
 // The text of the program `show`: every byte that it prints, from the bytes that it reads. A function that puts a piece
 // takes the list and the place where the piece begins and answers the place after it.
 ghost use Prim.Native.Nat.{_≤_, _<_};
+ghost use Rattle.base.specs.Joined.{joined};
 ghost use Rattle.text_spec.specs.Adds.{Adds, Holds};
-ghost use Rattle.text_spec.specs.Joined.{joined};
 ghost use Rattle.text_sheet_spec.specs.Show.{codeLine, codesLines};
 ghost use Rattle.text_sheet_spec.specs.Show.{eventLine, successorLine, acceptanceLine};
 ghost use Rattle.text_sheet_spec.specs.Show.{restLines, rowLines, nodeLines, showText};

@@ -17,11 +17,11 @@ use Rattle.refinement_spec.specs.ViolatingPairs.{strays, hasStray, covers, hasR
 use Rattle.verdicts_spec.specs.Verdicts.{failsFrom, verdictFault, verdictOf}
 use Rattle.verdicts_spec.specs.Numbers.{judged}
 use Rattle.base.specs.Count.{count}
+use Rattle.base.specs.Joined.{joined}
 use Rattle.verdicts_spec.specs.Suites.{testCount, verdictNumber, suiteFault, suiteOf, verdictsAfter}
 use Rattle.text_spec.specs.Lines.{ascii, decimalIn, decimal, numberLine, sheetLine}
 use Rattle.text_spec.specs.Input.{cutInput}
 use Rattle.text_pair_spec.specs.Split.{firstEnd, firstSheet, secondSheet}
-use Rattle.text_spec.specs.Joined.{joined}
 use Rattle.text_pair_spec.specs.Program.{deviceLines, sheetsLines, inputLines, pairText}
 use Rattle.suite_lines_spec.specs.Lines.{testLine, testLines, passedOf, lastWords, lastLine, suiteLines}
 use Rattle.suite_lines_spec.specs.Program.{verdictList, judgedLines, suiteText}

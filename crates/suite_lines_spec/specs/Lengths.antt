@@ -7,13 +7,13 @@ use Prim.Native.Nat.{ℕ, _+_, _-_, _*_, _≤_, _<_}
 use native.Mathlib.Omega.{arith}
 use lib.Dec.{eqb}
 use lib.ListN.{length, getD, length-append}
+use Rattle.base.specs.JoinedLaws.{joined-length}
 use Rattle.sheet_spec.specs.declared.Sheet.{Sheet}
 use Rattle.sheet_spec.specs.Refusals.{sheetFault, PairWays}
 use Rattle.sheet_spec.specs.PairFaults.{pair-ways}
 use Rattle.text_spec.specs.Lines.{ascii, decimal, numberLine}
 use Rattle.text_spec.specs.DecimalLaws.{decimal-few}
 use Rattle.text_spec.specs.LengthLaws.{number-length}
-use Rattle.text_spec.specs.JoinedLaws.{joined-length}
 use Rattle.verdicts_spec.specs.Numbers.{passesNumber}
 use Rattle.verdicts_spec.specs.Suites.{testCount, verdictsAfter}
 use Rattle.verdicts_spec.specs.Complete.{tests-few}

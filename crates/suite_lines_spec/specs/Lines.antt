@@ -6,8 +6,8 @@ use Prim.Native.Nat.{ℕ, _-_}
 use lib.Dec.{eqb}
 use lib.ListN.{getD}
 use Rattle.base.specs.Count.{count}
+use Rattle.base.specs.Joined.{joined}
 use Rattle.text_spec.specs.Lines.{ascii, decimal, numberLine}
-use Rattle.text_spec.specs.Joined.{joined}
 use Rattle.verdicts_spec.specs.declared.Suite.{Suite}
 use Rattle.verdicts_spec.specs.declared.Suite.the-variants.{Judged, Denied}
 use Rattle.verdicts_spec.specs.Numbers.{passesNumber}

@@ -13,6 +13,8 @@ use lib.ListN.{length, getD, length-append}
 use lib.Pow.{pow-mono}
 use borrow.Author.Tests.{eqb-true}
 use Rattle.base.specs.Truth.{dec, lt-or-ge}
+use Rattle.base.specs.Joined.{joined}
+use Rattle.base.specs.JoinedLaws.{joined-length}
 use Rattle.sheet_spec.specs.declared.Sheet.{Sheet}
 use Rattle.sheet_spec.specs.Kept.{codeAt, row, successor, acceptance, acceptances, mayStop}
 use Rattle.sheet_spec.specs.Form.{Bytes, SheetForm}
@@ -34,8 +36,6 @@ use Rattle.text_spec.specs.Sets.{eventsIn, members, setWords}
 use Rattle.text_spec.specs.DecimalLaws.{decimal-few}
 use Rattle.text_spec.specs.Input.{cutInput}
 use Rattle.text_spec.specs.LengthLaws.{number-length, sheet-length, events-length as set-events-length, set-length}
-use Rattle.text_spec.specs.Joined.{joined}
-use Rattle.text_spec.specs.JoinedLaws.{joined-length}
 use Rattle.text_sheet_spec.specs.Head.{ruleWords, refusalWords, refusedSheetLine, headLine}
 use Rattle.text_sheet_spec.specs.Show.{codeLine, codesLines, eventLine, successorLine, acceptsLine, acceptanceLine, restLines, rowLines, nodeLines, bodyLines, showLines, showText}
 use Rattle.text_sheet_spec.specs.NodeLaws.{line-stop, line-probes, line-sheet, line-9}

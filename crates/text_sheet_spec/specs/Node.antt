@@ -5,6 +5,7 @@ use Prim.Native.Nat.{ℕ}
 use lib.Dec.{eqb}
 use lib.ListN.{length, getD, replicate}
 use Rattle.base.specs.Range.{any}
+use Rattle.base.specs.Joined.{joined}
 use Rattle.events.specs.Bit.{setOf}
 use Rattle.events.specs.Sets.{has}
 use Rattle.sheet_spec.specs.declared.Row.{Row}
@@ -13,7 +14,6 @@ use Rattle.sheet_spec.specs.Kept.{row, acceptance, initials, mayStop}
 use Rattle.probes_spec.specs.Listing.{nodeProbes, listFault}
 use Rattle.text_spec.specs.Lines.{ascii, decimal, numbersText}
 use Rattle.text_spec.specs.Sets.{members, setWords}
-use Rattle.text_spec.specs.Joined.{joined}
 
 -- the list that is lent to the probe call: 4,096 places, which is enough for every node
 unfoldable pub probeSpace : List ℕ

@@ -4,6 +4,7 @@ use mathlib.Core.Bool.{cond}
 use mathlib.Core.List.{List, [], _++_}
 use Prim.Native.Nat.{ℕ}
 use lib.Dec.{eqb}
+use Rattle.base.specs.Joined.{joined}
 use Rattle.sheet_spec.specs.declared.Row.{Row}
 use Rattle.sheet_spec.specs.declared.Sheet.{Sheet}
 use Rattle.sheet_spec.specs.declared.ReadSheet.{ReadSheet}
@@ -13,7 +14,6 @@ use Rattle.sheet_spec.specs.Reading.{readSheet}
 use Rattle.text_spec.specs.Lines.{ascii, numberLine, numbersText}
 use Rattle.text_spec.specs.Sets.{setWords}
 use Rattle.text_spec.specs.Input.{cutInput}
-use Rattle.text_spec.specs.Joined.{joined}
 use Rattle.text_sheet_spec.specs.Head.{headLine}
 
 -- the line of the catalogue code of event i: `code i c`

@@ -10,6 +10,7 @@ use lib.ListN.{length, length-append}
 use borrow.Author.Tests.{eq-eqb, ne-eqb}
 use Rattle.base.specs.Truth.{dec, not-i}
 use Rattle.base.specs.Finds.{finds-none}
+use Rattle.base.specs.Joined.{joined}
 use Rattle.sheet_spec.specs.declared.Row.{Row}
 use Rattle.sheet_spec.specs.declared.Sheet.{Sheet}
 use Rattle.sheet_spec.specs.declared.ReadSheet.{ReadSheet}
@@ -25,7 +26,6 @@ use Rattle.sheet_spec.specs.EncodingLaws.{reads, version-1-codes}
 use Rattle.sheet_spec.specs.SoundLaws.{check-sound}
 use Rattle.text_spec.specs.Lines.{ascii, numbersText, sheetLine}
 use Rattle.text_spec.specs.InputLaws.{cut-short, cut-more}
-use Rattle.text_spec.specs.Joined.{joined}
 use Rattle.text_sheet_spec.specs.Head.{refusedSheetLine, headLine}
 use Rattle.text_sheet_spec.specs.Show.{codeLine, codesLines, eventLine, successorLine, acceptanceLine, restLines, nodeLines, bodyLines, showLines, showText}
 

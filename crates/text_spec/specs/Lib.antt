@@ -1,7 +1,6 @@
 pub mod Lines
 pub mod Sets
 pub mod Input
-pub mod Joined
 pub mod Adds
 pub mod DecimalLaws
 pub mod TellLaws

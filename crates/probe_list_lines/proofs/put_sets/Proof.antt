@@ -3,8 +3,8 @@ use mathlib.Core.Path.{refl, _≡_}
 use Prim.Native.Nat.{_-_, _≤_}
 use native.Mathlib.Omega.{arith}
 use lib.ListN.{length}
+use Rattle.base.specs.Joined.{joined}
 use Rattle.text_spec.specs.Adds.{Adds}
-use Rattle.text_spec.specs.Joined.{joined}
 use Rattle.text_spec.specs.JoinedLaws.{joined-none, joined-next, joined-end}
 use Rattle.text_sheet_spec.specs.Node.{placeWords, setList}
 use Rattle.probe_list_lines.proofs.put_sets.Statement.{statement}
