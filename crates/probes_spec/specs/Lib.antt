@@ -1,5 +1,6 @@
 pub mod Probes
 pub mod HitLaws
+pub mod OrderLaws
 pub mod ProbeLaws
 pub mod Shapes
 pub mod ShapeLaws

@@ -12,6 +12,7 @@ use lib.Pow.{pow-mono}
 use borrow.Author.Tests.{eqb-true, eqb-false, eq-eqb, ne-eqb}
 use Rattle.base.specs.Truth.{dec, clash, lt-or-ge}
 use Rattle.base.specs.Finds.{finds-lt, finds-le}
+use Rattle.base.specs.Sorted.{Sorted}
 use Rattle.base.specs.Front.{atFront, atFront-length, atFront-before, atFront-behind}
 use Rattle.base.specs.Refusal.{unless, unless-hit, unless-pass, unless-none, unless-other, orElse-some, orElse-first, orElse-then}
 use Rattle.sheet_spec.specs.declared.Sheet.{Sheet}
@@ -22,8 +23,8 @@ use Rattle.sheet_spec.specs.RowLaws.{mayStop-means, acceptances-length, accepta
 use Rattle.sheet_spec.specs.Sound.{Sound}
 use Rattle.sheet_spec.specs.SoundLaws.{check-sound}
 use Rattle.probes_spec.specs.declared.Listed.the-variants.{Count, Denied}
-use Rattle.probes_spec.specs.Probes.{probes, Probe, Narrow}
-use Rattle.probes_spec.specs.ProbeLaws.{probe-at, probe-listed, probes-few, probes-none, probes-some, probes-ascending}
+use Rattle.probes_spec.specs.Probes.{probes, Probe, Before, ProbeList, Narrow}
+use Rattle.probes_spec.specs.ProbeLaws.{probe-at, probe-listed, probes-few, probes-none, probes-some, probes-ordered, probes-only}
 use Rattle.probes_spec.specs.Listing.{nodeProbes, listFault, listCount, listedNumbers, listedOf, listAfter}
 
 -- the numbers of each case of an answer, for crates that may not unfold them
@@ -152,10 +153,10 @@ pub node-list : (s : Sheet) (v : ℕ) → nodeProbes s v ≡ probes (acceptances
 unfolding nodeProbes
 node-list s v = refl
 
--- it ascends by number, so that each probe stands there once
-pub node-ascending : (s : Sheet) (v x y : ℕ) → x < y → y < length (nodeProbes s v) → getD (nodeProbes s v) x 0 < getD (nodeProbes s v) y 0
+-- fewer events come first in it, and of as many the lower number, so that each probe stands there once
+pub node-ordered : (s : Sheet) (v : ℕ) → Sorted Before (nodeProbes s v)
 unfolding nodeProbes
-node-ascending s v = probes-ascending (acceptances (row s v)) (s .e)
+node-ordered s v = probes-ordered (acceptances (row s v)) (s .e)
 
 -- ---- the probes of a node of a sheet that is not refused
 
@@ -174,6 +175,11 @@ module _ (s : Sheet) (h : sheetFault s ≡ 0) (v : ℕ) (l : v < s .n) where
     where
       there : (x : ℕ) × (x < length (probes (acceptances (row s v)) (s .e))) × (getD (probes (acceptances (row s v)) (s .e)) x 0 ≡ X) → Probe (acceptances (row s v)) X
       there (x, k, e) = rw (← e) (probe-at (acceptances (row s v)) (s .e) x k)
+
+  -- a list that has just these, in their order, is the node's
+  pub node-only : (l : List ℕ) → ProbeList (acceptances (row s v)) l → l ≡ nodeProbes s v
+  unfolding nodeProbes
+  node-only l q = probes-only (acceptances (row s v)) (s .e) node-narrow l q
 
   -- a node has at most 4,096 probes
   pub node-few : length (nodeProbes s v) ≤ 4096

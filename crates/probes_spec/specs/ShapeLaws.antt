@@ -1,22 +1,28 @@
--- Nothing to believe: laws. The single pass over the acceptances is the literal test, and the candidates that are
--- listed are the probes.
+-- Nothing to believe: laws. The single pass over the acceptances is the literal test; what is found, size by size, is
+-- the list of probes, and as long.
 use mathlib.Core.Path.{_≡_, refl, sym, ap, _∙_}
 use mathlib.Core.Logic.{_⊎_, inl, inr, _≢_}
-use mathlib.Core.Bool.{Bool, true, false, cond, false≢true}
-use mathlib.Core.List.{List, [], _∷_}
-use Prim.Native.Nat.{ℕ, zero, suc, _+_, _-_, _*_, _/_, _%_, _^_, _≤_}
+use mathlib.Core.Bool.{Bool, true, false, _&&_, cond, false≢true}
+use mathlib.Core.List.{List, [], _∷_, _++_, append-nil}
+use Prim.Native.Nat.{ℕ, zero, suc, _+_, _-_, _*_, _/_, _%_, _^_, _≤_, _<_}
+use native.Mathlib.Nat.{eq-or-lt-of-le}
 use native.Mathlib.Omega.{arith}
 use native.Mathlib.Decide.{ℕ-discrete}
 use lib.Dec.{eqb}
 use lib.Bits.{bitAnd, bitOr, and-step, and-self}
+use lib.ListN.{length, getD, length-append}
 use lib.Pow.{pow-pos}
 use borrow.Author.Tests.{eqb-true, eqb-false, eq-eqb, ne-eqb}
-use Rattle.base.specs.Truth.{same}
-use Rattle.base.specs.Gather.{gather, select}
+use Rattle.base.specs.Truth.{same, lt-or-ge}
+use Rattle.base.specs.Gather.{gather, select, gather-from}
+use Rattle.base.specs.Joined.{joined}
+use Rattle.base.specs.JoinedLaws.{joined-same, joined-more}
 use Rattle.events.specs.Bit.{bit, bit·zero, bit·suc, bit≤1, bit-and, bit-or, bit-one, bit-other, bit-high, bits-zero, bits-ext, Within, apart-and, common, meet}
-use Rattle.probes_spec.specs.Probes.{isProbe, probes, Hits, Probe}
+use Rattle.events.specs.Size.{size}
+use Rattle.events.specs.SizeLaws.{size-few}
+use Rattle.probes_spec.specs.Probes.{isProbe, probesOf, probes, Hits, Probe}
 use Rattle.probes_spec.specs.HitLaws.{isProbe→, isProbe←, alone→probe, probe→alone}
-use Rattle.probes_spec.specs.Shapes.{Alone, lone, onePass, candidateCount, candidate, listed}
+use Rattle.probes_spec.specs.Shapes.{Alone, lone, onePass, ascending, ofSize}
 
 -- ---- a set and its predecessor have no event in common exactly if the set has at most one event
 
@@ -136,9 +142,96 @@ onePass-isProbe accs x = same (onePass accs x 0) (isProbe accs x) (λ t. isProbe
     back : Probe accs x → Passed accs x 0
     back p = record { met = p .hits; whole = λ i b. inr (probe→alone accs x p i b) }
 
--- ---- the candidates
+-- ---- the probes of each size
 
--- all candidates that are listed, together, are the probes
-pub candidates-probes : (accs : List ℕ) (e : ℕ) → gather (listed accs e) (candidate e) (candidateCount e) ≡ probes accs e
-unfolding probes select candidateCount listed candidate
-candidates-probes accs e = refl
+ofSize-append : (l m : List ℕ) (j : ℕ) → ofSize (l ++ m) j ≡ ofSize l j ++ ofSize m j
+unfolding ofSize
+ofSize-append [] m j = refl
+ofSize-append (x ∷ l) m j = go (eqb (size x) j) (ofSize-append l m j)
+  where
+    go : (b : Bool) → ofSize (l ++ m) j ≡ ofSize l j ++ ofSize m j
+        → cond b (x ∷ ofSize (l ++ m) j) (ofSize (l ++ m) j) ≡ cond b (x ∷ ofSize l j) (ofSize l j) ++ ofSize m j
+    go true ih = ap (λ (r : List ℕ). x ∷ r) ih
+    go false ih = ih
+
+-- one set more at the end of the list
+pub ofSize-yes : (l : List ℕ) (x j : ℕ) → size x ≡ j → ofSize (l ++ (x ∷ [])) j ≡ ofSize l j ++ (x ∷ [])
+unfolding ofSize
+ofSize-yes l x j e = rw (ofSize-append l (x ∷ []) j, eq-eqb (size x) j e)
+
+pub ofSize-no : (l : List ℕ) (x j : ℕ) → size x ≢ j → ofSize (l ++ (x ∷ [])) j ≡ ofSize l j
+unfolding ofSize
+ofSize-no l x j n = rw (ofSize-append l (x ∷ []) j, ne-eqb (size x) j n) (append-nil (ofSize l j))
+
+-- of the numbers that pass a test, those of j events
+ofSize-select : (p : ℕ → Bool) (j n : ℕ) → ofSize (select p n) j ≡ select (λ x. eqb (size x) j && p x) n
+unfolding select gather
+ofSize-select p j zero = unfold ofSize in refl
+ofSize-select p j (suc n) = go (p n) (eqb (size n) j) refl (ofSize-select p j n)
+  where
+    both : ℕ → Bool
+    both x = eqb (size x) j && p x
+
+    go : (b c : Bool) → eqb (size n) j ≡ c → ofSize (gather p (λ x. x) n) j ≡ gather both (λ x. x) n
+        → ofSize (gather p (λ x. x) n ++ cond b (n ∷ []) []) j ≡ gather both (λ x. x) n ++ cond (c && b) (n ∷ []) []
+    go true true e ih = ofSize-yes (gather p (λ x. x) n) n j (eqb-true (size n) j e) ∙ ap (λ (r : List ℕ). r ++ (n ∷ [])) ih
+    go true false e ih = ofSize-no (gather p (λ x. x) n) n j (eqb-false (size n) j e) ∙ ih ∙ sym (append-nil (gather both (λ x. x) n))
+    go false true e ih = ap (λ (l : List ℕ). ofSize l j) (append-nil (gather p (λ x. x) n)) ∙ ih ∙ sym (append-nil (gather both (λ x. x) n))
+    go false false e ih = ap (λ (l : List ℕ). ofSize l j) (append-nil (gather p (λ x. x) n)) ∙ ih ∙ sym (append-nil (gather both (λ x. x) n))
+
+-- what is found, size by size, is the list of probes
+pub sized-probes : (accs : List ℕ) (e : ℕ) → joined (ofSize (ascending accs e)) (suc e) ≡ probes accs e
+unfolding probes probesOf ascending
+sized-probes accs e = joined-same (ofSize (ascending accs e)) (probesOf accs e) (suc e) (λ j l. ofSize-select (isProbe accs) j (2 ^ e))
+
+-- a set stands in the list of its own size alone
+module _ (x : ℕ) (l : List ℕ) where
+  own-yes : (n : ℕ) → size x ≡ n → length (ofSize (x ∷ l) n) ≡ length (ofSize l n) + 1
+  unfolding ofSize
+  own-yes n e = rw (eq-eqb (size x) n e) (omega arith)
+
+  own-no : (n : ℕ) → size x ≢ n → length (ofSize (x ∷ l) n) ≡ length (ofSize l n)
+  unfolding ofSize
+  own-no n e = rw (ne-eqb (size x) n e)
+
+  below : (n : ℕ) → n ≤ size x → length (joined (ofSize (x ∷ l)) n) ≡ length (joined (ofSize l) n)
+  below zero h = unfold joined in refl
+  below (suc n) h = omega (arith, below n (omega arith), joined-more (ofSize (x ∷ l)) n, joined-more (ofSize l) n, own-no n (omega arith))
+
+  above : (n : ℕ) → size x < n → length (joined (ofSize (x ∷ l)) n) ≡ length (joined (ofSize l) n) + 1
+  above zero h = absurd (omega arith)
+  above (suc n) h = go (eq-or-lt-of-le h) (above n)
+    where
+      go : (suc (size x) ≡ suc n) ⊎ (suc (size x) < suc n) → (size x < n → length (joined (ofSize (x ∷ l)) n) ≡ length (joined (ofSize l) n) + 1)
+          → length (joined (ofSize (x ∷ l)) (suc n)) ≡ length (joined (ofSize l) (suc n)) + 1
+      go (inl e) ih = omega (arith, below n (omega arith), joined-more (ofSize (x ∷ l)) n, joined-more (ofSize l) n, own-yes n (omega arith))
+      go (inr k) ih = omega (arith, ih (omega arith), joined-more (ofSize (x ∷ l)) n, joined-more (ofSize l) n, own-no n (omega arith))
+
+sized-none : (n : ℕ) → length (joined (ofSize []) n) ≡ 0
+unfolding joined ofSize
+sized-none zero = refl
+sized-none (suc n) = length-append (joined (ofSize []) n) [] ∙ omega (arith, sized-none n)
+
+-- the sets of the sizes below n are no more than all
+pub sized-short : (l : List ℕ) (n : ℕ) → length (joined (ofSize l) n) ≤ length l
+sized-short [] n = omega (arith, sized-none n)
+sized-short (x ∷ l) n = go (lt-or-ge (size x) n) (sized-short l n)
+  where
+    go : (size x < n) ⊎ (n ≤ size x) → length (joined (ofSize l) n) ≤ length l → length (joined (ofSize (x ∷ l)) n) ≤ suc (length l)
+    go (inl h) ih = omega (arith, above x l n h)
+    go (inr h) ih = omega (arith, below x l n h)
+
+-- where every set has fewer than n events, they are all
+sized-all : (l : List ℕ) (n : ℕ) → ((x : ℕ) → x < length l → size (getD l x 0) < n) → length l ≤ length (joined (ofSize l) n)
+sized-all [] n h = omega arith
+sized-all (x ∷ l) n h = omega (arith, above x l n (h 0 (omega arith)), sized-all l n (λ y k. h (suc y) (omega arith)))
+
+-- there are as many probes as are found
+pub found-count : (accs : List ℕ) (e : ℕ) → length (ascending accs e) ≡ length (probes accs e)
+unfolding ascending select
+found-count accs e =
+    let p : length (ascending accs e) ≤ length (joined (ofSize (ascending accs e)) (suc e)) = sized-all (ascending accs e) (suc e) small in
+    omega (arith, p, sized-short (ascending accs e) (suc e), ap length (sized-probes accs e))
+  where
+    small : (x : ℕ) → x < length (ascending accs e) → size (getD (ascending accs e) x 0) < suc e
+    small x l = let w = gather-from (isProbe accs) (λ y. y) (2 ^ e) x l in rw (w .4) (omega (arith, size-few e (w .0) (w .1)))

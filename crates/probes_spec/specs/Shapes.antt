@@ -1,5 +1,5 @@
--- Nothing to believe: the shapes of loops. The code's test of one set in a single pass, when it succeeds, and the
--- candidates that its loops look at, which are all sets; laws join them to Probes.
+-- Nothing to believe: the shapes of loops. The code's test of one set in a single pass, when it succeeds; the probes as
+-- they are found, by their number; and those of a size among them. Laws join them to Probes.
 use mathlib.Core.Path.{_≡_}
 use mathlib.Core.Bool.{Bool, false, cond}
 use mathlib.Core.List.{List, [], _∷_}
@@ -7,6 +7,8 @@ use Prim.Native.Nat.{ℕ, zero, suc, _-_, _^_, _<_}
 use lib.Dec.{eqb}
 use lib.Bits.{bitAnd, bitOr}
 use lib.ListN.{length, getD}
+use Rattle.base.specs.Gather.{select}
+use Rattle.events.specs.Size.{size}
 use Rattle.probes_spec.specs.Probes.{isProbe}
 
 -- event i is the only one that X has in common with some acceptance
@@ -23,17 +25,14 @@ unfoldable pub onePass : List ℕ → ℕ → ℕ → Bool
 onePass [] x own = eqb own x
 onePass (a ∷ accs) x own = cond (eqb (bitAnd a x) 0) false (onePass accs x (bitOr own (lone (bitAnd a x))))
 
--- how many candidates there are, of e events: one for each set of them
-unfoldable pub candidateCount : ℕ → ℕ
-candidateCount e = 2 ^ e
+-- the probes by their number alone, as they are found
+unfoldable pub ascending : List ℕ → ℕ → List ℕ
+ascending accs e = select (isProbe accs) (2 ^ e)
 
--- candidate number n: the set that is looked at
-unfoldable pub candidate : ℕ → ℕ → ℕ
-candidate e n = n
-
--- whether candidate number n is listed: whether it is a probe
-unfoldable pub listed : List ℕ → ℕ → ℕ → Bool
-listed accs e n = isProbe accs (candidate e n)
+-- the sets of a list that have j events, in their order
+unfoldable pub ofSize : List ℕ → ℕ → List ℕ
+ofSize [] j = []
+ofSize (x ∷ l) j = cond (eqb (size x) j) (x ∷ ofSize l j) (ofSize l j)
 
 -- the first number from x on that passes the test, if it is among the next k, else the number after these
 unfoldable pub nextIn : (ℕ → Bool) → ℕ → ℕ → ℕ
