@@ -1,23 +1,57 @@
--- The four ways out of `list`, each joined to the definition; and what it knows of a node when the sheet is not
--- refused.
+-- The probes as they are found, and the list that is written from them; the four ways out of `list`, each joined to the
+-- definition; and what it knows of a node when the sheet is not refused.
 use mathlib.Core.Path.{_≡_, sym, ap, _∙_}
-use mathlib.Core.Logic.{_≢_}
+use mathlib.Core.Logic.{_⊎_, inl, inr, _≢_}
 use mathlib.Core.List.{List}
-use Prim.Native.Nat.{ℕ, _≤_, _<_}
+use Prim.Native.Nat.{ℕ, suc, _^_, _≤_, _<_}
 use native.Mathlib.Omega.{arith}
 use lib.ListN.{length, take}
-use Rattle.base.specs.Front.{atFront}
+use lib.Seq.{length-take-le}
+use lib.Pow.{pow-mono}
+use Rattle.base.specs.Truth.{lt-or-ge}
+use Rattle.base.specs.Front.{atFront, atFront-taken}
+use Rattle.base.specs.Joined.{joined}
 use Rattle.sheet_spec.specs.declared.Sheet.{Sheet}
 use Rattle.sheet_spec.specs.Kept.{row}
-use Rattle.sheet_spec.specs.Form.{SheetForm}
+use Rattle.sheet_spec.specs.Form.{RowForm, SheetForm}
 use Rattle.sheet_spec.specs.RowLaws.{acceptances-take}
 use Rattle.sheet_spec.specs.Refusals.{sheetFault}
 use Rattle.sheet_spec.specs.SoundLaws.{check-sound}
 use Rattle.probes_spec.specs.declared.Listed.{Listed}
 use Rattle.probes_spec.specs.declared.Listed.the-variants.{Count, Denied}
 use Rattle.probes_spec.specs.Probes.{probes}
+use Rattle.probes_spec.specs.ProbeLaws.{probes-few}
+use Rattle.probes_spec.specs.Shapes.{ascending, ofSize}
+use Rattle.probes_spec.specs.ShapeLaws.{sized-probes, found-count}
 use Rattle.probes_spec.specs.Listing.{nodeProbes, listFault, listCount, listedNumbers, listedOf, listAfter}
-use Rattle.probes_spec.specs.ListingLaws.{list-sheet, list-9, list-10, list-0, listed-denied, after-denied, listed-count, after-front, listed-numbers, node-few}
+use Rattle.probes_spec.specs.ListingLaws.{list-sheet, list-9, list-10, list-0, listed-denied, after-denied, listed-count, after-front, listed-numbers}
+
+-- ---- the probes of some acceptances
+
+module _ (accs : List ℕ) (e : ℕ) (h : e ≤ 12) where
+  -- they are at most 4,096
+  pub probes-most : length (probes accs e) ≤ 4096
+  probes-most = let k : 2 ^ e ≤ 2 ^ 12 = pow-mono h in omega (arith, probes-few accs e)
+
+  pub found-most : length (ascending accs e) ≤ 4096
+  found-most = omega (arith, probes-most, found-count accs e)
+
+module _ (accs : List ℕ) (e : ℕ) where
+  -- the front of a list to which they were written, as many places as they are
+  pub found-front : (out : List ℕ) {found : List ℕ} {m : ℕ} → found ≡ atFront out (ascending accs e) → m ≡ length (ascending accs e) → take m found ≡ ascending accs e
+  found-front out p q = rw p (atFront-taken out (ascending accs e) (sym q))
+
+  pub list-front : (out : List ℕ) {list : List ℕ} {m : ℕ} → list ≡ atFront out (probes accs e) → m ≡ length (probes accs e) → take m list ≡ probes accs e
+  list-front out p q = rw p (atFront-taken out (probes accs e) (sym q))
+
+  -- what is found, written size by size, is the list of probes
+  pub found-listed : (out found : List ℕ) {after : List ℕ} → found ≡ ascending accs e → after ≡ atFront out (joined (ofSize found) (suc e)) → after ≡ atFront out (probes accs e)
+  found-listed out found p q = q ∙ (rw (p, sized-probes accs e))
+
+  pub found-length : {m : ℕ} → m ≡ length (ascending accs e) → m ≡ length (probes accs e)
+  found-length q = q ∙ found-count accs e
+
+-- ---- the ways out of `list`
 
 module _ (s : Sheet) (v : ℕ) (out : List ℕ) where
   -- what the call promises of its answer and of the list after it
@@ -41,30 +75,47 @@ module _ (s : Sheet) (v : ℕ) (out : List ℕ) where
   told-9 h l = denied 9 (list-9 s v out .1 (h, l)) (omega arith)
 
   -- the way out with 10: the list is shorter than the probes
-  pub told-10 : sheetFault s ≡ 0 → v < s .n → length out < length (nodeProbes s v) → Told (Denied 10) out
+  told-10 : sheetFault s ≡ 0 → v < s .n → length out < length (nodeProbes s v) → Told (Denied 10) out
   told-10 h l b = denied 10 (list-10 s v out .1 (h, l, b)) (omega arith)
 
   -- the way out with all probes
-  pub told-all : sheetFault s ≡ 0 → v < s .n → length (nodeProbes s v) ≤ length out
+  told-all : sheetFault s ≡ 0 → v < s .n → length (nodeProbes s v) ≤ length out
       → (m : ℕ) (after : List ℕ) → m ≡ length (nodeProbes s v) → after ≡ atFront out (nodeProbes s v) → Told (Count m) after
   told-all h l b m after p q =
       let z : listFault s v out ≡ 0 = list-0 s v out .1 (h, l, b) in
       told (Count m) after (ap Count p ∙ sym (listed-count s v out z)) (q ∙ sym (after-front s v out z))
 
--- a node, its number and its counts as the code widens them: they are in range, and its probes are those of its row's
--- sets
-module _ (s : Sheet) (h : sheetFault s ≡ 0) (v w e c : ℕ) (l : v < s .n) (p : w ≡ v) (q : e ≡ s .e) (r : c ≡ row s w .c) (f : SheetForm s) where
-  pub node-ranges : (c ≤ 16) × (e ≤ 12)
-  node-ranges = let a : row s v .c ≤ 16 = check-sound s h .counts v l .1 in (rw (r, p) a, rw q (check-sound s h .ranges .e-high))
+  -- the ways out after these: 10 or all probes, whichever holds of the list
+  pub told-listed : sheetFault s ≡ 0 → v < s .n → (ps : List ℕ) → ps ≡ nodeProbes s v → (r : Listed) (after : List ℕ)
+      → ((length out < length ps → (r ≡ Denied 10) × (after ≡ out)) × (length ps ≤ length out → (r ≡ Count (length ps)) × (after ≡ atFront out ps))) → Told r after
+  told-listed h l ps e r after w = go (lt-or-ge (length out) (length ps))
+    where
+      go : (length out < length ps) ⊎ (length ps ≤ length out) → Told r after
+      go (inl k) = let u = w .0 k in rw (u .0, u .1) (told-10 h l (rw (← e) k))
+      go (inr k) = let u = w .1 k in rw (u .0) (told-all h l (rw (← e) k) (length ps) after (ap length e) (rw (← e) (u .1)))
 
-  pub node-list : probes (take c (row s w .sets)) e ≡ nodeProbes s v
+-- a node and its counts as the code widens them: they are in range, and its probes are those of its row's first sets
+module _ (s : Sheet) (h : sheetFault s ≡ 0) (v w c : ℕ) (l : v < s .n) (p : w ≡ v) (r : c ≡ row s w .c) (f : SheetForm s) where
+  node-form : RowForm (row s w)
+  node-form = rw p (f .each v (omega (arith, check-sound s h .ranges .n-high)))
+
+  node-count : c ≤ 16
+  node-count = let a : row s v .c ≤ 16 = check-sound s h .counts v l .1 in rw (r, p) a
+
+  pub node-room : c ≤ length (row s w .sets)
+  node-room = omega (arith, node-form .sets, node-count)
+
+  pub node-taken : c ≡ length (take c (row s w .sets))
+  node-taken = sym (length-take-le c (row s w .sets) node-room)
+
+  pub node-sets : (e : ℕ) → e ≡ s .e → probes (take c (row s w .sets)) e ≡ nodeProbes s v
   unfolding nodeProbes
-  node-list =
+  node-sets e q =
       let a = check-sound s h in
       rw (r, p, q, acceptances-take (row s v) (f .each v (omega (arith, a .ranges .n-high))) (a .counts v l .1))
 
-  pub node-small : length (probes (take c (row s w .sets)) e) ≤ 4096
-  node-small = rw node-list (node-few s h v l)
+pub node-events : (s : Sheet) → sheetFault s ≡ 0 → s .e ≤ 12
+node-events s h = check-sound s h .ranges .e-high
 
 pub node-place : (s : Sheet) → sheetFault s ≡ 0 → (v : ℕ) → v < s .n → v < 32
 node-place s h v l = omega (arith, check-sound s h .ranges .n-high)

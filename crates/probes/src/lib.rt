@@ -1,15 +1,18 @@
-// The probes of a node (01, "Probes"): its minimal hitting sets, listed, and looked through for the first that a
-// device's acceptances miss. `list` takes any sheet, node and list; the others take a row's sets with C up to 16 and E
-// up to 12.
+// The probes of a node (01, "Probes"): its minimal hitting sets, listed, those with fewer events first (02, K3), and
+// looked through for the first that a device's acceptances miss. `list` takes any sheet, node and list; the others take
+// any acceptances, and E up to 12.
 mod candidates;
+mod sizes;
 
 ghost use mathlib.Core.Path.{_≡_};
 ghost use mathlib.Core.Logic.{_↔_};
-ghost use Prim.Native.Nat.{_≤_};
-ghost use lib.ListN.{length, take};
+ghost use Prim.Native.Nat.{_≤_, _<_};
+ghost use lib.ListN.{length};
 ghost use Rattle.base.specs.Front.{atFront};
+ghost use Rattle.probes_spec.specs.declared.Listed.the-variants.{Count, Denied};
 ghost use Rattle.probes_spec.specs.Probes.{probes};
-ghost use Rattle.probes_spec.specs.FirstMissed.{firstMissed, missedNumbers, NoneMissed};
+ghost use Rattle.probes_spec.specs.Shapes.{ascending};
+ghost use Rattle.probes_spec.specs.FirstMissed.{firstMissing, firstMissed, missedNumbers, NoneMissed};
 ghost use Rattle.probes_spec.specs.Listing.{listFault, listCount, listedNumbers, listedOf, listAfter};
 use probes_spec::Listed;
 use probes_spec::Missed;
@@ -17,33 +20,52 @@ use sheet_spec::Sheet;
 
 // ---- all probes
 
-// Writes the probes to the front of a list that is long enough, and answers how many they are.
-pub fn fill(sets: [u16; 16], c: usize, e: usize, out: &mut [u16]) -> usize
-    requires { ⌜ (c ≤ 16) × (e ≤ 12) × (length (probes (take c sets) e) ≤ length (now out)) ⌝ }
-    ensures { λ r. ⌜ (now (out .exit) ≡ atFront (now (out .entry)) (probes (take c sets) e))
-        × (r ≡ length (probes (take c sets) e)) ⌝ }
+// Writes the probes by their number to the front of a list that is long enough, and answers how many they are.
+fn find(sets: &[u16], e: usize, out: &mut [u16]) -> usize
+    requires { ⌜ (e ≤ 12) × (length (ascending (now sets) e) ≤ length (now out)) ⌝ }
+    ensures { λ r. ⌜ (now (out .exit) ≡ atFront (now (out .entry)) (ascending (now (sets .entry)) e))
+        × (r ≡ length (ascending (now (sets .entry)) e)) ⌝ }
 {
-    let last = candidates::candidate_count(e);
+    let end = candidates::set_count(e);
     let mut at: usize = 0;
-    let mut x = candidates::next_listed(sets, c, e, 0);
-    while x < last {
-        out[at] = candidates::candidate(e, x);
+    let mut x = candidates::next_probe(sets, e, 0);
+    while x < end {
+        out[at] = x;
         at += 1;
-        x = candidates::next_listed(sets, c, e, x + 1);
+        x = candidates::next_probe(sets, e, x + 1);
     }
     at
 }
 
-// Copies the first `m` sets of a list to the front of another.
-fn copy(found: &[u16], m: usize, out: &mut [u16])
-    requires { ⌜ (m ≤ 4096) × (m ≤ length (now found)) × (m ≤ length (now out)) ⌝ }
-    ensures { λ r. ⌜ now (out .exit) ≡ atFront (now (out .entry)) (take m (now (found .entry))) ⌝ }
+// Writes the probes to the front of a list that is long enough, and answers how many they are.
+pub fn fill(sets: &[u16], e: usize, out: &mut [u16]) -> usize
+    requires { ⌜ (e ≤ 12) × (length (probes (now sets) e) ≤ length (now out)) ⌝ }
+    ensures { λ r. ⌜ (now (out .exit) ≡ atFront (now (out .entry)) (probes (now (sets .entry)) e))
+        × (r ≡ length (probes (now (sets .entry)) e)) ⌝ }
 {
-    let mut i: usize = 0;
-    while i < m {
-        out[i] = found[i];
-        i += 1;
+    let mut found = [0u16; 4096];
+    let m = find(sets, e, &mut found);
+    sizes::put_by_size(&found[..m], e, out);
+    m
+}
+
+// Writes the probes to the front of the lent list and answers how many there are; or 10, a list shorter than the probes,
+// and the list is as it was.
+fn list_sets(sets: &[u16], e: usize, out: &mut [u16]) -> Listed
+    requires { ⌜ e ≤ 12 ⌝ }
+    ensures { λ r. ⌜ ((length (now (out .entry)) < length (probes (now (sets .entry)) e))
+            → (r ≡ Denied 10) × (now (out .exit) ≡ now (out .entry)))
+        × ((length (probes (now (sets .entry)) e) ≤ length (now (out .entry)))
+            → (r ≡ Count (length (probes (now (sets .entry)) e)))
+            × (now (out .exit) ≡ atFront (now (out .entry)) (probes (now (sets .entry)) e))) ⌝ }
+{
+    let mut found = [0u16; 4096];
+    let m = find(sets, e, &mut found);
+    if out.len() < m {
+        return Listed::Denied(10);
     }
+    sizes::put_by_size(&found[..m], e, out);
+    Listed::Count(m as u16)
 }
 
 // Writes the probes of a node to the front of the lent list and answers how many there are; or the number of the
@@ -61,37 +83,23 @@ pub fn list(sheet: Sheet, node: u8, out: &mut [u16]) -> Listed
     if node >= sheet.n {
         return Listed::Denied(9);
     }
-    let e = base::wide(sheet.e);
-    let v = base::wide(node);
-    let row = sheet.rows[v];
-    let c = base::wide(row.c);
+    let row = sheet.rows[base::wide(node)];
     let sets = row.sets;
-    let mut found = [0u16; 4096];
-    let m = fill(sets, c, e, &mut found);
-    if out.len() < m {
-        return Listed::Denied(10);
-    }
-    copy(&found, m, out);
-    Listed::Count(m as u16)
+    list_sets(&sets[..base::wide(row.c)], base::wide(sheet.e), out)
 }
 
 // ---- a comparison
 
-// The first probe of the reference that some device acceptance misses, with the first such acceptance.
-pub fn first_missed(sets: [u16; 16], c: usize, e: usize, device: [u16; 16], d: usize) -> Missed
-    requires { ⌜ (c ≤ 16) × (e ≤ 12) × (d ≤ 16) ⌝ }
-    ensures { λ r. ⌜ (r ≡ firstMissed (take c sets) e (take d device))
-        × ((missedNumbers r .found ≡ 0) ↔ NoneMissed (probes (take c sets) e) (take d device)) ⌝ }
+// The first set of a list that some acceptance misses, with the first such acceptance.
+fn first_missing(list: &[u16], device: &[u16]) -> Missed
+    ensures { λ r. ⌜ r ≡ firstMissing (now (list .entry)) (now (device .entry)) ⌝ }
 {
-    let end = candidates::candidate_count(e);
     let mut probe: u16 = 0;
     let mut acceptance: u16 = 0;
     let mut missed = false;
-    let mut x = candidates::next_listed(sets, c, e, 0);
-    'probes: while x < end {
-        let p = candidates::candidate(e, x);
-        let mut k: usize = 0;
-        while k < d {
+    'probes: for x in 0..list.len() {
+        let p = list[x];
+        for k in 0..device.len() {
             let a = device[k];
             if p & a == 0 {
                 probe = p;
@@ -99,13 +107,22 @@ pub fn first_missed(sets: [u16; 16], c: usize, e: usize, device: [u16; 16], d: u
                 missed = true;
                 break 'probes;
             }
-            k += 1;
         }
-        x = candidates::next_listed(sets, c, e, x + 1);
     }
     if missed {
         Missed::Found(probe, acceptance)
     } else {
         Missed::Nothing
     }
+}
+
+// The first probe of the reference that some device acceptance misses, with the first such acceptance.
+pub fn first_missed(sets: &[u16], e: usize, device: &[u16]) -> Missed
+    requires { ⌜ e ≤ 12 ⌝ }
+    ensures { λ r. ⌜ (r ≡ firstMissed (now (sets .entry)) e (now (device .entry)))
+        × ((missedNumbers r .found ≡ 0) ↔ NoneMissed (probes (now (sets .entry)) e) (now (device .entry))) ⌝ }
+{
+    let mut list = [0u16; 4096];
+    let m = fill(sets, e, &mut list);
+    first_missing(&list[..m], device)
 }

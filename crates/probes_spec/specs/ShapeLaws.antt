@@ -144,7 +144,7 @@ onePass-isProbe accs x = same (onePass accs x 0) (isProbe accs x) (λ t. isProbe
 
 -- ---- the probes of each size
 
-ofSize-append : (l m : List ℕ) (j : ℕ) → ofSize (l ++ m) j ≡ ofSize l j ++ ofSize m j
+pub ofSize-append : (l m : List ℕ) (j : ℕ) → ofSize (l ++ m) j ≡ ofSize l j ++ ofSize m j
 unfolding ofSize
 ofSize-append [] m j = refl
 ofSize-append (x ∷ l) m j = go (eqb (size x) j) (ofSize-append l m j)

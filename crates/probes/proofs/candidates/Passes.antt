@@ -5,34 +5,31 @@ use mathlib.Core.Bool.{false}
 use mathlib.Core.List.{List, [], _∷_}
 use Prim.Native.Nat.{ℕ, _+_, _≤_, _<_}
 use native.Mathlib.Numerals.{add-one}
-use native.Mathlib.Omega.{arith}
 use lib.Dec.{eqb}
 use lib.Bits.{bitAnd, bitOr}
-use lib.ListN.{length, take, drop, getD, length-take, drop-of-length-le}
-use lib.Seq.{drop-cons, getD-take}
+use lib.ListN.{length, drop, getD, drop-of-length-le}
+use lib.Seq.{drop-cons}
 use borrow.Author.Tests.{eq-eqb, ne-eqb}
 use Rattle.probes_spec.specs.Shapes.{lone, onePass}
 
--- what is left of the first c elements at place k
-pub left-some : (c : ℕ) (l : List ℕ) (k : ℕ) → k < c → k < length l → drop k (take c l) ≡ getD l k 0 ∷ drop (k + 1) (take c l)
-left-some c l k h g =
-    let n : k < length (take c l) = simp length-take (omega arith) in
-    drop-cons (take c l) k 0 n ∙ rw (getD-take c l k 0 h, add-one k)
+-- what is left of a list at place k
+pub left-some : (l : List ℕ) (k : ℕ) → k < length l → drop k l ≡ getD l k 0 ∷ drop (k + 1) l
+left-some l k h = drop-cons l k 0 h ∙ rw (add-one k)
 
-pub left-none : (c : ℕ) (l : List ℕ) (k : ℕ) → c ≤ k → drop k (take c l) ≡ []
-left-none c l k h = let n : length (take c l) ≤ k = simp length-take (omega arith) in drop-of-length-le (take c l) n
+pub left-none : (l : List ℕ) (k : ℕ) → length l ≤ k → drop k l ≡ []
+left-none l k h = drop-of-length-le l h
 
-module _ (c : ℕ) (sets : List ℕ) (k x own : ℕ) where
+module _ (sets : List ℕ) (k x own : ℕ) where
   -- an acceptance that x does not meet ends the pass
-  pub pass-stop : k < c → k < length sets → bitAnd (getD sets k 0) x ≡ 0 → onePass (drop k (take c sets)) x own ≡ false
+  pub pass-stop : k < length sets → bitAnd (getD sets k 0) x ≡ 0 → onePass (drop k sets) x own ≡ false
   unfolding onePass
-  pass-stop h g z = rw (left-some c sets k h g, eq-eqb (bitAnd (getD sets k 0) x) 0 z)
+  pass-stop h z = rw (left-some sets k h, eq-eqb (bitAnd (getD sets k 0) x) 0 z)
 
-  pub pass-more : k < c → k < length sets → bitAnd (getD sets k 0) x ≢ 0
-      → onePass (drop k (take c sets)) x own ≡ onePass (drop (k + 1) (take c sets)) x (bitOr own (lone (bitAnd (getD sets k 0) x)))
+  pub pass-more : k < length sets → bitAnd (getD sets k 0) x ≢ 0
+      → onePass (drop k sets) x own ≡ onePass (drop (k + 1) sets) x (bitOr own (lone (bitAnd (getD sets k 0) x)))
   unfolding onePass
-  pass-more h g z = rw (left-some c sets k h g, ne-eqb (bitAnd (getD sets k 0) x) 0 z)
+  pass-more h z = rw (left-some sets k h, ne-eqb (bitAnd (getD sets k 0) x) 0 z)
 
-  pub pass-end : c ≤ k → onePass (drop k (take c sets)) x own ≡ eqb own x
+  pub pass-end : length sets ≤ k → onePass (drop k sets) x own ≡ eqb own x
   unfolding onePass
-  pass-end h = rw (left-none c sets k h)
+  pass-end h = rw (left-none sets k h)
