@@ -41,7 +41,7 @@ fn name(reference: Row, device: Row, e: usize, d: u16, cleared: u16) -> Outcome
     let k = base::wide(device.c);
     let sets = reference.sets;
     let others = device.sets;
-    match probes::first_missed(sets, c, e, others, k) {
+    match probes::first_missed(&sets[..c], e, &others[..k]) {
         Missed::Nothing => Outcome::Refusal(d, cleared, 0, 0),
         Missed::Found(probe, acceptance) => Outcome::Refusal(d, cleared, probe, acceptance),
     }

@@ -3,24 +3,22 @@
 use mathlib.Core.Path.{_≡_, sym, ap, _∙_}
 use mathlib.Core.Logic.{_⊎_, inl, inr, _≢_}
 use mathlib.Core.List.{List}
-use Prim.Native.Nat.{ℕ, suc, _^_, _≤_, _<_}
+use Prim.Native.Nat.{ℕ, suc, _≤_, _<_}
 use native.Mathlib.Omega.{arith}
 use lib.ListN.{length, take}
-use lib.Seq.{length-take-le}
-use lib.Pow.{pow-mono}
 use Rattle.base.specs.Truth.{lt-or-ge}
 use Rattle.base.specs.Front.{atFront, atFront-taken}
 use Rattle.base.specs.Joined.{joined}
 use Rattle.sheet_spec.specs.declared.Sheet.{Sheet}
 use Rattle.sheet_spec.specs.Kept.{row}
 use Rattle.sheet_spec.specs.Form.{RowForm, SheetForm}
-use Rattle.sheet_spec.specs.RowLaws.{acceptances-take}
+use Rattle.sheet_spec.specs.RowLaws.{acceptances-take, sets-room, sets-taken}
 use Rattle.sheet_spec.specs.Refusals.{sheetFault}
 use Rattle.sheet_spec.specs.SoundLaws.{check-sound}
 use Rattle.probes_spec.specs.declared.Listed.{Listed}
 use Rattle.probes_spec.specs.declared.Listed.the-variants.{Count, Denied}
 use Rattle.probes_spec.specs.Probes.{probes}
-use Rattle.probes_spec.specs.ProbeLaws.{probes-few}
+use Rattle.probes_spec.specs.ProbeLaws.{probes-most}
 use Rattle.probes_spec.specs.Shapes.{ascending, ofSize}
 use Rattle.probes_spec.specs.ShapeLaws.{sized-probes, found-count}
 use Rattle.probes_spec.specs.Listing.{nodeProbes, listFault, listCount, listedNumbers, listedOf, listAfter}
@@ -28,15 +26,11 @@ use Rattle.probes_spec.specs.ListingLaws.{list-sheet, list-9, list-10, list-0, 
 
 -- ---- the probes of some acceptances
 
-module _ (accs : List ℕ) (e : ℕ) (h : e ≤ 12) where
-  -- they are at most 4,096
-  pub probes-most : length (probes accs e) ≤ 4096
-  probes-most = let k : 2 ^ e ≤ 2 ^ 12 = pow-mono h in omega (arith, probes-few accs e)
-
-  pub found-most : length (ascending accs e) ≤ 4096
-  found-most = omega (arith, probes-most, found-count accs e)
-
 module _ (accs : List ℕ) (e : ℕ) where
+  -- at most 4,096 are found
+  pub found-most : e ≤ 12 → length (ascending accs e) ≤ 4096
+  found-most h = omega (arith, probes-most accs e h, found-count accs e)
+
   -- the front of a list to which they were written, as many places as they are
   pub found-front : (out : List ℕ) {found : List ℕ} {m : ℕ} → found ≡ atFront out (ascending accs e) → m ≡ length (ascending accs e) → take m found ≡ ascending accs e
   found-front out p q = rw p (atFront-taken out (ascending accs e) (sym q))
@@ -99,20 +93,18 @@ module _ (s : Sheet) (h : sheetFault s ≡ 0) (v w c : ℕ) (l : v < s .n) (p : 
   node-form : RowForm (row s w)
   node-form = rw p (f .each v (omega (arith, check-sound s h .ranges .n-high)))
 
-  node-count : c ≤ 16
-  node-count = let a : row s v .c ≤ 16 = check-sound s h .counts v l .1 in rw (r, p) a
+  node-count : row s w .c ≤ 16
+  node-count = rw p (check-sound s h .counts v l .1)
 
   pub node-room : c ≤ length (row s w .sets)
-  node-room = omega (arith, node-form .sets, node-count)
+  node-room = sets-room (row s w) node-form c r node-count
 
   pub node-taken : c ≡ length (take c (row s w .sets))
-  node-taken = sym (length-take-le c (row s w .sets) node-room)
+  node-taken = sets-taken (row s w) node-form c r node-count
 
   pub node-sets : (e : ℕ) → e ≡ s .e → probes (take c (row s w .sets)) e ≡ nodeProbes s v
   unfolding nodeProbes
-  node-sets e q =
-      let a = check-sound s h in
-      rw (r, p, q, acceptances-take (row s v) (f .each v (omega (arith, a .ranges .n-high))) (a .counts v l .1))
+  node-sets e q = rw (r, q, ← acceptances-take (row s w) node-form node-count, p)
 
 pub node-events : (s : Sheet) → sheetFault s ≡ 0 → s .e ≤ 12
 node-events s h = check-sound s h .ranges .e-high

@@ -54,10 +54,10 @@ pub fn fill(sets: &[u16], e: usize, out: &mut [u16]) -> usize
 fn list_sets(sets: &[u16], e: usize, out: &mut [u16]) -> Listed
     requires { ⌜ e ≤ 12 ⌝ }
     ensures { λ r. ⌜ ((length (now (out .entry)) < length (probes (now (sets .entry)) e))
-            → (r ≡ Denied 10) × (now (out .exit) ≡ now (out .entry)))
+        → (r ≡ Denied 10) × (now (out .exit) ≡ now (out .entry)))
         × ((length (probes (now (sets .entry)) e) ≤ length (now (out .entry)))
-            → (r ≡ Count (length (probes (now (sets .entry)) e)))
-            × (now (out .exit) ≡ atFront (now (out .entry)) (probes (now (sets .entry)) e))) ⌝ }
+        → (r ≡ Count (length (probes (now (sets .entry)) e)))
+        × (now (out .exit) ≡ atFront (now (out .entry)) (probes (now (sets .entry)) e))) ⌝ }
 {
     let mut found = [0u16; 4096];
     let m = find(sets, e, &mut found);

@@ -4,11 +4,10 @@ use mathlib.Core.Path.{_≡_, refl, sym, _∙_}
 use mathlib.Core.Logic.{_⊎_, inl, inr, _↔_, _≢_}
 use mathlib.Core.Bool.{Bool, true, false, cond}
 use mathlib.Core.List.{List}
-use Prim.Native.Nat.{ℕ, _^_, _≤_, _<_}
+use Prim.Native.Nat.{ℕ, _≤_, _<_}
 use native.Mathlib.Omega.{arith}
 use lib.Dec.{eqb, ltb, leb}
 use lib.ListN.{length, getD}
-use lib.Pow.{pow-mono}
 use borrow.Author.Tests.{eqb-true, eqb-false, eq-eqb, ne-eqb}
 use Rattle.base.specs.Truth.{dec, clash, lt-or-ge}
 use Rattle.base.specs.Finds.{finds-lt, finds-le}
@@ -24,7 +23,7 @@ use Rattle.sheet_spec.specs.Sound.{Sound}
 use Rattle.sheet_spec.specs.SoundLaws.{check-sound}
 use Rattle.probes_spec.specs.declared.Listed.the-variants.{Count, Denied}
 use Rattle.probes_spec.specs.Probes.{probes, Probe, Before, ProbeList, Narrow}
-use Rattle.probes_spec.specs.ProbeLaws.{probe-at, probe-listed, probes-few, probes-none, probes-some, probes-ordered, probes-only}
+use Rattle.probes_spec.specs.ProbeLaws.{probe-at, probe-listed, probes-most, probes-none, probes-some, probes-ordered, probes-only}
 use Rattle.probes_spec.specs.Listing.{nodeProbes, listFault, listCount, listedNumbers, listedOf, listAfter}
 
 -- the numbers of each case of an answer, for crates that may not unfold them
@@ -184,7 +183,7 @@ module _ (s : Sheet) (h : sheetFault s ≡ 0) (v : ℕ) (l : v < s .n) where
   -- a node has at most 4,096 probes
   pub node-few : length (nodeProbes s v) ≤ 4096
   unfolding nodeProbes
-  node-few = let k : 2 ^ (s .e) ≤ 2 ^ 12 = pow-mono (sound .ranges .e-high) in omega (arith, probes-few (acceptances (row s v)) (s .e))
+  node-few = probes-most (acceptances (row s v)) (s .e) (sound .ranges .e-high)
 
   -- a node has no probe exactly if it may stop
   pub node-stop : (length (nodeProbes s v) ≡ 0) ↔ (mayStop (row s v) ≡ true)

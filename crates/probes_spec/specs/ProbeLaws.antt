@@ -98,8 +98,7 @@ probe-listed accs e n X p =
     let t : ofJ accs (size X) X ≡ true = and-i (eq-eqb (size X) (size X) refl) (isProbe← accs X p) in
     let k : size X < suc e = omega (arith, size-few e X l) in
     let y = length (gather (ofJ accs (size X)) (λ y. y) X) in
-    let r = gather-room (ofJ accs (size X)) (λ y. y) X (2 ^ e) l t in
-    (
+    let r = gather-room (ofJ accs (size X)) (λ y. y) X (2 ^ e) l t in (
       length (joined (probesOf accs e) (size X)) + y,
       joined-room (probesOf accs e) (suc e) (size X) y k r,
       joined-has (probesOf accs e) (suc e) (size X) y k r ∙ gather-has (ofJ accs (size X)) (λ y. y) X (2 ^ e) l t,
@@ -142,6 +141,10 @@ probes-few accs e = go (lt-or-ge (2 ^ e) (length (probes accs e)))
     go (inl h) =
         let w = pigeonhole (2 ^ e) (λ x. getD (probes accs e) x 0) (λ x l. probe-small accs e x (omega arith)) in
         absurd (probe-once accs e (w .0) (w .1) (w .2) (omega (arith, w .3)) (w .4))
+
+-- of at most 12 events there are at most 4,096
+pub probes-most : (accs : List ℕ) (e : ℕ) → e ≤ 12 → length (probes accs e) ≤ 4096
+probes-most accs e h = let k : 2 ^ e ≤ 2 ^ 12 = pow-mono h in omega (arith, probes-few accs e)
 
 -- the list of probes is the probe list: just the minimal hitting sets, in their order
 pub probes-are : (accs : List ℕ) (e : ℕ) → Narrow accs e → ProbeList accs (probes accs e)
@@ -220,5 +223,4 @@ choice-probe accs e h l = probe-at accs e (h % length (probes accs e)) (mod-lt h
 pub probe-chosen : (accs : List ℕ) (e : ℕ) → e ≤ 12 → Narrow accs e → (X : ℕ) → Probe accs X → (h : ℕ) × (h < 65536) × (getD (probes accs e) (h % length (probes accs e)) 0 ≡ X)
 probe-chosen accs e b n X p =
     let w = probe-listed accs e n X p in
-    let k : 2 ^ e ≤ 2 ^ 12 = pow-mono b in
-    (w .0, omega (arith, w .1, probes-few accs e), ap (λ (x : ℕ). getD (probes accs e) x 0) (mod-eq-of-lt (w .1)) ∙ w .2)
+    (w .0, omega (arith, w .1, probes-most accs e b), ap (λ (x : ℕ). getD (probes accs e) x 0) (mod-eq-of-lt (w .1)) ∙ w .2)

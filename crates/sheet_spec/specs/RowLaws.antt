@@ -46,3 +46,10 @@ pub acceptances-take : (r : Row) → RowForm r → r .c ≤ 16 → acceptances r
 unfolding acceptances acceptance
 acceptances-take r f h = upTo-is (acceptance r) (take (r .c) (r .sets)) (r .c) 0 (length-take-le (r .c) (r .sets) (omega (arith, f .sets)))
     (λ j l. sym (getD-take (r .c) (r .sets) j 0 l))
+
+-- the array has places for the first c = C sets, and they are c
+pub sets-room : (r : Row) → RowForm r → (c : ℕ) → c ≡ r .c → r .c ≤ 16 → c ≤ length (r .sets)
+sets-room r f c e h = omega (arith, f .sets)
+
+pub sets-taken : (r : Row) → RowForm r → (c : ℕ) → c ≡ r .c → r .c ≤ 16 → c ≡ length (take c (r .sets))
+sets-taken r f c e h = sym (length-take-le c (r .sets) (sets-room r f c e h))

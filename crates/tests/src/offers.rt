@@ -2,7 +2,6 @@
 // and the events outside the node's initials; in a trace-only run all events at every depth.
 ghost use mathlib.Core.Path.{_≡_};
 ghost use Prim.Native.Nat.{_≤_};
-ghost use lib.ListN.{take};
 ghost use Rattle.probes_spec.specs.Probes.{probes};
 ghost use Rattle.tests_spec.specs.Runs.{allEvents, chosen};
 ghost use Rattle.tests.specs.OfferShapes.{offersAll, offerAt};
@@ -18,12 +17,12 @@ fn all_events(e: usize) -> u16
 }
 
 // Probe number (h remainder m) of m probes, the empty set where there is none.
-fn chosen_probe(sets: [u16; 16], c: usize, e: usize, h: u16) -> u16
-    requires { ⌜ (c ≤ 16) × (e ≤ 12) ⌝ }
-    ensures { λ r. ⌜ r ≡ chosen (probes (take c sets) e) h ⌝ }
+fn chosen_probe(sets: &[u16], e: usize, h: u16) -> u16
+    requires { ⌜ e ≤ 12 ⌝ }
+    ensures { λ r. ⌜ r ≡ chosen (probes (now (sets .entry)) e) h ⌝ }
 {
     let mut found = [0u16; 4096];
-    let m = probes::fill(sets, c, e, &mut found);
+    let m = probes::fill(sets, e, &mut found);
     if m == 0 {
         return 0;
     }
@@ -52,6 +51,6 @@ pub(crate) fn offer(row: Row, e: usize, run: Run) -> u16
     }
     let outside = all - initials;
     let sets = row.sets;
-    let probe = chosen_probe(sets, base::wide(row.c), e, run.h);
+    let probe = chosen_probe(&sets[..base::wide(row.c)], e, run.h);
     probe | outside
 }

@@ -4,7 +4,8 @@ use native.Mathlib.Omega.{arith}
 use denote.Ref.{now}
 use lib.ListN.{length, take, replicate}
 use Rattle.probes_spec.specs.Probes.{probes}
-use Rattle.probes.proofs.Lists.{probes-most, list-front}
+use Rattle.probes_spec.specs.ProbeLaws.{probes-most}
+use Rattle.probes.proofs.Lists.{list-front}
 use Rattle.probes.proofs.Misses.{told-missed}
 use Rattle.probes.proofs.first_missed.Statement.{statement}
 use Rattle.probes.proofs.first_missed.Tie as tie

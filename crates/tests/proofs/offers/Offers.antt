@@ -8,7 +8,6 @@ use native.Mathlib.Omega.{arith}
 use native.Mathlib.Nat.{mod-lt}
 use lib.Bits.{bitOr}
 use lib.ListN.{length, getD, take}
-use lib.Pow.{pow-mono}
 use borrow.Author.Tests.{lt-ltb, le-ltb, ne-eqb}
 use mir.Val.{Val}
 use denote.Laws.{Is}
@@ -20,7 +19,6 @@ use Rattle.sheet_spec.specs.RowLaws.{acceptances-take}
 use Rattle.sheet_spec.proofs.Row as R
 use Rattle.sheet_rows.proofs.Shape.{row-form}
 use Rattle.probes_spec.specs.Probes.{probes}
-use Rattle.probes_spec.specs.ProbeLaws.{probes-few}
 use Rattle.tests_spec.specs.declared.Run.{Run}
 use Rattle.tests_spec.specs.Flags.{flag}
 use Rattle.tests_spec.specs.Runs.{allEvents, chosen}
@@ -47,10 +45,6 @@ module _ (e : ℕ) (w : Row) (r : Run) {all : ℕ} {t : Bool} (a : all ≡ allEv
       → y ≡ chosen (probes (take c (w .sets)) e) (r .h) → bitOr y (all - x) ≡ offerAt e w r
   unfolding offerAt
   offer-last {vs} p s h q d u = rw (u, d, a, q, ← b, h, acceptances-take w (row-form w vs p) s)
-
--- a node of at most 12 events has at most 4,096 probes
-pub few : (accs : List ℕ) (e : ℕ) → e ≤ 12 → length (probes accs e) ≤ 4096
-few accs e h = let k : 2 ^ e ≤ 2 ^ 12 = pow-mono h in omega (arith, probes-few accs e)
 
 -- the probe of a choice number
 module _ (ps : List ℕ) (h : ℕ) {m : ℕ} (q : m ≡ length ps) where

@@ -1,9 +1,11 @@
 -- The probes stand at the front of a list that has room for all, and the place is that of the definition.
 use Prim.Native.Nat.{_%_, _<_}
 use native.Mathlib.Omega.{arith}
-use lib.ListN.{take, replicate}
+use denote.Ref.{now}
+use lib.ListN.{replicate}
 use Rattle.probes_spec.specs.Probes.{probes}
-use Rattle.tests.proofs.offers.Offers.{few, chosen-none, chosen-some, chosen-place}
+use Rattle.probes_spec.specs.ProbeLaws.{probes-most}
+use Rattle.tests.proofs.offers.Offers.{chosen-none, chosen-some, chosen-place}
 use Rattle.tests.proofs.offers.chosen_probe.Statement.{statement}
 use Rattle.tests.proofs.offers.chosen_probe.Tie as tie
 
@@ -11,7 +13,7 @@ slice-aggregate-fill : tie.Need-slice-aggregate-fill
 slice-aggregate-fill c = omega arith
 
 fill-requires : tie.Need-fill-requires
-fill-requires c κs = (omega arith, omega arith, few _ (c .before .args .e) (omega arith))
+fill-requires c κs = (omega arith, probes-most _ (c .before .before .args .e) (omega arith))
 
 returns : tie.Need-returns
 returns c = chosen-none _ _ (c .before .before .fill .ensures .1) (c .if1 .taken)
@@ -20,11 +22,10 @@ rem-result : tie.Need-rem-result
 rem-result c = omega arith
 
 -- the place of the chosen probe is in the list
-place : (c : tie.Else1) → c .before .before .before .before .args .h % c .before .before .fill .result < 4096
+place : (c : tie.Else1) → c .before .before .before .before .before .args .h % c .before .before .fill .result < 4096
 place c =
-    let a = c .before .before .before .before .args in
-    let t = take (a .c) (a .sets) in
-    chosen-place (probes t (a .e)) (a .h) (c .before .before .fill .ensures .1) (few t (a .e) (omega arith)) (c .if1 .left)
+    let a = c .before .before .before .before .before .args in
+    chosen-place (probes (now (a .sets)) (a .e)) (a .h) (c .before .before .fill .ensures .1) (probes-most (now (a .sets)) (a .e) (omega arith)) (c .if1 .left)
 
 mul-result : tie.Need-mul-result
 mul-result c = omega (arith, place c)
