@@ -120,9 +120,10 @@ struct bench_listed {
 };
 
 /* Lists the probes of a node: the sets of events that meet every acceptance of the node and have no smaller set inside
- * that does, ascending by number. Handed over: a copy of the sheet and the node. Lent: `length` words from `out` on.
- * Answered: 0 and the number of probes, which then stand at the front of the list, and the rest of the list is as it
- * was; or the refusal (the sheet's; 9; 10), and the whole list is as it was. A node that may stop has no probe. */
+ * that does. They are ordered by how many events a probe has, the fewest first, then by number, the lowest first.
+ * Handed over: a copy of the sheet and the node. Lent: `length` words from `out` on. Answered: 0 and the number of
+ * probes, which then stand at the front of the list, and the rest of the list is as it was; or the refusal (the
+ * sheet's; 9; 10), and the whole list is as it was. A node that may stop has no probe. */
 struct bench_listed bench_list(struct bench_sheet sheet, uint8_t node, uint16_t *out, size_t length);
 
 /* The highest test number, and the lowest report that says "blocked". */
@@ -168,9 +169,10 @@ struct bench_stepped {
     struct bench_run run;
 };
 
-/* Opens test k with the choice number h, trace-only if the flag `traces` is set. Handed over: a copy of the reference's
- * sheet. Answered: BENCH_GOING with the first offer, and the record of the run; or the refusal (the sheet's; 14) and a
- * record of zeros. */
+/* Opens test k with the choice number h, trace-only if the flag `traces` is set. h picks the probe that is offered
+ * after k events: of the m probes of the node reached, that at place h modulo m, counted from 0, in the order of
+ * bench_list. Handed over: a copy of the reference's sheet. Answered: BENCH_GOING with the first offer, and the record
+ * of the run; or the refusal (the sheet's; 14) and a record of zeros. */
 struct bench_stepped bench_open(struct bench_sheet sheet, uint16_t k, uint16_t h, uint8_t traces);
 
 /* Answers a report on a run. Handed over: a copy of the reference's sheet, the record, and what the device did with the
@@ -217,7 +219,8 @@ enum {
     BENCH_REFINES = 21,         /* the device refines the reference */
     BENCH_VIOLATES_STRAY = 22,  /* after the trace the device does `event`, which the reference does not */
     BENCH_VIOLATES_REFUSAL = 23 /* after the trace the device may refuse the whole of `probe`, which the reference may
-                                   not: its `acceptance` has no event of it */
+                                   not: its `acceptance` has no event of it. The probe is the first such in the order of
+                                   bench_list, the acceptance the lowest by number that has no event of that probe */
 };
 
 /* What a comparison answers: the refusal, 0 for none; the kind; the length d of the shortest common trace to a
