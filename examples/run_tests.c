@@ -23,6 +23,11 @@ static const uint8_t CODED[23] = {
     0x01, 0x02, 0x00, 0x01, 0x00, 0x02, 0x00, 0x00, 0x01, 0x00, 0x03,
 };
 
+/* One node looping on three events, with the acceptances 5 and 6. */
+static const uint8_t SIZES[15] = {
+    0x00, 0x00, 0x00, 0x0B, 0x01, 0x03, 0x01, 0x00, 0x00, 0x00, 0x02, 0x00, 0x05, 0x00, 0x06,
+};
+
 static struct bench_sheet reference;
 static struct bench_sheet device;
 
@@ -205,5 +210,16 @@ int main(void) {
     print_comparison("both of version 2", &second.sheet, 0, 12, 5);
     second = read_coded(257, 259);
     print_comparison("another code", &second.sheet, 0, 12, 5);
+
+    /* The probes 4, of one event, and 3, of two: choice numbers and what is named follow this order. */
+    reference = bench_read(SIZES, sizeof SIZES).sheet;
+    print_probes(0, 4);
+    print_said("test 0 with choice 0", bench_open(reference, 0, 0, 0).answer);
+    print_said("test 0 with choice 1", bench_open(reference, 0, 1, 0).answer);
+    /* The device may refuse either; 4 is named, with the acceptance that has no event of 4. */
+    device = reference;
+    device.rows[0].sets[0] = 3;
+    device.rows[0].sets[1] = 4;
+    print_comparison("acceptances 3 and 4", &device, 0, 2, 0);
     return 0;
 }
