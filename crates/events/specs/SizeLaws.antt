@@ -1,5 +1,5 @@
--- Nothing to believe: laws. The size of a set is how many events it has, as a list of them; it is what the machine counts
--- as binary ones, and a set of k events has at most k.
+-- Nothing to believe: laws. The size of a set is how many events it has, as a list of them; it is the number of its
+-- binary ones, which the machine counts, and a set of k events has at most k.
 use mathlib.Core.Path.{_≡_, refl, sym, ap, _∙_}
 use mathlib.Core.Logic.{_⊎_, inl, inr}
 use mathlib.Core.Bool.{true, false, cond}

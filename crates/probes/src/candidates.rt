@@ -1,5 +1,5 @@
-// The candidates for probes, which are all sets of E events, by their number: whether one is a probe of some acceptances
-// (01, "Probes"), and the next one that is.
+// The candidates for probes, which are all sets of E events, by their number: whether one is a probe of some
+// acceptances (01, "Probes"), and the next one that is.
 ghost use mathlib.Core.Path.{_≡_};
 ghost use Prim.Native.Nat.{_^_, _≤_, _<_};
 ghost use Rattle.probes_spec.specs.Probes.{isProbe};

@@ -49,8 +49,8 @@ pub fn fill(sets: &[u16], e: usize, out: &mut [u16]) -> usize
     m
 }
 
-// Writes the probes to the front of the lent list and answers how many there are; or 10, a list shorter than the probes,
-// and the list is as it was.
+// Writes the probes to the front of the lent list and answers how many there are; or 10, a list shorter than the
+// probes, and the list is as it was.
 fn list_sets(sets: &[u16], e: usize, out: &mut [u16]) -> Listed
     requires { ⌜ e ≤ 12 ⌝ }
     ensures { λ r. ⌜ ((length (now (out .entry)) < length (probes (now (sets .entry)) e))

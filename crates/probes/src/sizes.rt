@@ -8,11 +8,12 @@ ghost use Rattle.base.specs.Front.{atFront};
 ghost use Rattle.base.specs.Joined.{joined};
 ghost use Rattle.probes_spec.specs.Shapes.{ofSize};
 
-// Writes the sets of `size` events among some, in their order, from place `at` of a list on, and answers the place after
-// them.
+// Writes the sets of `size` events among some, in their order, from place `at` of a list on, and answers the place
+// after them.
 fn put_size(found: &[u16], size: usize, out: &mut [u16], at: usize) -> usize
     requires { ⌜ at + length (ofSize (now found) size) ≤ length (now out) ⌝ }
-    ensures { λ r. ⌜ (now (out .exit) ≡ atFront (now (out .entry)) (take at (now (out .entry)) ++ ofSize (now (found .entry)) size))
+    ensures { λ r. ⌜ (now (out .exit)
+        ≡ atFront (now (out .entry)) (take at (now (out .entry)) ++ ofSize (now (found .entry)) size))
         × (r ≡ at + length (ofSize (now (found .entry)) size)) ⌝ }
 {
     let mut next = at;

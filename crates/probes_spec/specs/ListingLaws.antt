@@ -11,6 +11,7 @@ use lib.ListN.{length, getD}
 use borrow.Author.Tests.{eqb-true, eqb-false, eq-eqb, ne-eqb}
 use Rattle.base.specs.Truth.{dec, clash, lt-or-ge}
 use Rattle.base.specs.Finds.{finds-lt, finds-le}
+use Rattle.base.specs.Counted.{Counted}
 use Rattle.base.specs.Sorted.{Sorted}
 use Rattle.base.specs.Front.{atFront, atFront-length, atFront-before, atFront-behind}
 use Rattle.base.specs.Refusal.{unless, unless-hit, unless-pass, unless-none, unless-other, orElse-some, orElse-first, orElse-then}
@@ -23,7 +24,7 @@ use Rattle.sheet_spec.specs.Sound.{Sound}
 use Rattle.sheet_spec.specs.SoundLaws.{check-sound}
 use Rattle.probes_spec.specs.declared.Listed.the-variants.{Count, Denied}
 use Rattle.probes_spec.specs.Probes.{probes, Probe, Before, ProbeList, Narrow}
-use Rattle.probes_spec.specs.ProbeLaws.{probe-at, probe-listed, probes-most, probes-none, probes-some, probes-ordered, probes-only}
+use Rattle.probes_spec.specs.ProbeLaws.{probe-at, probe-listed, probes-most, probes-none, probes-some, probes-ordered, probes-only, probes-counted}
 use Rattle.probes_spec.specs.Listing.{nodeProbes, listFault, listCount, listedNumbers, listedOf, listAfter}
 
 -- the numbers of each case of an answer, for crates that may not unfold them
@@ -179,6 +180,11 @@ module _ (s : Sheet) (h : sheetFault s ≡ 0) (v : ℕ) (l : v < s .n) where
   pub node-only : (l : List ℕ) → ProbeList (acceptances (row s v)) l → l ≡ nodeProbes s v
   unfolding nodeProbes
   node-only l q = probes-only (acceptances (row s v)) (s .e) node-narrow l q
+
+  -- how many a node has is how many minimal hitting sets there are, whatever their order
+  pub node-counted : Counted (Probe (acceptances (row s v))) (length (nodeProbes s v))
+  unfolding nodeProbes
+  node-counted = probes-counted (acceptances (row s v)) (s .e) node-narrow
 
   -- a node has at most 4,096 probes
   pub node-few : length (nodeProbes s v) ≤ 4096

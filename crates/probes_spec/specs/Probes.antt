@@ -1,7 +1,7 @@
 -- The probes of a node (01, "Probes"): the minimal hitting sets of its acceptances (001, section 2.2), those with fewer
 -- events first (02, K3). A set of events is a number in which event i adds 2 ^ i. Each notion is given twice: as a test
--- or a list that computes, and in plain words of events; laws in both directions join the two. Crates above use `probes`
--- by its name and the laws of ProbeLaws, and never unfold it (but the cases, which compute).
+-- or a list that computes, and in plain words; laws in both directions join the two. Crates above use `probes` by its
+-- name and the laws of ProbeLaws, and never unfold it (but the cases, which compute).
 use mathlib.Core.Path.{_≡_}
 use mathlib.Core.Logic.{_⊎_, _↔_}
 use mathlib.Core.Bool.{Bool, not, _&&_}

@@ -1,5 +1,5 @@
--- `probes::find`. The loop's invariant: it stands at a probe, or at the end, and the `at` probes before are the front of
--- the list, the rest of which is as it was.
+-- `probes::find`. The loop's invariant: it stands at a probe, or at the end, and the `at` probes before are the front
+-- of the list, the rest of which is as it was.
 use mathlib.Core.Path.{_≡_, sym, ap, _∙_}
 use Prim.Native.Nat.{_+_, _-_, _^_, _≤_}
 use native.Mathlib.Omega.{arith}
