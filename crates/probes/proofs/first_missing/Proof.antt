@@ -7,7 +7,7 @@ use Prim.Native.Nat.{_-_, _≤_}
 use native.Mathlib.Omega.{arith}
 use denote.Ref.{now}
 use lib.ListN.{length, drop, getD}
-use Rattle.probes_spec.specs.declared.Missed.the-variants.{Nothing, Found}
+use Rattle.probes_spec.specs.declared.Missed.the-variants.{Found}
 use Rattle.probes_spec.specs.FirstMissed.{missing, firstMissing}
 use Rattle.probes.proofs.Misses.{miss-at, miss-more, miss-end, named-at, named-more, named-end}
 use Rattle.probes.proofs.first_missing.Statement.{statement}

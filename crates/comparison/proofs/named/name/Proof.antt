@@ -1,6 +1,5 @@
 -- `named::name`: a stray is told before a refusal.
 use borrow.Author.Needs.{needs}
-use native.Mathlib.Omega.{arith}
 use Rattle.sheet_spec.specs.RowLaws.{sets-room, sets-taken}
 use Rattle.sheet_rows.proofs.Shape.{row-form}
 use Rattle.comparison.proofs.named.Names.{front-sets, named-stray, named-nothing, named-found}
