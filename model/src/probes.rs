@@ -7,18 +7,25 @@ pub fn meets_all(sets: &[u16], candidate: u16) -> bool {
     sets.iter().all(|set| set & candidate != 0)
 }
 
-/// All probes of a collection of sets over `e` events, ascending. Every set of
-/// events is tried: it must meet every member of the collection, and no smaller
-/// set inside it may do so.
+/// All probes of a collection of sets over `e` events, by how many events a probe has, then by
+/// number. Every set of events is tried: it must meet every member of the collection, and no
+/// smaller set inside it may do so.
 pub fn probes_of(sets: &[u16], e: u8) -> Vec<u16> {
     let meets: Vec<bool> = (0..1u32 << e)
         .map(|candidate| meets_all(sets, candidate as u16))
         .collect();
-    (0..1u32 << e)
+    let mut found: Vec<u16> = (0..1u32 << e)
         .filter(|&candidate| meets[candidate as usize])
         .filter(|&candidate| !smaller_inside(candidate).any(|small| meets[small as usize]))
         .map(|candidate| candidate as u16)
-        .collect()
+        .collect();
+    found.sort_by_key(|&probe| (size(probe), probe));
+    found
+}
+
+/// How many events a set has.
+pub fn size(set: u16) -> u32 {
+    set.count_ones()
 }
 
 /// Every set inside `set` other than `set` itself.

@@ -27,13 +27,15 @@ fn case_sheets() -> Vec<Sheet> {
 
 #[test]
 fn probe_cases() {
-    let cases: [(&[u16], &[u16]); 6] = [
+    let cases: [(&[u16], &[u16]); 8] = [
         (&[3], &[1, 2]),
         (&[3, 6], &[2, 5]),
         (&[1, 2], &[3]),
         (&[3, 5, 6], &[3, 5, 6]),
         (&[0], &[]),
-        (&[5, 6], &[3, 4]),
+        (&[5, 6], &[4, 3]),
+        (&[1, 6], &[3, 5]),
+        (&[6], &[2, 4]),
     ];
     for (sets, expected) in cases {
         assert_eq!(probes_of(sets, 3), expected);

@@ -4,7 +4,9 @@ mod common;
 
 use std::collections::HashSet;
 
-use common::{compared, fails, fails_with, least_trace, lists, nearest, refines, violation_at};
+use common::{
+    before, compared, fails, fails_with, least_trace, lists, nearest, refines, violation_at,
+};
 use model::comparison::{refuses, strays, Named, Outcome};
 use model::probes::probes;
 use model::random::{device_of, pair, random_raw, Rng};
@@ -49,7 +51,7 @@ fn check_named(reference: &Sheet, device: &Sheet, outcome: &Outcome) {
             assert!(list.contains(&probe));
             assert!(list
                 .iter()
-                .all(|&other| other >= probe || misses(other).count() == 0));
+                .all(|&other| !before(other, probe) || misses(other).count() == 0));
             assert_eq!(misses(probe).min(), Some(acceptance));
         }
     }

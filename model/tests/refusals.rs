@@ -177,11 +177,13 @@ fn reports_16_9_15_17() {
         node: 1,
         ..Run::ZERO
     };
-    // Node 1 has all three events; probe 0 is 3, so event 2 is not offered.
+    // Node 1 has all three events; probe 0 is 4, so only event 2 is offered; probe 1 is 3.
     let denied = |run: Run, report: Report, number: u8| {
         assert_eq!(step(&sheet, &run, report), (Answer::Denied(number), run));
     };
-    denied(run, Report::Event(2), 17);
+    denied(run, Report::Event(0), 17);
+    denied(run, Report::Event(1), 17);
+    denied(Run { h: 1, ..run }, Report::Event(2), 17);
     denied(run, Report::Event(3), 15);
     denied(run, Report::Event(255), 15);
     for bad in [
@@ -197,7 +199,7 @@ fn reports_16_9_15_17() {
     denied(Run { ended: true, ..run }, Report::Event(0), 16);
     let mut kept = run;
     assert_eq!(
-        report(&sheet, &mut kept, Report::Event(2)),
+        report(&sheet, &mut kept, Report::Event(1)),
         Answer::Denied(17)
     );
     assert_eq!(kept, run);

@@ -16,6 +16,18 @@ pub fn fails(reference: &Sheet, device: &Sheet, k: u16, trace_only: bool) -> boo
     verdict(reference, device, k, trace_only).expect("accepted") == Verdict::Fails
 }
 
+/// How many events a set has, counted one by one.
+pub fn events_in(set: u16) -> usize {
+    (0..16).filter(|event| set >> event & 1 == 1).count()
+}
+
+/// Whether a probe stands before another in a list: it has fewer events, or as many and the lower
+/// number.
+pub fn before(one: u16, other: u16) -> bool {
+    let (few, many) = (events_in(one), events_in(other));
+    few < many || few == many && one < other
+}
+
 /// After these nodes the device does or refuses what the reference does not. Every
 /// event and every set of events is tried.
 pub fn violation_at(reference: &Sheet, device: &Sheet, pair: (u8, u8), trace_only: bool) -> bool {
