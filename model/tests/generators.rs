@@ -1,6 +1,6 @@
 //! The random sheets, bytes, kept sheets and lengths of lists do what they are for.
 
-use model::comparison::{compare, Outcome, MAX_WORDS};
+use model::comparison::{compare, Named, Outcome, MAX_WORDS};
 use model::faults::{check_with, read_with, Fault};
 use model::random::*;
 use model::sheet::{check, encode, read, Sheet, MAX_BYTES};
@@ -213,4 +213,46 @@ fn crowded_sheets_are_accepted_and_have_many_probes() {
         many += usize::from(model::probes::probes(&sheet, 0).len() >= 100);
     }
     assert!(many >= 50, "{many}");
+}
+
+#[test]
+fn mixed_sheets_are_accepted_and_have_probes_of_different_sizes() {
+    let mut rng = Rng::new(42);
+    let (mut moved, mut first, mut sizes) = (0, 0, [0; 13]);
+    for _ in 0..400 {
+        let sheet = mixed_sheet(&mut rng);
+        assert_eq!(check(&sheet), 0);
+        for node in 0..sheet.n {
+            let list = model::probes::probes(&sheet, node);
+            moved += usize::from(list.windows(2).any(|two| two[0] > two[1]));
+            first += usize::from(list.first() != list.iter().min());
+            for probe in list {
+                sizes[probe.count_ones() as usize] += 1;
+            }
+        }
+    }
+    assert!(moved >= 300 && first >= 200, "{moved} {first}");
+    assert!(sizes[1..11].iter().all(|&count| count >= 10), "{sizes:?}");
+}
+
+#[test]
+fn refusing_pairs_end_in_a_refusal() {
+    let mut rng = Rng::new(43);
+    let (mut far, mut alone) = (0, 0);
+    for _ in 0..400 {
+        let (reference, device) = refusing_pair(&mut rng);
+        assert_eq!((check(&reference), check(&device)), (0, 0));
+        match compare(&reference, &device, false, MAX_WORDS, 1_023) {
+            Ok(Outcome::Violates {
+                d,
+                named: Named::Refused { .. },
+                ..
+            }) => far += usize::from(d > 0),
+            outcome => panic!("{outcome:?}"),
+        }
+        let nodes = 0..device.n as usize;
+        let changed = nodes.filter(|&v| device.rows[v] != reference.rows[v]);
+        alone += usize::from(changed.count() == 1);
+    }
+    assert!(far >= 100 && alone == 400, "{far} {alone}");
 }

@@ -4,7 +4,7 @@
 use super::codes::{recoded, spelled};
 use super::damage::{damaged, damaged_twice, noise_bytes, AIMS_READ};
 use super::pairs::pair;
-use super::raw::{full_sheet, random_sheet};
+use super::raw::{full_sheet, mixed_sheet, random_sheet};
 use super::Rng;
 use crate::sheet::{after, Sheet};
 use crate::text::live::Call;
@@ -78,11 +78,14 @@ fn long_sheet(rng: &mut Rng) -> Vec<u8> {
     long_input(rng, Vec::new())
 }
 
-/// A call of `live`: a good reference or a damaged one, words of which some are wrong, and lines of
-/// which most are reports that the run admits.
+/// A call of `live`: a good reference, at times with probes of different sizes, or a damaged one,
+/// words of which some are wrong, and lines of which most are reports that the run admits.
 pub fn live_call(rng: &mut Rng, round: u64) -> Call {
     let aim = AIMS_READ[(round / 8) as usize % AIMS_READ.len()];
-    let sheet = random_sheet(rng);
+    let sheet = match round % 8 {
+        2 => mixed_sheet(rng),
+        _ => random_sheet(rng),
+    };
     let k = match rng.below(8) {
         0 => rng.pick(&[1_023, 1_024, 65_535]),
         1 => rng.range(10, 30),

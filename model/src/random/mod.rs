@@ -16,8 +16,10 @@ pub use damage::{damaged, damaged_twice, long_bytes, noise_bytes, AIMS_READ};
 pub use input::{live_call, program_input, sheet_input};
 pub use kept::{kept, kept_noise, kept_twice, AIMS_KEPT};
 pub use lists::{length_around, work_length};
-pub use pairs::{deep_pair, device_of, full_pair, pair, small_pair};
-pub use raw::{antichain, crowded_sheet, full_sheet, random_raw, random_sheet, sheet_of_size, Raw};
+pub use pairs::{deep_pair, device_of, full_pair, pair, refusing_pair, small_pair};
+pub use raw::{
+    antichain, crowded_sheet, full_sheet, mixed_sheet, random_raw, random_sheet, sheet_of_size, Raw,
+};
 pub use runs::{random_record, random_report};
 pub use scripts::{script_call, script_length};
 

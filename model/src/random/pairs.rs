@@ -2,8 +2,9 @@
 //! their reference with or without a planted violation, so that far violations occur.
 
 use super::codes::random_codes;
-use super::raw::{antichain, random_nodes, random_raw, Raw};
+use super::raw::{antichain, mixed_raw, random_nodes, random_raw, Raw};
 use super::Rng;
+use crate::probes::probes_of;
 use crate::sheet::{Sheet, MAX_EVENTS, MAX_NODES, MAX_SETS, NO_NODE};
 
 /// A random pair: reference, then device.
@@ -87,12 +88,16 @@ fn weaker_choice(rng: &mut Rng, initials: u16, sets: &[u16]) -> Vec<u16> {
             larger.push(set | more);
         }
     }
+    least(&larger)
+}
+
+/// The sets that include no other, ascending.
+fn least(sets: &[u16]) -> Vec<u16> {
     let minimal = |set: &u16| {
-        !larger
-            .iter()
-            .any(|&other| other != *set && other & !set == 0)
+        let mut others = sets.iter().filter(|&other| other != set);
+        !others.any(|other| other & !set == 0)
     };
-    let mut kept: Vec<u16> = larger.iter().copied().filter(minimal).collect();
+    let mut kept: Vec<u16> = sets.iter().copied().filter(minimal).collect();
     kept.sort_unstable();
     kept.dedup();
     kept
@@ -147,6 +152,44 @@ pub fn small_pair(rng: &mut Rng) -> (Sheet, Sheet) {
         return (raw.keep(), raw.keep());
     }
     (raw.keep(), device.keep().with_codes(&raw.codes))
+}
+
+/// A random pair whose nearest violation is a refusal at a node with probes of different sizes. The
+/// device is the reference but for that node, where each acceptance misses a probe; mostly a small
+/// probe is missed and a larger one with a lower number.
+pub fn refusing_pair(rng: &mut Rng) -> (Sheet, Sheet) {
+    let reference = mixed_raw(rng);
+    let mut device = reference.clone();
+    let node = rng.below(device.nodes.len());
+    let list = probes_of(&device.nodes[node].1, device.e);
+    let turned = turned(&list);
+    if list.is_empty() || turned.is_empty() && !rng.one_in(4) {
+        return refusing_pair(rng);
+    }
+    let mut missed = vec![rng.pick(&list)];
+    if !turned.is_empty() {
+        let (small, low) = rng.pick(&turned);
+        match rng.one_in(2) {
+            true => missed.extend([small, low]),
+            false => missed = vec![small | low],
+        }
+    }
+    let initials = device.initials(node);
+    let without = missed.iter().map(|set| initials & !set);
+    let fewer = if rng.one_in(4) { rng.word() } else { 0 };
+    let sets: Vec<u16> = without.map(|set| set & !fewer).collect();
+    device.nodes[node].1 = least(&sets);
+    (reference.keep(), device.keep())
+}
+
+/// Every two probes of a list of which the later has the lower number.
+fn turned(list: &[u16]) -> Vec<(u16, u16)> {
+    let mut found = Vec::new();
+    for (place, &small) in list.iter().enumerate() {
+        let lower = list[place..].iter().filter(|&&low| low < small);
+        found.extend(lower.map(|&low| (small, low)));
+    }
+    found
 }
 
 /// A random pair in which nearly every place has a successor, so that scripts go far and each

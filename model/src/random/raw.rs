@@ -224,6 +224,51 @@ pub fn crowded_sheet(rng: &mut Rng) -> Sheet {
     raw.keep()
 }
 
+/// A random sheet with up to six nodes and most events at each, where probes have different sizes,
+/// so that their order shows.
+pub fn mixed_raw(rng: &mut Rng) -> Raw {
+    let (e, n) = (rng.range(3, MAX_EVENTS), rng.range(1, 6));
+    let mut raw = random_raw(rng, e, n);
+    for (succ, _) in raw.nodes.iter_mut() {
+        for place in succ.iter_mut().filter(|place| **place == NO_NODE) {
+            if !rng.one_in(6) {
+                *place = rng.below(n) as u8;
+            }
+        }
+    }
+    for node in 0..n {
+        raw.nodes[node].1 = mixed_sets(rng, raw.initials(node));
+    }
+    raw
+}
+
+/// The same as a kept sheet, which is accepted.
+pub fn mixed_sheet(rng: &mut Rng) -> Sheet {
+    mixed_raw(rng).keep()
+}
+
+/// The initials in up to three blocks, and as sets the pairs of one event of each block with the
+/// others: a probe has of each block that one event or all the others. At times a larger set more.
+fn mixed_sets(rng: &mut Rng, initials: u16) -> Vec<u16> {
+    let mut events: Vec<u16> = (0..16).filter(|event| initials >> event & 1 == 1).collect();
+    if events.len() < 2 {
+        return vec![initials];
+    }
+    rng.shuffle(&mut events);
+    let blocks = rng.range(1, events.len().min(7) / 2);
+    let pair = |(place, event): (usize, &u16)| {
+        let block = place % blocks;
+        (place >= blocks).then(|| 1 << events[block] | 1 << event)
+    };
+    let mut sets: Vec<u16> = events.iter().enumerate().filter_map(pair).collect();
+    let larger = random_set(rng, &events, Some(events.len().min(3)));
+    if sets.iter().all(|&set| apart(set, larger)) {
+        sets.push(larger);
+    }
+    sets.sort_unstable();
+    sets
+}
+
 /// A random number of nodes, one in three times 16 or more.
 pub fn random_nodes(rng: &mut Rng) -> usize {
     match rng.below(3) {
