@@ -4,10 +4,11 @@
 mod common;
 
 use common::{before, compared, events_in};
-use model::comparison::{Named, Outcome};
+use model::comparison::{Named, Outcome, MAX_WORDS};
 use model::examples::example_3;
+use model::planted::comparisons::{compare_with, CompareFault};
 use model::probes::{fill, probes, probes_of};
-use model::random::{antichain, crowded_sheet, full_sheet, random_sheet, Rng};
+use model::random::{antichain, crowded_sheet, full_sheet, pair, random_sheet, refusing_pair, Rng};
 use model::sheet::{encode, Sheet, NO_NODE};
 use model::small::antichains;
 use model::tests::{open, report, step, Answer, Report, Run};
@@ -187,6 +188,60 @@ fn comparisons_name_on_the_list() {
     assert_eq!(refused(&[3, 5, 6], &[0]), (3, 0));
     assert_eq!(refused(&[1, 6], &[0]), (3, 0));
     assert_eq!(refused(&[6], &[5]), (2, 5));
+}
+
+/// The order shows in what is named alone: d, cleared and the trace are those of a list by number.
+#[test]
+fn nothing_else_follows() {
+    let mut rng = Rng::new(53);
+    let (mut other_probes, mut other_acceptances) = (0, 0);
+    for round in 0..600 {
+        let (reference, device) = match round % 3 {
+            0 => pair(&mut rng),
+            _ => refusing_pair(&mut rng),
+        };
+        for trace_only in [false, true] {
+            let plain = compared(&reference, &device, trace_only);
+            let by_number = compared_by_number(&reference, &device, trace_only);
+            if let (Some(plain), Some(other)) = (names(&plain), names(&by_number)) {
+                other_probes += usize::from(plain.0 != other.0);
+                other_acceptances += usize::from(plain.1 != other.1);
+                assert!(plain == other || before(plain.0, other.0) && other.0 < plain.0);
+            }
+            assert_eq!(unnamed(plain), unnamed(by_number));
+        }
+    }
+    assert!(other_probes >= 100 && other_acceptances >= 50);
+}
+
+/// The comparison with a list by number.
+fn compared_by_number(reference: &Sheet, device: &Sheet, trace_only: bool) -> Outcome {
+    let (work, list) = (&mut [7; MAX_WORDS], &mut [7; 1_023]);
+    let fault = CompareFault::ByNumber;
+    compare_with(fault, reference, device, trace_only, work, list).expect("accepted")
+}
+
+/// The probe and the acceptance that a comparison names.
+fn names(outcome: &Outcome) -> Option<(u16, u16)> {
+    match *outcome {
+        Outcome::Violates {
+            named: Named::Refused { probe, acceptance },
+            ..
+        } => Some((probe, acceptance)),
+        _ => None,
+    }
+}
+
+/// An answer with the same numbers in place of every probe and acceptance.
+fn unnamed(mut outcome: Outcome) -> Outcome {
+    if let Outcome::Violates {
+        named: Named::Refused { probe, acceptance },
+        ..
+    } = &mut outcome
+    {
+        (*probe, *acceptance) = (0, 0);
+    }
+    outcome
 }
 
 /// The programs follow.

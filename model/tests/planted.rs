@@ -1,7 +1,7 @@
 //! The variants in which faults are planted answer as the plain model does where no fault
-//! is planted, and each fault of a verdict, of all verdicts, of a comparison, of a count of
-//! scripts and of a text shows on some input. The random comparison with the library looks for
-//! the faults of every call.
+//! is planted, and each fault of a probe list, of a run, of a verdict, of all verdicts, of a
+//! comparison, of a count of scripts and of a text shows on some input. The random comparison with
+//! the library looks for the faults of every call.
 
 use model::comparison::{compare_into, Outcome, MAX_WORDS};
 use model::examples::program_pair;
@@ -19,7 +19,7 @@ use model::planted::text::script_counts::ScriptTextFault;
 use model::planted::text::show::ShowFault;
 use model::planted::text::suite::SuiteTextFault;
 use model::planted::verdicts::{verdict_with, VerdictFault};
-use model::probes::fill;
+use model::probes::{fill, list};
 use model::random::*;
 use model::sheet::{check, Sheet};
 use model::tests::{open, step};
@@ -65,11 +65,66 @@ fn no_fault_in_runs() {
     }
 }
 
+/// A sheet, refused or not, and mostly one of its nodes.
+fn sheet_and_node(rng: &mut Rng, round: usize) -> (Sheet, u8) {
+    let sheet = match round % 8 {
+        0 => kept_twice(rng),
+        1 => full_sheet(rng),
+        2 | 3 => mixed_sheet(rng),
+        _ => random_sheet(rng),
+    };
+    let node = match rng.below(6) {
+        0 => sheet.n,
+        1 => rng.below(34) as u8,
+        _ => rng.below((sheet.n as usize).clamp(1, 32)) as u8,
+    };
+    (sheet, node)
+}
+
+#[test]
+fn every_fault_of_a_probe_list_shows() {
+    let mut rng = Rng::new(99);
+    let mut hidden = ProbeFault::ALL.to_vec();
+    for round in 0..800 {
+        let (sheet, node) = sheet_and_node(&mut rng, round);
+        let count = list(&sheet, node, usize::MAX).map_or(0, |list| list.len());
+        let lent = vec![7; length_around(&mut rng, count)];
+        let played = |fault| {
+            let mut list = lent.clone();
+            (fill_with(fault, &sheet, node, &mut list), list)
+        };
+        let plain = played(ProbeFault::None);
+        hidden.retain(|&fault| played(fault) == plain);
+    }
+    assert_eq!(hidden, []);
+}
+
+#[test]
+fn every_fault_of_a_run_shows() {
+    let mut rng = Rng::new(100);
+    let mut hidden = RunFault::ALL.to_vec();
+    for round in 0..2_000 {
+        let (sheet, _) = sheet_and_node(&mut rng, round);
+        let (k, h) = (rng.pick(&[0, 1, 1_023, 1_024, 65_535]), rng.word());
+        let traces = rng.one_in(3);
+        let run = random_record(&mut rng, &sheet);
+        let report = random_report(&mut rng, &sheet);
+        let played = |fault| {
+            let opened = open_with(fault, &sheet, k, h, traces);
+            (opened, step_with(fault, &sheet, &run, report))
+        };
+        let plain = played(RunFault::None);
+        hidden.retain(|&fault| played(fault) == plain);
+    }
+    assert_eq!(hidden, []);
+}
+
 /// A pair; in some rounds a sheet of it is refused, or both are, or it has other events or codes.
 fn two_sheets(rng: &mut Rng, round: usize) -> (Sheet, Sheet) {
     let (reference, device) = match round % 4 {
         0 => deep_pair(rng),
         1 => small_pair(rng),
+        2 if round % 8 == 2 => refusing_pair(rng),
         _ => pair(rng),
     };
     match round % 16 {
@@ -250,6 +305,12 @@ fn three_words_a_pair_show() {
     }
 }
 
+/// The bytes of a pair back to back.
+fn both_spelled(rng: &mut Rng, pair: fn(&mut Rng) -> (Sheet, Sheet)) -> Vec<u8> {
+    let (reference, device) = pair(rng);
+    [spelled(rng, &reference), spelled(rng, &device)].concat()
+}
+
 #[test]
 fn every_fault_of_the_texts_of_two_sheets_shows() {
     let mut rng = Rng::new(84);
@@ -257,10 +318,8 @@ fn every_fault_of_the_texts_of_two_sheets_shows() {
     let mut hidden_suite = SuiteTextFault::ALL.to_vec();
     for round in 0..3_000 {
         let input = match round % 6 {
-            0 => {
-                let (reference, device) = deep_pair(&mut rng);
-                [spelled(&mut rng, &reference), spelled(&mut rng, &device)].concat()
-            }
+            0 => both_spelled(&mut rng, deep_pair),
+            3 => both_spelled(&mut rng, refusing_pair),
             _ => program_input(&mut rng),
         };
         let plain = compare::output(&input);

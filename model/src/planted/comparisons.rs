@@ -4,8 +4,8 @@ use std::collections::{BTreeMap, BTreeSet};
 
 use super::codes::{codes_differ, CodesFault};
 use super::faults;
+use super::probes::{found_with, ProbeFault};
 use crate::comparison::{refuses, strays, Named, Outcome, WORDS_A_PAIR};
-use crate::probes::probes;
 use crate::sheet::{accept, after, Sheet};
 
 faults! {
@@ -37,6 +37,16 @@ faults! {
         LargestStray,
         /// The last probe that is missed is named.
         LastProbe,
+        /// The lowest probe that is missed is named.
+        ByNumber,
+        /// Of equally large probes that are missed the highest is named.
+        HigherFirst,
+        /// The first of the largest probes that are missed is named.
+        LargestFirst,
+        /// The lowest acceptance that misses a probe is named, with the first probe that it misses.
+        AcceptanceFirst,
+        /// The acceptance is one that misses the lowest probe that is missed.
+        AcceptanceByNumber,
         /// The highest acceptance that misses the probe is named.
         HighestAcceptance,
         /// The probe and the acceptance are exchanged.
@@ -332,24 +342,44 @@ impl Search<'_> {
 
     fn refused(&self, pair: (u8, u8)) -> Option<Named> {
         let row = self.device.row(pair.1);
-        let mut list = probes(self.reference, pair.0);
-        if self.fault == CompareFault::LastProbe {
-            list.reverse();
-        }
-        list.iter().find_map(|&probe| {
-            let missing = row.acceptances().iter().filter(|&set| set & probe == 0);
-            let acceptance = match self.fault {
-                CompareFault::HighestAcceptance => missing.max(),
-                _ => missing.min(),
-            };
-            let acceptance = *acceptance?;
-            Some(match self.fault {
-                CompareFault::NamesExchanged => Named::Refused {
-                    probe: acceptance,
-                    acceptance: probe,
-                },
-                _ => Named::Refused { probe, acceptance },
-            })
+        let mut list = found_with(list_fault(self.fault), self.reference, pair.0);
+        list.retain(|&probe| row.may_refuse(probe));
+        let missing = |probe: u16| {
+            let sets = row.acceptances().iter().copied();
+            sets.filter(move |set| set & probe == 0)
+        };
+        let probe = match self.fault {
+            CompareFault::LastProbe => *list.last()?,
+            CompareFault::AcceptanceFirst => {
+                let lowest = list
+                    .iter()
+                    .filter_map(|&probe| missing(probe).min())
+                    .min()?;
+                *list.iter().find(|&probe| probe & lowest == 0)?
+            }
+            _ => *list.first()?,
+        };
+        let acceptance = match self.fault {
+            CompareFault::HighestAcceptance => missing(probe).max()?,
+            CompareFault::AcceptanceByNumber => missing(*list.iter().min()?).min()?,
+            _ => missing(probe).min()?,
+        };
+        Some(match self.fault {
+            CompareFault::NamesExchanged => Named::Refused {
+                probe: acceptance,
+                acceptance: probe,
+            },
+            _ => Named::Refused { probe, acceptance },
         })
+    }
+}
+
+/// The fault of the probe list that a fault of the comparison is.
+fn list_fault(fault: CompareFault) -> ProbeFault {
+    match fault {
+        CompareFault::ByNumber => ProbeFault::ByNumber,
+        CompareFault::HigherFirst => ProbeFault::HigherFirst,
+        CompareFault::LargestFirst => ProbeFault::LargestFirst,
+        _ => ProbeFault::None,
     }
 }

@@ -1,7 +1,9 @@
 //! The probe call with a fault planted.
 
+use std::cmp::Reverse;
+
 use super::faults;
-use crate::probes::{meets_all, probes_of};
+use crate::probes::{meets_all, probes_of, size};
 use crate::sheet::{accept, Sheet};
 
 faults! {
@@ -15,8 +17,18 @@ faults! {
         HighestEventKept,
         /// The set of all events is never listed.
         AllEventsLeftOut,
-        /// The list descends.
-        Descending,
+        /// The list stands the other way round.
+        Backwards,
+        /// The list ascends by number.
+        ByNumber,
+        /// Of equally many events the higher number stands first.
+        HigherFirst,
+        /// The probes with most events stand first.
+        LargestFirst,
+        /// Only the first probe stands in its place; the others ascend by number.
+        SmallestAlone,
+        /// Of a probe only the events 0 to 7 are counted.
+        LowEventsCounted,
         /// 9: the node N is accepted.
         NodeEqualsNodes,
         /// 9 is looked for before the sheet is checked.
@@ -91,21 +103,38 @@ pub fn found_with(fault: ProbeFault, sheet: &Sheet, node: u8) -> Vec<u16> {
     let row = sheet.row(node);
     let sets = row.acceptances();
     let all = sheet.alphabet();
-    match fault {
+    let mut found: Vec<u16> = match fault {
         ProbeFault::EveryHittingSet => (0..=all).filter(|&x| meets_all(sets, x)).collect(),
         ProbeFault::EmptyIsNoRule if row.may_stop() => vec![0],
         ProbeFault::HighestEventKept => (0..=all)
             .filter(|&x| meets_all(sets, x) && !smaller_without_low(sets, x))
             .collect(),
-        _ => {
-            let mut found = probes_of(sets, sheet.e);
-            match fault {
-                ProbeFault::AllEventsLeftOut => found.retain(|&x| x != all),
-                ProbeFault::Descending => found.reverse(),
-                _ => {}
+        _ => probes_of(sets, sheet.e),
+    };
+    if fault == ProbeFault::AllEventsLeftOut {
+        found.retain(|&x| x != all);
+    }
+    order_with(fault, &mut found);
+    found
+}
+
+/// Puts a list in order: it ascends by number first, and the later sorts keep that among equals.
+fn order_with(fault: ProbeFault, found: &mut [u16]) {
+    found.sort_unstable();
+    match fault {
+        ProbeFault::ByNumber => {}
+        ProbeFault::HigherFirst => found.sort_by_key(|&x| (size(x), Reverse(x))),
+        ProbeFault::LargestFirst => found.sort_by_key(|&x| Reverse(size(x))),
+        ProbeFault::SmallestAlone => {
+            if let Some(first) = (0..found.len()).min_by_key(|&place| size(found[place])) {
+                found[..=first].rotate_right(1);
             }
-            found
         }
+        ProbeFault::LowEventsCounted => found.sort_by_key(|&x| size(x & 0xFF)),
+        _ => found.sort_by_key(|&x| size(x)),
+    }
+    if fault == ProbeFault::Backwards {
+        found.reverse();
     }
 }
 

@@ -20,6 +20,12 @@ faults! {
         NextProbe,
         /// The probe is taken from a list of every hitting set.
         EveryHittingSet,
+        /// The probe is taken from a list that ascends by number.
+        ByNumber,
+        /// The probe is taken from a list with the higher of equally large probes first.
+        HigherFirst,
+        /// The probe is taken from a list with the largest probes first.
+        LargestFirst,
         /// The empty acceptance is taken as "no rule here": a stray passes there.
         EmptyIsNoRule,
         /// Blocked passes at every node.
@@ -149,6 +155,17 @@ fn admit(fault: RunFault, sheet: &Sheet, run: &Run, report: Report) -> Result<Ru
     }
 }
 
+/// The fault of the probe list that a fault of the run is.
+fn list_fault(fault: RunFault) -> ProbeFault {
+    match fault {
+        RunFault::EveryHittingSet => ProbeFault::EveryHittingSet,
+        RunFault::ByNumber => ProbeFault::ByNumber,
+        RunFault::HigherFirst => ProbeFault::HigherFirst,
+        RunFault::LargestFirst => ProbeFault::LargestFirst,
+        _ => ProbeFault::None,
+    }
+}
+
 fn offer_with(fault: RunFault, sheet: &Sheet, run: &Run) -> u16 {
     let all = sheet.alphabet();
     let initials = sheet.initials(run.node);
@@ -158,10 +175,7 @@ fn offer_with(fault: RunFault, sheet: &Sheet, run: &Run) -> u16 {
         return if fewer { initials } else { all };
     }
     let outside = all & !initials;
-    let list = match fault {
-        RunFault::EveryHittingSet => found_with(ProbeFault::EveryHittingSet, sheet, run.node),
-        _ => found_with(ProbeFault::None, sheet, run.node),
-    };
+    let list = found_with(list_fault(fault), sheet, run.node);
     let m = list.len();
     if m == 0 {
         return outside;

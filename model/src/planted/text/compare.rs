@@ -47,6 +47,14 @@ faults! {
         EmptyIsNoRule,
         /// Every pair after the start is counted as good.
         LaterGood,
+        /// The lowest probe that is missed is named.
+        ByNumber,
+        /// Of equally large probes that are missed the highest is named.
+        HigherFirst,
+        /// The first of the largest probes that are missed is named.
+        LargestFirst,
+        /// The acceptance is one that misses the lowest probe that is missed.
+        AcceptanceByNumber,
         /// Unequal codes are accepted.
         CodesIgnored,
         /// Codes are compared as sets.
@@ -65,6 +73,10 @@ fn comparison_fault(fault: TextFault) -> Option<CompareFault> {
         TextFault::AcceptancesEqual => CompareFault::AcceptancesEqual,
         TextFault::EmptyIsNoRule => CompareFault::EmptyIsNoRule,
         TextFault::LaterGood => CompareFault::LaterGood,
+        TextFault::ByNumber => CompareFault::ByNumber,
+        TextFault::HigherFirst => CompareFault::HigherFirst,
+        TextFault::LargestFirst => CompareFault::LargestFirst,
+        TextFault::AcceptanceByNumber => CompareFault::AcceptanceByNumber,
         TextFault::CodesIgnored => CompareFault::CodesIgnored,
         TextFault::CodesAsSets => CompareFault::CodesAsSets,
         TextFault::LastCodeIgnored => CompareFault::LastCodeIgnored,

@@ -38,6 +38,12 @@ faults! {
         InitialsBelow,
         /// The probe is taken from a list of every hitting set.
         EveryHittingSet,
+        /// The probe is taken from a list that ascends by number.
+        ByNumber,
+        /// The probe is taken from a list with the higher of equally large probes first.
+        HigherFirst,
+        /// The probe is taken from a list with the largest probes first.
+        LargestFirst,
         /// The empty acceptance is taken as "no rule here": a stray passes there.
         EmptyIsNoRule,
         /// A failure as refused names the probe alone.
@@ -55,6 +61,9 @@ fn run_fault(fault: LiveFault) -> Option<RunFault> {
         LiveFault::None => RunFault::None,
         LiveFault::InitialsBelow => RunFault::InitialsBelow,
         LiveFault::EveryHittingSet => RunFault::EveryHittingSet,
+        LiveFault::ByNumber => RunFault::ByNumber,
+        LiveFault::HigherFirst => RunFault::HigherFirst,
+        LiveFault::LargestFirst => RunFault::LargestFirst,
         LiveFault::EmptyIsNoRule => RunFault::EmptyIsNoRule,
         LiveFault::RefusedNamesProbe => RunFault::RefusedNamesProbe,
         LiveFault::OneDeeper => RunFault::OneDeeper,

@@ -17,8 +17,14 @@ faults! {
         NoMeaning,
         /// Every hitting set is listed.
         EveryHittingSet,
-        /// The list descends.
-        Descending,
+        /// The list stands the other way round.
+        Backwards,
+        /// The list ascends by number.
+        ByNumber,
+        /// Of equally many events the higher number stands first.
+        HigherFirst,
+        /// The probes with most events stand first.
+        LargestFirst,
         /// The empty acceptance is taken as "no rule here": the node has the probe 0.
         EmptyIsNoRule,
         /// A node that may stop has an empty list.
@@ -113,7 +119,10 @@ fn built(fault: ProbeTextFault, sheet: &Sheet) -> String {
 fn probe_line(fault: ProbeTextFault, sheet: &Sheet, node: u8) -> String {
     let listed = match fault {
         ProbeTextFault::EveryHittingSet => ProbeFault::EveryHittingSet,
-        ProbeTextFault::Descending => ProbeFault::Descending,
+        ProbeTextFault::Backwards => ProbeFault::Backwards,
+        ProbeTextFault::ByNumber => ProbeFault::ByNumber,
+        ProbeTextFault::HigherFirst => ProbeFault::HigherFirst,
+        ProbeTextFault::LargestFirst => ProbeFault::LargestFirst,
         ProbeTextFault::EmptyIsNoRule => ProbeFault::EmptyIsNoRule,
         _ => ProbeFault::None,
     };
