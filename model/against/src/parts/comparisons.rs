@@ -6,7 +6,8 @@ use model::comparison::{MAX_WORDS, WORDS_A_PAIR};
 use model::numbers::{self, compare_numbers, compared, Compared};
 use model::planted::comparisons::{compare_with, CompareFault};
 use model::random::{
-    deep_pair, length_around, pair, random_sheet, recoded, small_pair, work_length, Rng,
+    deep_pair, length_around, pair, random_sheet, recoded, refusing_pair, small_pair, work_length,
+    Rng,
 };
 use model::sheet::{has_first_codes, Sheet, MAX_EVENTS};
 
@@ -32,6 +33,8 @@ const SHORT: &str =
 const REFINES: &str = "refines, 0 or trace-only 1";
 const STRAYS: &str = "strays at d 0 (0), 1 to 9 (1), 10 to 99 (2), 100 and more (3)";
 const REFUSALS: &str = "refusals at d 0 (0), 1 to 9 (1), 10 to 99 (2), 100 and more (3)";
+const NAMED: &str = "refusals, 0 the lowest probe that is missed is named, \
+    1 another with the acceptance that misses that one, 2 with another acceptance";
 const TRACES: &str = "trace-only strays at d 0 (0), 1 to 9 (1), 10 to 99 (2), 100 and more (3)";
 const WORK: &str = "work lists 0 none, 1 one short, 2 exact, 3 one more, 4 longer, 5 shorter";
 const LATER: &str =
@@ -61,6 +64,7 @@ fn findings() -> Findings {
         (REFINES, vec![0, 1]),
         (STRAYS, vec![0, 1, 2, 3]),
         (REFUSALS, vec![0, 1, 2, 3]),
+        (NAMED, vec![0, 1, 2]),
         (TRACES, vec![0, 1, 2, 3]),
         (WORK, (0..=5).collect()),
         (LATER, (0..=4).collect()),
@@ -70,7 +74,8 @@ fn findings() -> Findings {
 }
 
 /// One pair with lists that are long enough, and with one list around its limit; a pair with
-/// other codes; and a pair of which a sheet is refused, or with other events.
+/// other codes; a pair of which a sheet is refused, or with other events; and a pair that ends in a
+/// refusal which shows the order of the probes.
 fn round(rng: &mut Rng, round: u64, findings: &mut Findings) {
     let (reference, device) = match round % 6 {
         0 | 1 => deep_pair(rng),
@@ -108,6 +113,11 @@ fn round(rng: &mut Rng, round: u64, findings: &mut Findings) {
     }
     let lengths = rng.pick(&[(0, 0), (MAX_WORDS, 1_023), (words, places)]);
     try_compare(rng, findings, (&first, &second), trace_only, lengths);
+    if rng.one_in(4) {
+        let (reference, device) = refusing_pair(rng);
+        let both = (&reference, &device);
+        try_compare(rng, findings, both, false, (MAX_WORDS, 1_023));
+    }
 }
 
 /// The class of a length beside its limit.
@@ -204,11 +214,25 @@ fn try_compare(
         };
         findings.count(SHORT, short);
     }
-    catch(findings, CompareFault::ALL, |fault| {
+    let played = |fault| {
         let (mut work, mut list) = (work.clone(), list.clone());
-        let other = compare_with(fault, reference, device, trace_only, &mut work, &mut list);
-        compared(&other) != ours || work != ours_work || list != ours_list
+        let answer = compare_with(fault, reference, device, trace_only, &mut work, &mut list);
+        (compared(&answer), work, list)
+    };
+    if model.kind == numbers::REFUSAL {
+        let (by_number, _, _) = played(CompareFault::ByNumber);
+        findings.count(NAMED, renamed(&model, &by_number));
+    }
+    catch(findings, CompareFault::ALL, |fault| {
+        let (other, work, list) = played(fault);
+        other != ours || work != ours_work || list != ours_list
     });
+}
+
+/// How a refusal stands beside the one that a list by number leads to.
+fn renamed(model: &Compared, by_number: &Compared) -> u64 {
+    let moved = model.probe != by_number.probe;
+    u64::from(moved) + u64::from(model.acceptance != by_number.acceptance)
 }
 
 /// Counts how the codes of two sheets differ.

@@ -2,7 +2,7 @@
 //! number of probes, nodes that are not there, and kept sheets with any content.
 
 use model::numbers::{list_numbers, Listed};
-use model::planted::probes::{fill_with, ProbeFault};
+use model::planted::probes::{fill_with, found_with, ProbeFault};
 use model::probes::probes;
 use model::random::{crowded_sheet, full_sheet, sheet_of_size, Rng};
 use model::sheet::{check, Sheet, MAX_EVENTS, MAX_NODES};
@@ -15,6 +15,8 @@ use crate::play::Part;
 const LIST: &str = "list, 0 listed or the refusal";
 const LENGTH: &str = "list, lent 0 none, 1 one short, 2 exact, 3 one more, 4 longer, 5 shorter";
 const COUNT: &str = "listed, 0 (0), 1 (1), 2 to 9 (2), 10 to 99 (3), 100 and more (4) probes";
+const ORDER: &str =
+    "listed, 0 the list ascends by number, 1 only its first probe is the lowest, 2 not even that";
 const LARGE: &str = "listed at a node with 12 events and 16 sets";
 
 pub const PART: Part = Part {
@@ -30,6 +32,7 @@ fn findings() -> Findings {
         (LIST, vec![0, 3, 5, 6, 7, 8, 9, 10, 18]),
         (LENGTH, (0..=5).collect()),
         (COUNT, vec![0, 1, 2, 3, 4]),
+        (ORDER, vec![0, 1, 2]),
         (LARGE, vec![12]),
     ];
     Findings::new(groups, names(ProbeFault::ALL))
@@ -50,8 +53,13 @@ fn round(rng: &mut Rng, round: u64, findings: &mut Findings) {
         _ => sheet_of_size(rng, e, n),
     };
     let node = rng.below(sheet.n as usize) as u8;
-    let m = probes(&sheet, node).len();
+    let list = probes(&sheet, node);
+    let m = list.len();
     findings.count(COUNT, digits(m));
+    findings.count(
+        ORDER,
+        moved(&list, &found_with(ProbeFault::ByNumber, &sheet, node)),
+    );
     if sheet.e == 12 && sheet.row(node).c == 16 {
         findings.count(LARGE, 12);
     }
@@ -81,6 +89,11 @@ fn digits(m: usize) -> u64 {
         10..=99 => 3,
         _ => 4,
     }
+}
+
+/// How a list stands beside the same one by number.
+fn moved(list: &[u16], by_number: &[u16]) -> u64 {
+    u64::from(list != by_number) + u64::from(list.first() != by_number.first())
 }
 
 /// One list by the library, by the model, and by each fault that is not caught yet; the

@@ -2,8 +2,10 @@
 //! kinds, with refused reports in between, and records and reports of any content.
 
 use model::numbers::{open_numbers, report_of, step_numbers, stepped, Record, Stepped};
+use model::planted::probes::{found_with, ProbeFault};
 use model::planted::runs::{open_with, step_with, RunFault};
-use model::random::{deep_pair, pair, random_record, random_sheet, Rng};
+use model::probes::probes;
+use model::random::{deep_pair, mixed_sheet, pair, random_record, random_sheet, Rng};
 use model::sheet::{after, Sheet};
 use model::tests::{Report, MAX_TEST};
 use model::verdict::device_reports;
@@ -19,6 +21,8 @@ const RUNS: &str = "runs ended, 2 stray, 3 refused, 4 passed by an event, 5 pass
 const TRACES: &str = "trace-only runs ended, 2 stray, 4 passed by an event, 5 passed by blocking";
 const DEEP: &str =
     "runs of 0 (0), 1 to 9 (1), 10 to 99 (2), 100 and more (3) events before the end";
+const ORDER: &str = "offers of a probe, 0 of a list that ascends by number, 1 of another, \
+    the same probe as by number, 2 another probe";
 const FLAGS: &str = "records with a flag 0, 1, 2 other";
 
 pub const PART: Part = Part {
@@ -36,13 +40,14 @@ fn findings() -> Findings {
         (RUNS, vec![2, 3, 4, 5]),
         (TRACES, vec![2, 4, 5]),
         (DEEP, vec![0, 1, 2, 3]),
+        (ORDER, vec![0, 1, 2]),
         (FLAGS, vec![0, 1, 2]),
     ];
     Findings::new(groups, names(RunFault::ALL))
 }
 
-/// A whole run, some records and reports of any content, sheets of any content, and flags
-/// of every byte.
+/// A whole run, some records and reports of any content, sheets of any content, flags of every
+/// byte, and an opening and a report that show the order of the probes.
 fn round(rng: &mut Rng, round: u64, findings: &mut Findings) {
     let (reference, device) = if rng.one_in(6) {
         deep_pair(rng)
@@ -67,6 +72,11 @@ fn round(rng: &mut Rng, round: u64, findings: &mut Findings) {
     let k = rng.pick(&[MAX_TEST, MAX_TEST + 1, MAX_TEST + 2, 65_535, 0, 1]);
     try_open(findings, &sheet, k, h, traces);
     try_flags(rng, round, findings, &sheet);
+    let sheet = mixed_sheet(rng);
+    try_open(findings, &sheet, 0, h, 0);
+    let record = any_record(rng, &sheet);
+    let code = any_code(rng, &sheet);
+    try_step(findings, &sheet, &record, code);
 }
 
 /// Reports on a record with a byte as its flag of trace-only, and on one with it as its
@@ -221,6 +231,27 @@ fn digits(count: u64) -> u64 {
     }
 }
 
+/// Counts an offer at depth k, if the answer has one with a probe: whether the order of the list
+/// shows in it.
+fn count_offer(findings: &mut Findings, sheet: &Sheet, answered: &Stepped) {
+    let run = answered.run;
+    let offers = matches!(answered.answer.kind, 1 | 3);
+    if !offers || run.traces != 0 || run.depth < run.k {
+        return;
+    }
+    let list = probes(sheet, run.node);
+    if list.is_empty() {
+        return;
+    }
+    let by_number = found_with(ProbeFault::ByNumber, sheet, run.node);
+    let chosen = usize::from(run.h) % list.len();
+    let class = match list == by_number {
+        true => 0,
+        false => 1 + u64::from(list[chosen] != by_number[chosen]),
+    };
+    findings.count(ORDER, class);
+}
+
 /// One opening by the library, by the model, and by each fault that is not caught yet.
 fn try_open(findings: &mut Findings, sheet: &Sheet, k: u16, h: u16, traces: u8) -> Stepped {
     let ours = edge::open(sheet, k, h, traces);
@@ -232,6 +263,7 @@ fn try_open(findings: &mut Findings, sheet: &Sheet, k: u16, h: u16, traces: u8) 
         )
     });
     findings.count(OPEN, u64::from(model.answer.refusal));
+    count_offer(findings, sheet, &model);
     catch(findings, RunFault::ALL, |fault| {
         let other = open_with(fault, sheet, k, h, traces != 0);
         stepped(&Record::ZERO, other) != ours
@@ -254,6 +286,7 @@ fn try_step(findings: &mut Findings, sheet: &Sheet, record: &Record, code: u16) 
         )
     });
     findings.count(STEP, u64::from(model.answer.refusal));
+    count_offer(findings, sheet, &model);
     for number in [record.traces, record.ended] {
         findings.count(FLAGS, u64::from(number.min(2)));
     }

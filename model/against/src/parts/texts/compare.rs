@@ -1,7 +1,9 @@
 //! The program `compare`.
 
 use model::planted::text::compare::{output_with, TextFault};
-use model::random::{damaged, deep_pair, pair, program_input, spelled, Rng, AIMS_READ};
+use model::random::{
+    damaged, deep_pair, pair, program_input, refusing_pair, spelled, Rng, AIMS_READ,
+};
 use model::text::compare::output;
 
 use super::super::{catch, names};
@@ -14,6 +16,8 @@ const LINES: &str = "compare, 0 refines, 1 stray, 2 refused, 3 reference refused
 const MINE: &str = "compare, the refusals of the reference";
 const THEIRS: &str = "compare, the refusals of the device";
 const STRAYS: &str = "compare, strays at d 0 (0), 1 to 9 (1), 10 to 99 (2), 100 and more (3)";
+const NAMED: &str = "compare, 0 the lowest probe that is missed is named, \
+    1 another with the acceptance that misses that one, 2 with another acceptance";
 const REFUSALS: &str = "compare, refusals at d 0 (0), 1 to 9 (1), 10 to 99 (2), 100 and more (3)";
 
 pub const PART: Part = Part {
@@ -33,18 +37,20 @@ fn findings() -> Findings {
         (LENGTH, vec![0, 1, 2]),
         (STRAYS, vec![0, 1, 2, 3]),
         (REFUSALS, vec![0, 1, 2, 3]),
+        (NAMED, vec![0, 1, 2]),
     ];
     Findings::new(groups, names(TextFault::ALL))
 }
 
 /// An input: a pair far apart, a few bytes of noise, each refusal of a sheet in turn as the
-/// reference's and as the device's, or any other.
+/// reference's and as the device's, a pair whose refusal shows the order of the probes, or any other.
 fn input_of(rng: &mut Rng, round: u64) -> Vec<u8> {
     let aim = AIMS_READ[(round / 8) as usize % AIMS_READ.len()];
     let (reference, device) = match round % 8 {
         0 => deep_pair(rng),
         1 => return (0..rng.below(12)).map(|_| rng.byte()).collect(),
         2 | 3 => pair(rng),
+        7 if round % 16 == 7 => refusing_pair(rng),
         _ => return program_input(rng),
     };
     let (mut first, mut second) = (spelled(rng, &reference), spelled(rng, &device));
@@ -88,6 +94,19 @@ fn count(findings: &mut Findings, input: &[u8], text: &str) {
     }
     count_length(findings, input);
     count_numbers(findings, text);
+    if has("refused") {
+        findings.count(NAMED, renamed(input, text));
+    }
+}
+
+/// How the line of a refusal stands beside the one that a list by number leads to.
+fn renamed(input: &[u8], text: &str) -> u64 {
+    let by_number = output_with(TextFault::ByNumber, input);
+    let differs = |word: usize| {
+        let words = [text, &by_number].map(|text| text.lines().last()?.split(' ').nth(word));
+        u64::from(words[0] != words[1])
+    };
+    differs(1) + differs(3)
 }
 
 /// The number of a refusal, or the band of d.

@@ -15,6 +15,7 @@ const LINES: &str = "live, 0 passed, 1 stray, 2 refused, 3 input ended, 4 test r
 const REPORTS: &str = "live, runs with a report refused";
 const REFUSALS: &str = "live, the refusals of the reference";
 const VERSION: &str = "live, by the version of the reference";
+const ORDER: &str = "live, 0 every offer as with a list by number, 1 some offer otherwise";
 const DEPTH: &str = "live, accepted reports 0 (0), 1 to 9 (1), 10 and more (2)";
 
 pub const PART: Part = Part {
@@ -32,6 +33,7 @@ fn findings() -> Findings {
         (REFUSALS, refusals()),
         (VERSION, vec![1, 2]),
         (DEPTH, vec![0, 1, 2]),
+        (ORDER, vec![0, 1]),
     ];
     Findings::new(groups, names(LiveFault::ALL))
 }
@@ -92,4 +94,8 @@ fn count(findings: &mut Findings, call: &Call, text: &str) {
         _ => 2,
     };
     findings.count(DEPTH, class);
+    if text.contains("offer") {
+        let by_number = output_with(LiveFault::ByNumber, call);
+        findings.count(ORDER, u64::from(by_number != text));
+    }
 }

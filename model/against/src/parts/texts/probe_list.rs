@@ -13,6 +13,7 @@ const LINES: &str =
     "probe_list, 0 no node may stop, 1 some node may stop, 2 refused, 3 some event is optional";
 const REFUSALS: &str = "probe_list, the refusals";
 const VERSION: &str = "probe_list, by the version";
+const ORDER: &str = "probe_list, 0 every list ascends by number, 1 some list does not";
 const PROBES: &str = "probe_list, at most 1 probe at a node (0), up to 9 (1), 10 and more (2)";
 
 pub const PART: Part = Part {
@@ -30,6 +31,7 @@ fn findings() -> Findings {
         (VERSION, vec![1, 2]),
         (LENGTH, vec![0, 1, 2]),
         (PROBES, vec![0, 1, 2]),
+        (ORDER, vec![0, 1]),
     ];
     Findings::new(groups, names(ProbeTextFault::ALL))
 }
@@ -77,4 +79,6 @@ fn count(findings: &mut Findings, input: &[u8], text: &str) {
         _ => 2,
     };
     findings.count(PROBES, class);
+    let by_number = output_with(ProbeTextFault::ByNumber, input);
+    findings.count(ORDER, u64::from(by_number != text));
 }
