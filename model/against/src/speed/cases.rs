@@ -4,12 +4,12 @@
 use std::hint::black_box;
 
 use model::comparison::{MAX_WORDS, WORDS_A_PAIR};
-use model::numbers::{Record, STRAY};
+use model::numbers::{Record, REFUSAL, STRAY};
 use model::scripts::MAX_SCRIPT;
 use model::sheet::{encode, Sheet, MAX_BYTES};
 use model::tests::MAX_TEST;
 
-use super::inputs::{crowded, dense, longest, spread};
+use super::inputs::{crowded, dense, longest, refusing, spread};
 use super::tables::Tables;
 use super::{pairs, runs, same, scripts, tables};
 use crate::edge;
@@ -52,6 +52,7 @@ pub fn worst() -> Vec<Case> {
     let last = same::compare((&reference, &device), 0, (MAX_WORDS, 1_023));
     assert_eq!((last.kind, last.d, last.cleared), (STRAY, 1_023, 1_023));
     cases.push(comparison("violating, d 1023", reference, device));
+    cases.push(naming());
     cases.push(counting("all there", spread(false)));
     cases.push(counting("a quarter missing", spread(true)));
     cases
@@ -205,6 +206,17 @@ fn comparison(case: &str, reference: Sheet, device: Sheet) -> Case {
         ours: used(ours),
         plain: used(plain),
     }
+}
+
+/// A comparison that refuses the last probe of a node with 12 events and 16 acceptances.
+fn naming() -> Case {
+    let (reference, device) = refusing();
+    let list = runs::probes_of(reference.row(0).acceptances(), reference.e);
+    let found = same::compare((&reference, &device), 0, (MAX_WORDS, 1_023));
+    assert_eq!((found.kind, found.d, device.row(0).c), (REFUSAL, 0, 16));
+    assert_eq!(Some(&found.probe), list.last());
+    let case = format!("refusing, the last of {} probes", list.len());
+    comparison(&case, reference, device)
 }
 
 /// The scripts of 16 events, counted over all pairs of nodes of two sheets.

@@ -3,7 +3,7 @@
 use model::random::Rng;
 use model::sheet::{Sheet, MAX_EVENTS, MAX_NODES, MAX_SETS, NO_NODE};
 
-use super::runs::probe_count;
+use super::runs::probes_of;
 
 /// The successors and the sets of one node.
 type Node = ([u8; MAX_EVENTS], Vec<u16>);
@@ -32,8 +32,27 @@ fn many_probes() -> Vec<u16> {
         level
     };
     let choices = (0..700).map(choice);
-    let most = choices.max_by_key(|sets| probe_count(sets, MAX_EVENTS as u8));
+    let most = choices.max_by_key(|sets| probes_of(sets, MAX_EVENTS as u8).len());
     most.unwrap_or_default()
+}
+
+/// The largest sheet, and a device that is the same but for its start, where it misses the last of
+/// the probes and no other: it has an acceptance of all events outside that probe, and of the
+/// reference's as many as there is room for beside it.
+pub fn refusing() -> (Sheet, Sheet) {
+    let reference = crowded();
+    let row = reference.row(0);
+    let last = probes_of(row.acceptances(), reference.e).pop();
+    let rest = reference.alphabet() & !last.unwrap_or_default();
+    let apart = row.acceptances().iter().filter(|&set| rest & !set != 0);
+    let mut sets: Vec<u16> = apart.copied().take(MAX_SETS - 1).collect();
+    sets.push(rest);
+    sets.sort_unstable();
+    let mut device = reference;
+    device.rows[0].c = sets.len() as u8;
+    device.rows[0].sets = [0; MAX_SETS];
+    device.rows[0].sets[..sets.len()].copy_from_slice(&sets);
+    (reference, device)
 }
 
 /// A reference and a device that refines it, each of `n` nodes with 12 events and 16 sets. All

@@ -1,5 +1,7 @@
 //! Probes and runs over flat tables.
 
+use std::iter::successors;
+
 use model::numbers::{Listed, Record, Said, Stepped};
 use model::sheet::NO_NODE;
 
@@ -8,7 +10,7 @@ use super::tables::{check, Tables};
 /// The most probes that 12 events allow: none includes another (001, by Sperner).
 const MOST: usize = 924;
 
-/// The probes of a node, ascending.
+/// The probes of a node, by how many events a probe has, then by number.
 struct Probes {
     found: [u16; MOST],
     count: usize,
@@ -30,13 +32,32 @@ fn is_probe(sets: &[u16], x: u16) -> bool {
     own == x
 }
 
+/// Every set of E events, by how many events it has, then by number.
+fn by_size(e: u8) -> impl Iterator<Item = u16> {
+    let limit = 1u32 << e;
+    let of_size = move |size: u8| {
+        let lowest = (1u32 << size) - 1;
+        successors(Some(lowest), move |&x| next_of_size(x, limit))
+    };
+    (0..=e).flat_map(of_size).map(|x| x as u16)
+}
+
+/// The next number with as many ones: the lowest block of ones loses its highest, which moves one
+/// place up, and the others go to the lowest places.
+fn next_of_size(x: u32, limit: u32) -> Option<u32> {
+    let lowest = x & x.wrapping_neg();
+    let carried = x + lowest;
+    let next = carried | (x ^ carried) >> 2 >> lowest.trailing_zeros();
+    (x != 0 && next < limit).then_some(next)
+}
+
 /// Every set of E events is tried, once.
 fn probes(sets: &[u16], e: u8) -> Probes {
     let mut list = Probes {
         found: [0; MOST],
         count: 0,
     };
-    for x in 0..1u16 << e {
+    for x in by_size(e) {
         if is_probe(sets, x) {
             list.found[list.count] = x;
             list.count += 1;
@@ -45,14 +66,15 @@ fn probes(sets: &[u16], e: u8) -> Probes {
     list
 }
 
-/// How many probes some acceptances have.
-pub fn probe_count(sets: &[u16], e: u8) -> usize {
-    probes(sets, e).count
+/// The probes of some acceptances.
+pub fn probes_of(sets: &[u16], e: u8) -> Vec<u16> {
+    let list = probes(sets, e);
+    list.found[..list.count].to_vec()
 }
 
 /// The first probe that a device acceptance misses, with the lowest such acceptance.
 pub fn first_missed(sets: &[u16], e: u8, device: &[u16]) -> (u16, u16) {
-    let list = (0..1u16 << e).filter(|&x| is_probe(sets, x));
+    let list = by_size(e).filter(|&x| is_probe(sets, x));
     let missed = |x: u16| {
         device
             .iter()

@@ -4,8 +4,8 @@
 use model::comparison::WORDS_A_PAIR;
 use model::numbers::{Compared, Record, Scripts};
 use model::random::{
-    damaged, deep_pair, kept, kept_twice, pair, random_record, random_sheet, recoded,
-    script_length, spelled, Rng, AIMS_KEPT, AIMS_READ,
+    damaged, deep_pair, kept, kept_twice, mixed_sheet, pair, random_record, random_sheet, recoded,
+    refusing_pair, script_length, spelled, Rng, AIMS_KEPT, AIMS_READ,
 };
 use model::sheet::Sheet;
 
@@ -108,7 +108,8 @@ pub fn random(rounds: usize) {
         let worse = kept_twice(&mut rng);
         read(&spelled(&mut rng, &good));
         read(&damaged(&mut rng, AIMS_READ[round % AIMS_READ.len()]));
-        for sheet in [&good, &bad, &worse] {
+        let mixed = mixed_sheet(&mut rng);
+        for sheet in [&good, &bad, &worse, &mixed] {
             one_sheet(&mut rng, sheet);
         }
         let pair = if round % 3 == 0 { deep_pair } else { pair };
@@ -119,6 +120,8 @@ pub fn random(rounds: usize) {
         let other = rng.pick(&[bad, worse, good]);
         two_sheets(&mut rng, &reference, &other);
         two_sheets(&mut rng, &other, &device);
+        let (reference, device) = refusing_pair(&mut rng);
+        two_sheets(&mut rng, &reference, &device);
     }
 }
 
