@@ -1,11 +1,11 @@
 -- Nothing to believe: 01's cases (P) as one table, to be read beside 01 and in its order: each row is a call or a whole
 -- run, beside it stand the numbers that it answers, and one equation has them all. Comments that begin with 01 have the
--- words of its case. The rows `adding` are for 02, K5, the rows `lending` for K7, those after them for K1, and the rows
--- `counting` for K2. Sheets come as bytes, through the definition of reading. The rows compute through the definitions
--- that the contracts cite, the probe lists among them.
-use mathlib.Core.Path.{_≡_, refl}
+-- words of its case. The rows that are for a request of 02 name it (K1, K2, K3, K5, K7). Sheets come as bytes, through
+-- the definition of reading. The rows compute through the definitions that the contracts cite, the probe lists among
+-- them.
+use mathlib.Core.Path.{_≡_, refl, sym, ap₂, _∙_}
 use mathlib.Core.Bool.{Bool, true, false}
-use mathlib.Core.List.{List, [], _∷_, _++_, map}
+use mathlib.Core.List.{List, [], _∷_, _++_, map, map-append}
 use Prim.Native.Nat.{ℕ, _+_, _-_, _*_}
 use lib.ListN.{length, replicate, drop}
 use Rattle.base.specs.Range.{all, any, first}
@@ -13,8 +13,10 @@ use Rattle.base.specs.Count.{count}
 use Rattle.base.specs.Sum.{sum}
 use Rattle.base.specs.Table.{upTo}
 use Rattle.base.specs.Gather.{gather, select}
+use Rattle.base.specs.Joined.{joined}
 use Rattle.events.specs.Bit.{bit, setOf}
 use Rattle.events.specs.Sets.{has, inside, meets, insert}
+use Rattle.events.specs.Size.{size}
 use Rattle.walks.specs.Graph.{walk}
 use Rattle.walks.specs.Reach.{nearer, leads}
 use Rattle.walks.specs.Near.{meetsIn, distance, later, choice, leastFrom, leastTrace}
@@ -29,7 +31,7 @@ use Rattle.sheet_spec.specs.Rules.{rangesOk, countOk, countsOk, successorsOk, r
 use Rattle.sheet_spec.specs.Refusals.{headFault, layoutFault, graphFault, bytesFault, sheetFault, codesFault, sharedFault}
 use Rattle.sheet_spec.specs.Reading.{readSheet, answer}
 use Rattle.sheet_spec.specs.Spelling.{lengthField, nextAt, startOf, succOf, setsOf, rowAt, rowOf, sheetOf, codeOf, nodesAt}
-use Rattle.probes_spec.specs.Probes.{hits, isProbe, probes}
+use Rattle.probes_spec.specs.Probes.{hits, isProbe, probesOf, probes}
 use Rattle.probes_spec.specs.Listing.{nodeProbes, listFault, listedNumbers, listedOf, listAfter}
 use Rattle.probes_spec.specs.FirstMissed.{missing, orNext, firstMissing, firstMissed}
 use Rattle.refinement_spec.specs.ViolatingPairs.{strays, hasStray, firstStray, covers, hasRefusal, violates, violating}
@@ -80,9 +82,13 @@ unfoldable pub setBytes : List ℕ → List ℕ
 setBytes [] = []
 setBytes (x ∷ xs) = 0 ∷ x ∷ setBytes xs
 
--- the bytes of a sheet with three events and one node, which loops on each of them and has these acceptances
+-- the bytes of a sheet with so many events and one node, which loops on each of them and has these acceptances
+unfoldable pub looping : ℕ → List ℕ → List ℕ
+looping e sets = 0 ∷ 0 ∷ 0 ∷ (4 + e + 2 * length sets) ∷ 1 ∷ e ∷ 1 ∷ (replicate e 0 ++ (length sets ∷ setBytes sets))
+
+-- the same with three events
 unfoldable pub accepting : List ℕ → List ℕ
-accepting sets = 0 ∷ 0 ∷ 0 ∷ (7 + 2 * length sets) ∷ 1 ∷ 3 ∷ 1 ∷ 0 ∷ 0 ∷ 0 ∷ length sets ∷ setBytes sets
+accepting sets = looping 3 sets
 
 -- the bytes of the device of 01's example in version 2, with the codes in these bytes
 unfoldable pub deviceWith : List ℕ → List ℕ
@@ -164,16 +170,16 @@ numbersOf (counting P Q L) = scriptsNumbers (scriptsOf (sheet P) (sheet Q) L)
 unfoldable pub keptNode : List ℕ → List ℕ → List ℕ
 keptNode succ sets = filled 12 255 succ ++ (filled 16 0 sets ++ (length sets ∷ []))
 
--- lists, one after the other
-unfoldable pub joined : List (List ℕ) → List ℕ
-joined [] = []
-joined (l ∷ ls) = l ++ joined ls
+-- the numbers of nodes, one node after the other
+unfoldable pub nodeNumbers : List (List ℕ) → List ℕ
+nodeNumbers [] = []
+nodeNumbers (l ∷ ls) = l ++ nodeNumbers ls
 
 -- what an accepted reading answers: no refusal, E, N, the codes in use and 0 up to twelve, the nodes in use, and unused
 -- nodes up to 32
 unfoldable pub kept : ℕ → ℕ → List ℕ → List (List ℕ) → List ℕ
 kept e n codes nodes =
-    0 ∷ e ∷ n ∷ (filled 12 0 codes ++ (joined nodes ++ joined (replicate (32 - length nodes) (keptNode [] []))))
+    0 ∷ e ∷ n ∷ (filled 12 0 codes ++ (nodeNumbers nodes ++ nodeNumbers (replicate (32 - length nodes) (keptNode [] []))))
 
 -- what a refused reading answers: the refusal, then 0 for E, N, twelve codes and the 29 numbers of each of 32 rows
 unfoldable pub unread : ℕ → List ℕ
@@ -189,9 +195,9 @@ lists numbers traced zeros = numbers ++ (filled 8 9 traced ++ filled 28 7 (repli
 unfoldable pub lent : ℕ → ℕ → ℕ → List ℕ
 lent refusal zeros left = refusal ∷ (replicate zeros 0 ++ replicate left 7)
 
--- the rows, each beside its answer
-unfoldable pub table : List (Case × List ℕ)
-table =
+-- 01's cases and others of the base, each beside its answer
+unfoldable pub rowsOf01 : List (Case × List ℕ)
+rowsOf01 =
     -- the reference of 01's example: two nodes, two events
     (reading exampleReference, kept 2 2 (1 ∷ 2 ∷ []) (keptNode (1 ∷ 1 ∷ []) (1 ∷ 2 ∷ []) ∷ keptNode (0 ∷ 0 ∷ []) (3 ∷ []) ∷ []))
     -- the device of 01's example: three nodes, two events
@@ -223,8 +229,8 @@ table =
     ∷ (listing (accepting (3 ∷ 5 ∷ 6 ∷ [])) 0 5, 0 ∷ 3 ∷ 3 ∷ 5 ∷ 6 ∷ 9 ∷ 9 ∷ [])
     -- 01: acceptances 0 give no probes
     ∷ (listing (accepting (0 ∷ [])) 0 5, 0 ∷ 0 ∷ 9 ∷ 9 ∷ 9 ∷ 9 ∷ 9 ∷ [])
-    -- 01: acceptances 5, 6 give probes 3, 4
-    ∷ (listing (accepting (5 ∷ 6 ∷ [])) 0 5, 0 ∷ 2 ∷ 3 ∷ 4 ∷ 9 ∷ 9 ∷ 9 ∷ [])
+    -- 02, K3: acceptances 5, 6 now give 4, 3 in place of 01's case
+    ∷ (listing (accepting (5 ∷ 6 ∷ [])) 0 5, 0 ∷ 2 ∷ 4 ∷ 3 ∷ 9 ∷ 9 ∷ 9 ∷ [])
     -- acceptances 1 give probes 1
     ∷ (listing (accepting (1 ∷ [])) 0 5, 0 ∷ 1 ∷ 1 ∷ 9 ∷ 9 ∷ 9 ∷ 9 ∷ [])
     -- acceptances 1, 6 give probes 3, 5
@@ -331,8 +337,13 @@ table =
     )
     -- opening a run for k above 1,023 is refused with 14, and its record is 0
     ∷ (running mayLoop 1024 0 false [], 14 ∷ 0 ∷ 0 ∷ 0 ∷ 0 ∷ 0 ∷ 0 ∷ 0 ∷ 0 ∷ [])
+    ∷ []
+
+-- the cases of 02's requests, each beside its answer
+unfoldable pub rowsOf02 : List (Case × List ℕ)
+rowsOf02 =
     -- 02, K5: each event added to the empty set
-    ∷ (adding 0, 1 ∷ 2 ∷ 4 ∷ 8 ∷ 16 ∷ 32 ∷ 64 ∷ 128 ∷ 256 ∷ 512 ∷ 1024 ∷ 2048 ∷ [])
+    (adding 0, 1 ∷ 2 ∷ 4 ∷ 8 ∷ 16 ∷ 32 ∷ 64 ∷ 128 ∷ 256 ∷ 512 ∷ 1024 ∷ 2048 ∷ [])
     -- 02, K5: an event that is there already changes nothing
     ∷ (
       adding 65535,
@@ -470,9 +481,52 @@ table =
     -- 02, K2: a sheet's own refusal comes before them: that of a refused reading, all 0, is 3
     ∷ (counting [] exampleDevice 2, 3 ∷ 0 ∷ 0 ∷ 0 ∷ [])
     ∷ (counting exampleReference [] 17, 3 ∷ 0 ∷ 0 ∷ 0 ∷ [])
+    -- 02, K3: a list with just the two places, and one that is one place short
+    ∷ (listing (accepting (5 ∷ 6 ∷ [])) 0 2, 0 ∷ 2 ∷ 4 ∷ 3 ∷ [])
+    ∷ (listing (accepting (5 ∷ 6 ∷ [])) 0 1, 10 ∷ 0 ∷ 9 ∷ [])
+    -- 02, K3: of four events acceptances 7, 9, 10, 12 give probes 9, 10, 12 of two events, by number, then 7 of three
+    ∷ (listing (looping 4 (7 ∷ 9 ∷ 10 ∷ 12 ∷ [])) 0 5, 0 ∷ 4 ∷ 9 ∷ 10 ∷ 12 ∷ 7 ∷ 9 ∷ [])
+    -- 02, K3: the choice h follows the new order: at a node with acceptances 5, 6 number 0 offers 4, number 1 offers 3,
+    -- and number 2 again 4; what is outside the probe is refused with 17, an event of it passes, blocked has failed
+    ∷ (
+      running (accepting (5 ∷ 6 ∷ [])) 0 0 false (Event 0 ∷ Event 2 ∷ []),
+      0 ∷ 1 ∷ 4 ∷ 17 ∷ 0 ∷ 0 ∷ 0 ∷ 4 ∷ 0 ∷ 0 ∷ 0 ∷ 0 ∷ 1 ∷ 0 ∷ 0 ∷ [],
+    )
+    ∷ (
+      running (accepting (5 ∷ 6 ∷ [])) 0 1 false (Event 2 ∷ Blocked ∷ []),
+      0 ∷ 1 ∷ 3 ∷ 17 ∷ 0 ∷ 0 ∷ 0 ∷ 3 ∷ 3 ∷ 0 ∷ 1 ∷ 0 ∷ 1 ∷ 0 ∷ 0 ∷ [],
+    )
+    ∷ (running (accepting (5 ∷ 6 ∷ [])) 0 2 false [], 0 ∷ 1 ∷ 4 ∷ 0 ∷ 2 ∷ 0 ∷ 0 ∷ 0 ∷ 0 ∷ [])
+    -- 02, K3: the refused probe that a comparison names follows the new order: a device that may stop misses both
+    -- probes, and 4 is named; one that accepts 3, 4 misses 4 by 3, and 3, which is named no more, by 4
+    ∷ (comparing (accepting (5 ∷ 6 ∷ [])) (accepting (0 ∷ [])) false, lists (0 ∷ 23 ∷ 0 ∷ 0 ∷ 0 ∷ 4 ∷ 0 ∷ []) [] 2)
+    ∷ (comparing (accepting (5 ∷ 6 ∷ [])) (accepting (3 ∷ 4 ∷ [])) false, lists (0 ∷ 23 ∷ 0 ∷ 0 ∷ 0 ∷ 4 ∷ 3 ∷ []) [] 2)
+    -- a device that accepts 4 misses 3 alone, the second in the list
+    ∷ (comparing (accepting (5 ∷ 6 ∷ [])) (accepting (4 ∷ [])) false, lists (0 ∷ 23 ∷ 0 ∷ 0 ∷ 0 ∷ 3 ∷ 4 ∷ []) [] 2)
+    -- whether a device can fail a test does not hang on the order: for each of these some choice finds the probe
+    ∷ (verdict (accepting (5 ∷ 6 ∷ [])) (accepting (3 ∷ 4 ∷ [])) 0 false, 0 ∷ 12 ∷ [])
+    ∷ (verdict (accepting (5 ∷ 6 ∷ [])) (accepting (4 ∷ [])) 0 false, 0 ∷ 12 ∷ [])
+    ∷ (verdict (accepting (5 ∷ 6 ∷ [])) (accepting (5 ∷ 6 ∷ [])) 0 false, 0 ∷ 11 ∷ [])
     ∷ []
 
+-- the whole table
+unfoldable pub table : List (Case × List ℕ)
+table = rowsOf01 ++ rowsOf02
+
+-- each of some rows answers the numbers beside it
+abbrev pub Hold : List (Case × List ℕ) → Type 0
+Hold rows = map (λ (c : Case × List ℕ). numbersOf (c .0)) rows ≡ map (λ (c : Case × List ℕ). c .1) rows
+
+-- the two parts compute one after the other, which takes less memory than the whole
+rows-01 : Hold rowsOf01
+unfolding setBytes looping accepting deviceWith keptWith pairNumbers testCount suiteFault codedReference codedDevice rowNumbers listNumbers filled keptNode nodeNumbers kept unread nodeProbes listFault listedNumbers listedOf listAfter numbersOf rowsOf01 lists lent workAfter readNumbers numbers judgedNumbers recordNumbers answersOf comparedNumbers work trace sheet exampleReference exampleDevice onlyZero onlyOne mayLoop mustLoop stopped readSheet answer bytesFault headFault lengthField layoutFault nextAt startOf succOf setsOf rowAt rowOf sheetOf graphFault rangesOk countOk countsOk successorsOk rowSuccessorsOk successorOk setsOk rowSetsOk setOk ascends noneInside blank unusedOk blanksOk reachedOk sheetFault successor acceptance acceptances initials mayStop step bit has inside meets insert setOf walk nearer leads meetsIn distance later choice leastFrom leastTrace cleared code pairNext product onCodes pairDistance pairTrace pairCleared all any first count upTo hits isProbe gather select joined size probesOf probes missing orNext firstMissing firstMissed strays hasStray firstStray covers hasRefusal violates violating allEvents outside probesAt chosen flag flagOf offerOf newRun recordOk openFault openOf endedRun eventFault reportFault movedBy answerOf stepOf failsFrom verdictFault verdictOf nearest said judged pairCount nearestTrace clearedOf lastRow refusalNamed named comparisonOf compareFault outcomeOf traceAfter compared codesFault nodesAt codeOf codesOk codeNew codesBlank sharedFault codesAgree scriptsNumbers sum beginning countFrom countOf scriptsFault scriptsOf
+rows-01 = refl
+
+rows-02 : Hold rowsOf02
+unfolding setBytes looping accepting deviceWith keptWith pairNumbers testCount suiteFault codedReference codedDevice rowNumbers listNumbers filled keptNode nodeNumbers kept unread nodeProbes listFault listedNumbers listedOf listAfter numbersOf rowsOf02 lists lent workAfter readNumbers numbers judgedNumbers recordNumbers answersOf comparedNumbers work trace sheet exampleReference exampleDevice onlyZero onlyOne mayLoop mustLoop stopped readSheet answer bytesFault headFault lengthField layoutFault nextAt startOf succOf setsOf rowAt rowOf sheetOf graphFault rangesOk countOk countsOk successorsOk rowSuccessorsOk successorOk setsOk rowSetsOk setOk ascends noneInside blank unusedOk blanksOk reachedOk sheetFault successor acceptance acceptances initials mayStop step bit has inside meets insert setOf walk nearer leads meetsIn distance later choice leastFrom leastTrace cleared code pairNext product onCodes pairDistance pairTrace pairCleared all any first count upTo hits isProbe gather select joined size probesOf probes missing orNext firstMissing firstMissed strays hasStray firstStray covers hasRefusal violates violating allEvents outside probesAt chosen flag flagOf offerOf newRun recordOk openFault openOf endedRun eventFault reportFault movedBy answerOf stepOf failsFrom verdictFault verdictOf nearest said judged pairCount nearestTrace clearedOf lastRow refusalNamed named comparisonOf compareFault outcomeOf traceAfter compared codesFault nodesAt codeOf codesOk codeNew codesBlank sharedFault codesAgree scriptsNumbers sum beginning countFrom countOf scriptsFault scriptsOf
+rows-02 = refl
+
 -- every row answers what 01 and 02 say
-pub cases-hold : map (λ (c : Case × List ℕ). numbersOf (c .0)) table ≡ map (λ (c : Case × List ℕ). c .1) table
-unfolding setBytes accepting deviceWith keptWith pairNumbers testCount suiteFault codedReference codedDevice rowNumbers listNumbers filled keptNode joined kept unread nodeProbes listFault listedNumbers listedOf listAfter numbersOf table lists lent workAfter readNumbers numbers judgedNumbers recordNumbers answersOf comparedNumbers work trace sheet exampleReference exampleDevice onlyZero onlyOne mayLoop mustLoop stopped readSheet answer bytesFault headFault lengthField layoutFault nextAt startOf succOf setsOf rowAt rowOf sheetOf graphFault rangesOk countOk countsOk successorsOk rowSuccessorsOk successorOk setsOk rowSetsOk setOk ascends noneInside blank unusedOk blanksOk reachedOk sheetFault successor acceptance acceptances initials mayStop step bit has inside meets insert setOf walk nearer leads meetsIn distance later choice leastFrom leastTrace cleared code pairNext product onCodes pairDistance pairTrace pairCleared all any first count upTo hits isProbe gather select probes missing orNext firstMissing firstMissed strays hasStray firstStray covers hasRefusal violates violating allEvents outside probesAt chosen flag flagOf offerOf newRun recordOk openFault openOf endedRun eventFault reportFault movedBy answerOf stepOf failsFrom verdictFault verdictOf nearest said judged pairCount nearestTrace clearedOf lastRow refusalNamed named comparisonOf compareFault outcomeOf traceAfter compared codesFault nodesAt codeOf codesOk codeNew codesBlank sharedFault codesAgree scriptsNumbers sum beginning countFrom countOf scriptsFault scriptsOf
-cases-hold = refl
+pub cases-hold : Hold table
+unfolding table
+cases-hold = map-append _ rowsOf01 rowsOf02 ∙ ap₂ _++_ rows-01 rows-02 ∙ sym (map-append _ rowsOf01 rowsOf02)

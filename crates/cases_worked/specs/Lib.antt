@@ -1,3 +1,3 @@
 pub mod Runs
-pub mod Text
 pub mod Nodes
+pub mod Text

@@ -6,17 +6,20 @@ use mathlib.Core.List.{[], _∷_}
 use Prim.Native.Nat.{ℕ, _<_}
 use native.Mathlib.Omega.{arith}
 use Rattle.base.specs.Range.{all, any}
+use Rattle.base.specs.Count.{count}
 use Rattle.base.specs.Table.{upTo}
 use Rattle.base.specs.Gather.{gather, select}
+use Rattle.base.specs.Joined.{joined}
 use Rattle.events.specs.Bit.{bit, setOf}
 use Rattle.events.specs.Sets.{has, inside, meets, meets-not}
+use Rattle.events.specs.Size.{size}
 use Rattle.walks.specs.Reach.{nearer, leads}
 use Rattle.sheet_spec.specs.Kept.{successor, acceptance, acceptances, initials, mayStop, step}
 use Rattle.sheet_spec.specs.Rules.{rangesOk, countOk, countsOk, successorsOk, rowSuccessorsOk, successorOk, setsOk, rowSetsOk, setOk, ascends, noneInside, blank, unusedOk, blanksOk, reachedOk, codeNew, codesBlank, codesOk}
 use Rattle.sheet_spec.specs.Refusals.{headFault, layoutFault, graphFault, bytesFault, sheetFault, codesFault}
 use Rattle.sheet_spec.specs.Reading.{readSheet, answer}
 use Rattle.sheet_spec.specs.Spelling.{lengthField, nextAt, startOf, succOf, setsOf, rowAt, rowOf, sheetOf, codeOf, nodesAt}
-use Rattle.probes_spec.specs.Probes.{hits, isProbe, probes}
+use Rattle.probes_spec.specs.Probes.{hits, isProbe, probesOf, probes}
 use Rattle.tests_spec.specs.declared.Report.the-variants.{Event, Blocked}
 use Rattle.tests_spec.specs.Flags.{flag, flagOf}
 use Rattle.tests_spec.specs.Runs.{allEvents, outside, probesAt, chosen, offerOf, newRun, openFault, openOf, recordOk, eventFault, reportFault, movedBy, endedRun, answerOf, stepOf}
@@ -34,7 +37,7 @@ some a = (omega arith, a)
 -- the device of 01's example fails test 5: with choice number 1 it does event 0 five times, is then offered only event
 -- 1, and blocks
 pub example-fails : FailsTest false (sheet exampleReference) (sheet exampleDevice) 5
-unfolding sheet exampleReference exampleDevice readSheet answer bytesFault headFault lengthField layoutFault nextAt startOf succOf setsOf rowAt rowOf sheetOf graphFault rangesOk countOk countsOk successorsOk rowSuccessorsOk successorOk setsOk rowSetsOk setOk ascends noneInside blank unusedOk blanksOk reachedOk sheetFault successor acceptance acceptances initials mayStop bit has inside meets setOf nearer leads all any upTo hits isProbe gather select probes allEvents outside probesAt chosen flag flagOf offerOf newRun recordOk openFault openOf endedRun eventFault reportFault movedBy answerOf stepOf step CanReport Failed deviceAfter EndsFailed codesFault nodesAt codeOf codesOk codeNew codesBlank
+unfolding sheet exampleReference exampleDevice readSheet answer bytesFault headFault lengthField layoutFault nextAt startOf succOf setsOf rowAt rowOf sheetOf graphFault rangesOk countOk countsOk successorsOk rowSuccessorsOk successorOk setsOk rowSetsOk setOk ascends noneInside blank unusedOk blanksOk reachedOk sheetFault successor acceptance acceptances initials mayStop bit has inside meets setOf nearer leads all any upTo hits isProbe gather select joined size count probesOf probes allEvents outside probesAt chosen flag flagOf offerOf newRun recordOk openFault openOf endedRun eventFault reportFault movedBy answerOf stepOf step CanReport Failed deviceAfter EndsFailed codesFault nodesAt codeOf codesOk codeNew codesBlank
 example-fails = (
   1,
   omega arith,
