@@ -1,5 +1,5 @@
 -- Nothing to believe: for the programs of cases. The sheets that the Run programs name are accepted, no other number
--- names one, and the change for a refusal deserves it, that for 19 beside the sheet as it was. (The three sheets of 12
+-- names one, and the change for a refusal deserves it, that for 19 beside the sheet as it was. (The five sheets of 12
 -- events are left out: to compute with them takes too much memory; that they are accepted is seen when the programs
 -- run.)
 use mathlib.Core.Path.{_≡_, refl, _∙_}
@@ -18,15 +18,15 @@ use Rattle.sheet_spec.specs.AnswerLaws.{read-refusal, read-kept}
 use Rattle.sheet_spec.specs.Spelling.{lengthField, nextAt, startOf, succOf, setsOf, rowAt, rowOf, sheetOf, codeOf, nodesAt}
 use Rattle.sheet_spec.specs.Examples.{exampleReference, exampleDevice, codedReference, codedDevice, onlyZero, onlyOne, mayLoop, mustLoop, stopped}
 use Rattle.sheet_spec.specs.declared.Sheet.{Sheet}
-use Rattle.cases_samples.specs.Samples.{leadsToEnd, smallBytes, sixteenPairs, sixteenOthers, fourTriples, leadsBack, loopsOnBoth, sampleBytes, sampleOf, withNewNode, withCount, withRow, withCode, changedTo}
+use Rattle.cases_samples.specs.Samples.{leadsToEnd, smallBytes, smallProbeFirst, missesBoth, missesSecond, missesAll, smallProbeLater, missesLater, lastWithEach, eachAlone, orderedBytes, sixteenPairs, sixteenOthers, fourTriples, leadsBack, loopsOnBoth, sampleBytes, sampleOf, withNewNode, withCount, withRow, withCode, changedTo}
 
 -- the refusal of each of the sheets as it is read, 0 for none
 unfoldable pub faults : List ℕ
-faults = map (λ w. bytesFault (sampleBytes w)) (1 ∷ 2 ∷ 3 ∷ 4 ∷ 5 ∷ 6 ∷ 7 ∷ 8 ∷ 12 ∷ 13 ∷ 16 ∷ 17 ∷ [])
+faults = map (λ w. bytesFault (sampleBytes w)) (1 ∷ 2 ∷ 3 ∷ 4 ∷ 5 ∷ 6 ∷ 7 ∷ 8 ∷ 12 ∷ 13 ∷ 16 ∷ 17 ∷ 20 ∷ 21 ∷ 22 ∷ 23 ∷ 24 ∷ 25 ∷ [])
 
 -- the refusal of what no number names
 unfoldable pub unnamedFaults : List ℕ
-unnamedFaults = map (λ w. sheetFault (sampleOf w)) (0 ∷ 14 ∷ 15 ∷ 18 ∷ [])
+unnamedFaults = map (λ w. sheetFault (sampleOf w)) (0 ∷ 14 ∷ 15 ∷ 18 ∷ 19 ∷ 28 ∷ [])
 
 -- the refusals of a sheet that is changed for 0, 3, 5, 6, 7, 8, 18 and 19
 unfoldable pub changedFaults : ℕ → List ℕ
@@ -44,11 +44,11 @@ sharedFaults =
 
 -- the sheets are read without refusal, and those that are changed get the refusal that they deserve
 pub samples-hold :
-    (faults ≡ 0 ∷ 0 ∷ 0 ∷ 0 ∷ 0 ∷ 0 ∷ 0 ∷ 0 ∷ 0 ∷ 0 ∷ 0 ∷ 0 ∷ [])
-    × (unnamedFaults ≡ 3 ∷ 3 ∷ 3 ∷ 3 ∷ [])
+    (faults ≡ 0 ∷ 0 ∷ 0 ∷ 0 ∷ 0 ∷ 0 ∷ 0 ∷ 0 ∷ 0 ∷ 0 ∷ 0 ∷ 0 ∷ 0 ∷ 0 ∷ 0 ∷ 0 ∷ 0 ∷ 0 ∷ [])
+    × (unnamedFaults ≡ 3 ∷ 3 ∷ 3 ∷ 3 ∷ 3 ∷ 3 ∷ [])
     × (changedFaults 1 ≡ 0 ∷ 3 ∷ 5 ∷ 6 ∷ 7 ∷ 8 ∷ 18 ∷ 0 ∷ [])
     × (sharedFaults ≡ 19 ∷ 0 ∷ 19 ∷ 19 ∷ 19 ∷ [])
-unfolding faults unnamedFaults changedFaults shared sharedFaults changedTo withCode codedReference codedDevice sharedFault codesAgree withNewNode withCount withRow sampleOf sampleBytes smallBytes leadsToEnd sixteenPairs sixteenOthers fourTriples leadsBack loopsOnBoth exampleReference exampleDevice onlyZero onlyOne mayLoop mustLoop stopped readSheet answer bytesFault headFault lengthField layoutFault nextAt startOf succOf setsOf rowAt rowOf sheetOf graphFault rangesOk countOk countsOk successorOk rowSuccessorsOk successorsOk ascends noneInside setOk rowSetsOk setsOk blank unusedOk blanksOk reachedOk sheetFault successor acceptance initials step bit setOf has inside nearer leads all any upTo codesFault nodesAt codeOf codesOk codeNew codesBlank
+unfolding faults unnamedFaults changedFaults shared sharedFaults changedTo withCode codedReference codedDevice sharedFault codesAgree withNewNode withCount withRow sampleOf sampleBytes smallBytes leadsToEnd smallProbeFirst missesBoth missesSecond missesAll smallProbeLater missesLater lastWithEach eachAlone orderedBytes sixteenPairs sixteenOthers fourTriples leadsBack loopsOnBoth exampleReference exampleDevice onlyZero onlyOne mayLoop mustLoop stopped readSheet answer bytesFault headFault lengthField layoutFault nextAt startOf succOf setsOf rowAt rowOf sheetOf graphFault rangesOk countOk countsOk successorOk rowSuccessorsOk successorsOk ascends noneInside setOk rowSetsOk setsOk blank unusedOk blanksOk reachedOk sheetFault successor acceptance initials step bit setOf has inside nearer leads all any upTo codesFault nodesAt codeOf codesOk codeNew codesBlank
 samples-hold = (refl, refl, refl, refl)
 
 -- a sheet that is read without refusal is accepted by every call

@@ -27,6 +27,50 @@ smallBytes which =
     (cond (eqb which 7) mustLoop
     (cond (eqb which 8) leadsToEnd [])))))))
 
+-- one node that loops on three events, with the acceptances 5 and 6, whose probes are 4 and 3
+unfoldable pub smallProbeFirst : List ℕ
+smallProbeFirst = 0 ∷ 0 ∷ 0 ∷ 11 ∷ 1 ∷ 3 ∷ 1 ∷ 0 ∷ 0 ∷ 0 ∷ 2 ∷ 0 ∷ 5 ∷ 0 ∷ 6 ∷ []
+
+-- the same with the acceptances 3 and 4, one of which misses the first of these probes, the other the second
+unfoldable pub missesBoth : List ℕ
+missesBoth = 0 ∷ 0 ∷ 0 ∷ 11 ∷ 1 ∷ 3 ∷ 1 ∷ 0 ∷ 0 ∷ 0 ∷ 2 ∷ 0 ∷ 3 ∷ 0 ∷ 4 ∷ []
+
+-- the same with the acceptance 4, which misses only the second
+unfoldable pub missesSecond : List ℕ
+missesSecond = 0 ∷ 0 ∷ 0 ∷ 9 ∷ 1 ∷ 3 ∷ 1 ∷ 0 ∷ 0 ∷ 0 ∷ 1 ∷ 0 ∷ 4 ∷ []
+
+-- the same with the acceptance 0, which misses every probe
+unfoldable pub missesAll : List ℕ
+missesAll = 0 ∷ 0 ∷ 0 ∷ 9 ∷ 1 ∷ 3 ∷ 1 ∷ 0 ∷ 0 ∷ 0 ∷ 1 ∷ 0 ∷ 0 ∷ []
+
+-- two nodes and four events: event 0 leads to a node that loops on three, with the acceptances 5 and 6
+unfoldable pub smallProbeLater : List ℕ
+smallProbeLater = 0 ∷ 0 ∷ 0 ∷ 19 ∷ 1 ∷ 4 ∷ 2 ∷ 1 ∷ 255 ∷ 255 ∷ 255 ∷ 1 ∷ 0 ∷ 1 ∷ 1 ∷ 1 ∷ 1 ∷ 255 ∷ 2 ∷ 0 ∷ 5 ∷ 0 ∷ 6 ∷ []
+
+-- the same with the acceptances 3 and 4
+unfoldable pub missesLater : List ℕ
+missesLater = 0 ∷ 0 ∷ 0 ∷ 19 ∷ 1 ∷ 4 ∷ 2 ∷ 1 ∷ 255 ∷ 255 ∷ 255 ∷ 1 ∷ 0 ∷ 1 ∷ 1 ∷ 1 ∷ 1 ∷ 255 ∷ 2 ∷ 0 ∷ 3 ∷ 0 ∷ 4 ∷ []
+
+-- one node that loops on 12 events, with each of the first eleven beside the last as acceptances
+unfoldable pub lastWithEach : List ℕ
+lastWithEach = 0 ∷ 0 ∷ 0 ∷ 38 ∷ 1 ∷ 12 ∷ 1 ∷ 0 ∷ 0 ∷ 0 ∷ 0 ∷ 0 ∷ 0 ∷ 0 ∷ 0 ∷ 0 ∷ 0 ∷ 0 ∷ 0 ∷ 11 ∷ 8 ∷ 1 ∷ 8 ∷ 2 ∷ 8 ∷ 4 ∷ 8 ∷ 8 ∷ 8 ∷ 16 ∷ 8 ∷ 32 ∷ 8 ∷ 64 ∷ 8 ∷ 128 ∷ 9 ∷ 0 ∷ 10 ∷ 0 ∷ 12 ∷ 0 ∷ []
+
+-- one node that loops on 12 events, with each event alone as acceptances
+unfoldable pub eachAlone : List ℕ
+eachAlone = 0 ∷ 0 ∷ 0 ∷ 40 ∷ 1 ∷ 12 ∷ 1 ∷ 0 ∷ 0 ∷ 0 ∷ 0 ∷ 0 ∷ 0 ∷ 0 ∷ 0 ∷ 0 ∷ 0 ∷ 0 ∷ 0 ∷ 12 ∷ 0 ∷ 1 ∷ 0 ∷ 2 ∷ 0 ∷ 4 ∷ 0 ∷ 8 ∷ 0 ∷ 16 ∷ 0 ∷ 32 ∷ 0 ∷ 64 ∷ 0 ∷ 128 ∷ 1 ∷ 0 ∷ 2 ∷ 0 ∷ 4 ∷ 0 ∷ 8 ∷ 0 ∷ []
+
+-- the bytes of the sheets whose probes show their order, and of the small ones
+unfoldable pub orderedBytes : ℕ → List ℕ
+orderedBytes which =
+    cond (eqb which 20) smallProbeFirst
+    (cond (eqb which 21) missesBoth
+    (cond (eqb which 22) missesSecond
+    (cond (eqb which 23) missesAll
+    (cond (eqb which 24) smallProbeLater
+    (cond (eqb which 25) missesLater
+    (cond (eqb which 26) lastWithEach
+    (cond (eqb which 27) eachAlone (smallBytes which))))))))
+
 -- one node that loops on 12 events, with sixteen pairs of events as acceptances
 unfoldable pub sixteenPairs : List ℕ
 sixteenPairs = 0 ∷ 0 ∷ 0 ∷ 48 ∷ 1 ∷ 12 ∷ 1 ∷ 0 ∷ 0 ∷ 0 ∷ 0 ∷ 0 ∷ 0 ∷ 0 ∷ 0 ∷ 0 ∷ 0 ∷ 0 ∷ 0 ∷ 16 ∷ 0 ∷ 3 ∷ 0 ∷ 5 ∷ 0 ∷ 6 ∷ 0 ∷ 9 ∷ 0 ∷ 10 ∷ 0 ∷ 12 ∷ 0 ∷ 17 ∷ 0 ∷ 18 ∷ 0 ∷ 20 ∷ 0 ∷ 24 ∷ 0 ∷ 33 ∷ 0 ∷ 34 ∷ 0 ∷ 36 ∷ 0 ∷ 40 ∷ 0 ∷ 48 ∷ 0 ∷ 65 ∷ []
@@ -47,7 +91,7 @@ leadsBack = 0 ∷ 0 ∷ 0 ∷ 13 ∷ 1 ∷ 2 ∷ 2 ∷ 0 ∷ 1 ∷ 1 ∷ 0 ∷ 1
 unfoldable pub loopsOnBoth : List ℕ
 loopsOnBoth = 0 ∷ 0 ∷ 0 ∷ 8 ∷ 1 ∷ 2 ∷ 1 ∷ 0 ∷ 0 ∷ 1 ∷ 0 ∷ 1 ∷ []
 
--- the bytes of all sheets, the small ones among them
+-- the bytes of all sheets, with those whose probes show their order and the small ones
 unfoldable pub sampleBytes : ℕ → List ℕ
 sampleBytes which =
     cond (eqb which 9) sixteenPairs
@@ -56,7 +100,7 @@ sampleBytes which =
     (cond (eqb which 12) leadsBack
     (cond (eqb which 13) loopsOnBoth
     (cond (eqb which 16) codedReference
-    (cond (eqb which 17) codedDevice (smallBytes which)))))))
+    (cond (eqb which 17) codedDevice (orderedBytes which)))))))
 
 -- the sheet that a number names
 unfoldable pub sampleOf : ℕ → Sheet

@@ -2,7 +2,7 @@
 // own or, 19, beside a sheet with its codes.
 ghost use mathlib.Core.Path.{_≡_};
 ghost use Rattle.sheet_spec.specs.Reading.{readSheet};
-ghost use Rattle.cases_samples.specs.Samples.{smallBytes, sampleBytes, withNewNode, withCode, changedTo, sampleOf};
+ghost use Rattle.cases_samples.specs.Samples.{smallBytes, orderedBytes, sampleBytes, withNewNode, withCode, changedTo, sampleOf};
 use sheet_spec::Sheet;
 
 // The sheet of these bytes, of zeros if they are refused.
@@ -34,11 +34,41 @@ fn small_sample(which: u16) -> Sheet
     }
 }
 
+// The sheets whose probes show the order of a probe list. One node that loops on three events: 20 with the acceptances
+// 5, 6, so that the probe 4, of one event, comes before 3, of two; 21 with 3, 4; 22 with 4; 23 with 0. Of four events,
+// 24 goes on event 0 to a node like 20's, which has no successor on event 3, and 25 to one like 21's. One node that
+// loops on 12 events: 26 with eleven acceptances, each of the events 0 to 10 with event 11, so that the probes are 2048
+// and 2047; 27 with twelve, each event alone, so that all events are the one probe. Else a small sheet.
+fn ordered_sample(which: u16) -> Sheet
+    ensures { λ r. ⌜ r ≡ readSheet (orderedBytes which) .sheet ⌝ }
+{
+    match which {
+        20 => kept(b"\x00\x00\x00\x0B\x01\x03\x01\x00\x00\x00\x02\x00\x05\x00\x06"),
+        21 => kept(b"\x00\x00\x00\x0B\x01\x03\x01\x00\x00\x00\x02\x00\x03\x00\x04"),
+        22 => kept(b"\x00\x00\x00\x09\x01\x03\x01\x00\x00\x00\x01\x00\x04"),
+        23 => kept(b"\x00\x00\x00\x09\x01\x03\x01\x00\x00\x00\x01\x00\x00"),
+        24 => kept(
+            b"\x00\x00\x00\x13\x01\x04\x02\x01\xFF\xFF\xFF\x01\x00\x01\x01\x01\x01\xFF\x02\x00\x05\x00\x06",
+        ),
+        25 => kept(
+            b"\x00\x00\x00\x13\x01\x04\x02\x01\xFF\xFF\xFF\x01\x00\x01\x01\x01\x01\xFF\x02\x00\x03\x00\x04",
+        ),
+        26 => kept(
+            b"\x00\x00\x00\x26\x01\x0C\x01\x00\x00\x00\x00\x00\x00\x00\x00\x00\x00\x00\x00\x0B\x08\x01\x08\x02\x08\x04\x08\x08\x08\x10\x08\x20\x08\x40\x08\x80\x09\x00\x0A\x00\x0C\x00",
+        ),
+        27 => kept(
+            b"\x00\x00\x00\x28\x01\x0C\x01\x00\x00\x00\x00\x00\x00\x00\x00\x00\x00\x00\x00\x0C\x00\x01\x00\x02\x00\x04\x00\x08\x00\x10\x00\x20\x00\x40\x00\x80\x01\x00\x02\x00\x04\x00\x08\x00",
+        ),
+        _ => small_sample(which),
+    }
+}
+
 // One node that loops on 12 events: 9 with the sixteen acceptances 3, 5, 6, 9, 10, 12, 17, 18, 20, 24, 33, 34, 36, 40,
 // 48, 65; 10 with 3, 5, 6, 9, 10, 12, 257, 258, 260, 264, 513, 514, 1025, 1026, 2049, 3072; 11 with 7, 56, 448, 3584.
 // Of two events, 12 loops on event 0 and goes on event 1 to a node that has only event 0, which leads back; 13 loops on
-// both. 16 and 17 are 01's reference and device in version 2, with the codes 257 and 258, and 1 and 2. Else a small
-// sheet. (The numbers 14 and 15, and those from 18 on, are left to the programs.)
+// both. 16 and 17 are 01's reference and device in version 2, with the codes 257 and 258, and 1 and 2. Else a sheet
+// that shows the order, or a small one. (The numbers 14, 15, 18 and 19, and those from 28 on, are left to the
+// programs.)
 fn some_sample(which: u16) -> Sheet
     ensures { λ r. ⌜ r ≡ readSheet (sampleBytes which) .sheet ⌝ }
 {
@@ -60,7 +90,7 @@ fn some_sample(which: u16) -> Sheet
         17 => kept(
             b"\x00\x00\x00\x16\x02\x02\x03\x00\x01\x00\x02\x01\x01\x01\x00\x03\x02\x02\x01\x00\x03\x00\xFF\x01\x00\x01",
         ),
-        _ => small_sample(which),
+        _ => ordered_sample(which),
     }
 }
 

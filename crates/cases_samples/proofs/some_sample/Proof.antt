@@ -48,8 +48,8 @@ slice-aggregate-kept-7 c = omega arith
 kept-requires-7 : tie.Need-kept-requires-7
 kept-requires-7 c κs = tt
 
-small-sample-requires : tie.Need-small-sample-requires
-small-sample-requires c κs = tt
+ordered-sample-requires : tie.Need-ordered-sample-requires
+ordered-sample-requires c κs = tt
 
 returns : tie.Need-returns
 unfolding sampleBytes sixteenPairs
@@ -92,7 +92,7 @@ returns-8 c =
       ne-eqb x 13 (λ e. n .0 .0 .1 e),
       ne-eqb x 16 (λ e. n .0 .1 e),
       ne-eqb x 17 (λ e. n .1 e),
-    ) (c .small-sample .ensures)
+    ) (c .ordered-sample .ensures)
 
 pub some-sample-spec : {M : Type 1} → statement M
 some-sample-spec =
@@ -112,7 +112,7 @@ some-sample-spec =
     kept-requires-6
     slice-aggregate-kept-7
     kept-requires-7
-    small-sample-requires
+    ordered-sample-requires
     returns
     returns-2
     returns-3
