@@ -1,17 +1,18 @@
-// The Run cases of the two calls that are lent lists (01, "Probes", "A comparison", refusals 9 to 13; 02, K1, K7). Each
-// line of standard input is a case: its name, a colon, and numbers, of which the first says what is called:
+// The Run cases of the two calls that are lent lists (01, "Probes", "A comparison", refusals 9 to 13; 02, K1, K3, K7).
+// Each line of standard input is a case: its name, a colon, and numbers, of which the first says what is called:
 //   1, sheet, node len                    the probe list, with len places
 //   2, sheet, sheet, traces words places  the comparison, with a work list and a trace list of these lengths
 //   3, sheet, sheet, traces words places  the comparison, with long lists of these lengths
+//   4, sheet, node len                    the probe list, with len places, of which each is written
 // A sheet is two numbers: which one, and which refusal it is changed to deserve, 0 for none. Sheets 14 and 15, of 32
 // nodes, are made here and are not changed; the others are those of `cases_samples`. Numbers that are not there count
 // as 0. The lists are parts of 128 places, long ones of 3,200 words and of 1,152 bytes, enough for 32 x 32 pairs. All
 // places hold the highest number before the call.
 // Each case writes its name and its answer. A refusal is `denied` and the number. The probe list gives the count, the
-// first and the last probe and the sum of all; then comes how many of the 128 places are as before. A comparison gives
-// `refines` and cleared, or `stray` with d, cleared and the event, or `refusal` with d, cleared, the probe and the
-// acceptance; then come the trace, how many places of trace are as before, and how many words of work are 0 and how
-// many are as before.
+// first and the last probe and the sum of all, or, by 4, the count and, after a refusal too, what each of the len
+// places then holds; then comes how many of the 128 places are as before. A comparison gives `refines` and cleared, or
+// `stray` with d, cleared and the event, or `refusal` with d, cleared, the probe and the acceptance; then come the
+// trace, how many places of trace are as before, and how many words of work are 0 and how many are as before.
 ghost use Prim.Native.Nat.{_≤_};
 use cases_lines::Line;
 use comparison_spec::Outcome;
@@ -144,7 +145,13 @@ fn say_ends(list: [u16; 128], n: usize) {
     }
 }
 
-// Writes the answer of a probe call.
+// Writes how many of 128 places are as before.
+fn say_left(list: [u16; 128]) {
+    cases_lines::say(b", left");
+    cases_lines::say_count(holding(&list, 65535));
+}
+
+// Writes the answer of a probe call: of its list the first and the last probe and the sum.
 fn say_listed(a: Listed, list: [u16; 128]) {
     match a {
         Listed::Count(m) => {
@@ -156,8 +163,32 @@ fn say_listed(a: Listed, list: [u16; 128]) {
         }
         Listed::Denied(x) => cases_lines::say_denied(x),
     }
-    cases_lines::say(b", left");
-    cases_lines::say_count(holding(&list, 65535));
+    say_left(list);
+}
+
+// Writes the first n places of a list.
+fn say_places(list: [u16; 128], n: usize)
+    requires { ⌜ n ≤ 128 ⌝ }
+{
+    for i in 0..n {
+        cases_lines::say_number(list[i]);
+    }
+}
+
+// Writes the answer of a probe call: of its list the n places that were lent.
+fn say_whole(a: Listed, list: [u16; 128], n: usize)
+    requires { ⌜ n ≤ 128 ⌝ }
+{
+    match a {
+        Listed::Count(m) => {
+            cases_lines::say(b" count");
+            cases_lines::say_number(m);
+        }
+        Listed::Denied(x) => cases_lines::say_denied(x),
+    }
+    cases_lines::say(b", places");
+    say_places(list, n);
+    say_left(list);
 }
 
 // Lists the probes of the node that a line names.
@@ -167,7 +198,11 @@ fn list_probes(line: Line) {
     let n = length(line, 4, 128);
     let mut list = [65535u16; 128];
     let a = probes::list(s, node, &mut list[..n]);
-    say_listed(a, list);
+    if cases_lines::number(line, 0) == 4 {
+        say_whole(a, list, n);
+    } else {
+        say_listed(a, list);
+    }
 }
 
 // ---- comparison
@@ -268,7 +303,7 @@ fn compare_long(line: Line) {
 // Answers a line.
 fn answer(line: Line) {
     match cases_lines::number(line, 0) {
-        1 => list_probes(line),
+        1 | 4 => list_probes(line),
         3 => compare_long(line),
         _ => compare_sheets(line),
     }

@@ -23,11 +23,20 @@ slice-aggregate-list c = sym (length-take-le _ _ (search needs))
 list-requires : tie.Need-list-requires
 list-requires c κs = tt
 
+number-requires : tie.Need-number-requires
+number-requires c κs = tt
+
+say-whole-requires : tie.Need-say-whole-requires
+say-whole-requires c κs = search needs
+
 say-listed-requires : tie.Need-say-listed-requires
 say-listed-requires c κs = tt
 
 returns : tie.Need-returns
 returns c = tt
+
+returns-2 : tie.Need-returns-2
+returns-2 c = tt
 
 pub list-probes-spec : {M : Type 1} → statement M
 list-probes-spec =
@@ -39,5 +48,8 @@ list-probes-spec =
     array-borrow-prefix-list
     slice-aggregate-list
     list-requires
+    number-requires
+    say-whole-requires
     say-listed-requires
-    returns)
+    returns
+    returns-2)
