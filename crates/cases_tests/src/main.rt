@@ -1,5 +1,5 @@
-// The Run cases of tests (01, "Test k and a live run", refusals 9 to 11 and 14 to 17; 02, K1). Each line of standard
-// input is a case: its name, a colon, and numbers, of which the first says what is called:
+// The Run cases of tests (01, "Test k and a live run", refusals 9 to 11 and 14 to 17; 02, K1, K3). Each line of
+// standard input is a case: its name, a colon, and numbers, of which the first says what is called:
 //   1, sheet, k h traces                           a test is opened
 //   2, sheet, k h traces ended node depth, report  a report on that record
 //   3, sheet, k h traces, reports                  a test is opened, and each report is made
