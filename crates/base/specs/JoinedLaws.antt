@@ -1,5 +1,5 @@
--- Nothing to believe: laws. Lists one after another: the same lists, how long they are together, what stands at which
--- place, and where.
+-- Nothing to believe: laws. Lists one after another: the same lists, how long they are together, and which element of
+-- which list stands at which place.
 use mathlib.Core.Path.{_≡_, refl, ap, _∙_}
 use mathlib.Core.Logic.{_⊎_, inl, inr}
 use mathlib.Core.List.{List, _++_}
@@ -33,7 +33,7 @@ module _ (f : ℕ → List ℕ) where
   unfolding joined
   joined-more n = length-append (joined f n) (f n)
 
-  -- the first lists are the front of all
+  -- fewer lists are together no longer
   pub joined-mono : (n m : ℕ) → n ≤ m → length (joined f n) ≤ length (joined f m)
   joined-mono n m h = le-ind (λ (k : ℕ). length (joined f n) ≤ length (joined f k)) (le-refl _) (λ k (u : n ≤ k) e. omega (arith, e, joined-more k)) m h
 

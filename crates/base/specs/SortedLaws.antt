@@ -7,11 +7,11 @@ use native.Mathlib.Omega.{arith}
 use lib.ListN.{length, getD}
 use Rattle.base.specs.Sorted.{In, Sorted}
 
-module _ (before : ℕ → ℕ → Type 0) (never : (a : ℕ) → ¬ before a a) (through : (a b c : ℕ) → before a b → before b c → before a c) where
-  -- a list in a strict order has nothing twice
-  pub sorted-once : (l : List ℕ) → Sorted before l → (x y : ℕ) → x < y → y < length l → ¬ (getD l x 0 ≡ getD l y 0)
-  sorted-once l s x y k h e = never (getD l y 0) (rw e at (s x y k h))
+-- a list in an order in which nothing comes before itself has nothing twice
+pub sorted-once : (before : ℕ → ℕ → Type 0) → ((a : ℕ) → ¬ before a a) → (l : List ℕ) → Sorted before l → (x y : ℕ) → x < y → y < length l → ¬ (getD l x 0 ≡ getD l y 0)
+sorted-once before never l s x y k h e = never (getD l y 0) (rw e at (s x y k h))
 
+module _ (before : ℕ → ℕ → Type 0) (never : (a : ℕ) → ¬ before a a) (through : (a b c : ℕ) → before a b → before b c → before a c) where
   -- the rest of a list in an order is in that order
   rest : (a : ℕ) (l : List ℕ) → Sorted before (a ∷ l) → Sorted before l
   rest a l s x y k h = s (suc x) (suc y) (omega arith) (omega arith)

@@ -503,7 +503,7 @@ rowsOf02 =
     ∷ (comparing (accepting (5 ∷ 6 ∷ [])) (accepting (3 ∷ 4 ∷ [])) false, lists (0 ∷ 23 ∷ 0 ∷ 0 ∷ 0 ∷ 4 ∷ 3 ∷ []) [] 2)
     -- a device that accepts 4 misses 3 alone, the second in the list
     ∷ (comparing (accepting (5 ∷ 6 ∷ [])) (accepting (4 ∷ [])) false, lists (0 ∷ 23 ∷ 0 ∷ 0 ∷ 0 ∷ 3 ∷ 4 ∷ []) [] 2)
-    -- whether a device can fail a test does not hang on the order: for each of these some choice finds the probe
+    -- whether a device can fail a test does not hang on the order: two fail by some choice, the sheet itself passes
     ∷ (verdict (accepting (5 ∷ 6 ∷ [])) (accepting (3 ∷ 4 ∷ [])) 0 false, 0 ∷ 12 ∷ [])
     ∷ (verdict (accepting (5 ∷ 6 ∷ [])) (accepting (4 ∷ [])) 0 false, 0 ∷ 12 ∷ [])
     ∷ (verdict (accepting (5 ∷ 6 ∷ [])) (accepting (5 ∷ 6 ∷ [])) 0 false, 0 ∷ 11 ∷ [])

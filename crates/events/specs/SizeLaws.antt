@@ -1,5 +1,5 @@
 -- Nothing to believe: laws. The size of a set is how many events it has, as a list of them; it is the number of its
--- binary ones, which the machine counts, and a set of k events has at most k.
+-- binary ones, which the machine counts, and a set of events below k has at most k.
 use mathlib.Core.Path.{_≡_, refl, sym, ap, _∙_}
 use mathlib.Core.Logic.{_⊎_, inl, inr}
 use mathlib.Core.Bool.{true, false, cond}
@@ -50,7 +50,7 @@ pub size-ones : (X : ℕ) → X < 65536 → ones X ≡ size X
 unfolding size
 size-ones X l = count-ones 16 X l
 
--- a set of k events has at most k
+-- a set of events below k has at most k
 pub size-few : (k X : ℕ) → X < 2 ^ k → size X ≤ k
 unfolding size
 size-few k X h = go (lt-or-ge k 16)

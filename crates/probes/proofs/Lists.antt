@@ -19,7 +19,7 @@ use Rattle.probes_spec.specs.declared.Listed.{Listed}
 use Rattle.probes_spec.specs.declared.Listed.the-variants.{Count, Denied}
 use Rattle.probes_spec.specs.Probes.{probes}
 use Rattle.probes_spec.specs.ProbeLaws.{probes-most}
-use Rattle.probes_spec.specs.Shapes.{ascending, ofSize}
+use Rattle.probes_spec.specs.Shapes.{probesByNumber, ofSize}
 use Rattle.probes_spec.specs.ShapeLaws.{sized-probes, found-count}
 use Rattle.probes_spec.specs.Listing.{nodeProbes, listFault, listCount, listedNumbers, listedOf, listAfter}
 use Rattle.probes_spec.specs.ListingLaws.{list-sheet, list-9, list-10, list-0, listed-denied, after-denied, listed-count, after-front, listed-numbers}
@@ -28,21 +28,21 @@ use Rattle.probes_spec.specs.ListingLaws.{list-sheet, list-9, list-10, list-0, 
 
 module _ (accs : List ℕ) (e : ℕ) where
   -- at most 4,096 are found
-  pub found-most : e ≤ 12 → length (ascending accs e) ≤ 4096
+  pub found-most : e ≤ 12 → length (probesByNumber accs e) ≤ 4096
   found-most h = omega (arith, probes-most accs e h, found-count accs e)
 
   -- the front of a list to which they were written, as many places as they are
-  pub found-front : (out : List ℕ) {found : List ℕ} {m : ℕ} → found ≡ atFront out (ascending accs e) → m ≡ length (ascending accs e) → take m found ≡ ascending accs e
-  found-front out p q = rw p (atFront-taken out (ascending accs e) (sym q))
+  pub found-front : (out : List ℕ) {found : List ℕ} {m : ℕ} → found ≡ atFront out (probesByNumber accs e) → m ≡ length (probesByNumber accs e) → take m found ≡ probesByNumber accs e
+  found-front out p q = rw p (atFront-taken out (probesByNumber accs e) (sym q))
 
   pub list-front : (out : List ℕ) {list : List ℕ} {m : ℕ} → list ≡ atFront out (probes accs e) → m ≡ length (probes accs e) → take m list ≡ probes accs e
   list-front out p q = rw p (atFront-taken out (probes accs e) (sym q))
 
   -- what is found, written size by size, is the list of probes
-  pub found-listed : (out found : List ℕ) {after : List ℕ} → found ≡ ascending accs e → after ≡ atFront out (joined (ofSize found) (suc e)) → after ≡ atFront out (probes accs e)
+  pub found-listed : (out found : List ℕ) {after : List ℕ} → found ≡ probesByNumber accs e → after ≡ atFront out (joined (ofSize found) (suc e)) → after ≡ atFront out (probes accs e)
   found-listed out found p q = q ∙ (rw (p, sized-probes accs e))
 
-  pub found-length : {m : ℕ} → m ≡ length (ascending accs e) → m ≡ length (probes accs e)
+  pub found-length : {m : ℕ} → m ≡ length (probesByNumber accs e) → m ≡ length (probes accs e)
   found-length q = q ∙ found-count accs e
 
 -- ---- the ways out of `list`

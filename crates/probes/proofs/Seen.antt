@@ -12,7 +12,7 @@ use lib.Seq.{drop-cons, set-append-seam}
 use Rattle.base.specs.Front.{atFront, atFront-taken}
 use Rattle.base.specs.Gather.{select, gather, gather-yes, gather-skip, gather-short, gather-room}
 use Rattle.probes_spec.specs.Probes.{isProbe}
-use Rattle.probes_spec.specs.Shapes.{ascending, nextIn, nextFrom}
+use Rattle.probes_spec.specs.Shapes.{probesByNumber, nextIn, nextFrom}
 
 -- ---- the first number from x on that passes a test
 
@@ -85,16 +85,16 @@ module _ (accs : List ℕ) (e : ℕ) where
     seen-count y q = rw (seen-next y q) (length-append (seen x) (x ∷ []))
 
     -- there is room for x in a list that has room for all
-    pub seen-room : length (seen x) < length (ascending accs e)
-    unfolding ascending select
+    pub seen-room : length (seen x) < length (probesByNumber accs e)
+    unfolding probesByNumber select
     seen-room = gather-room (isProbe accs) (λ y. y) x (2 ^ e) h (s .probe h)
 
   pub seen-short : (x : ℕ) → length (seen x) ≤ x
   seen-short x = gather-short (isProbe accs) (λ y. y) x
 
   -- at the end all were seen
-  pub seen-end : (x : ℕ) → Stands x → 2 ^ e ≤ x → seen x ≡ ascending accs e
-  unfolding ascending select
+  pub seen-end : (x : ℕ) → Stands x → 2 ^ e ≤ x → seen x ≡ probesByNumber accs e
+  unfolding probesByNumber select
   seen-end x s h = let q : x ≡ 2 ^ e = omega (arith, s .most) in rw q
 
 -- ---- the list that is filled
@@ -110,7 +110,7 @@ front-put out ps v h =
 
 -- x is written after the probes that were seen
 pub find-more : (accs : List ℕ) (e x : ℕ) → Stands accs e x → x < 2 ^ e → (out now : List ℕ) (n y : ℕ) → n ≡ length (seen accs e x) → now ≡ atFront out (seen accs e x)
-    → length (ascending accs e) ≤ length out → y ≡ nextFrom (isProbe accs) (2 ^ e) (x + 1) → set now n x ≡ atFront out (seen accs e y)
+    → length (probesByNumber accs e) ≤ length out → y ≡ nextFrom (isProbe accs) (2 ^ e) (x + 1) → set now n x ≡ atFront out (seen accs e y)
 find-more accs e x s h out now n y a b room q =
     rw (seen-next accs e x s h y q, a, b) (front-put out (seen accs e x) x (omega (arith, seen-room accs e x s h)))
 

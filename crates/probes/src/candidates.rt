@@ -1,4 +1,4 @@
-// The candidates for probes, which are all sets of E events, by their number: whether one is a probe of some
+// The candidates for probes, which are all sets of events below E, by their number: whether one is a probe of some
 // acceptances (01, "Probes"), and the next one that is.
 ghost use mathlib.Core.Path.{_≡_};
 ghost use Prim.Native.Nat.{_^_, _≤_, _<_};
@@ -7,29 +7,32 @@ ghost use Rattle.probes_spec.specs.Shapes.{lone, nextFrom};
 
 // The set where it has at most one event, else the empty set.
 fn lone_of(y: u16) -> u16
-    requires { ⌜ 0 < y ⌝ }
     ensures { λ r. ⌜ r ≡ lone y ⌝ }
 {
-    if y & (y - 1) == 0 { y } else { 0 }
+    if y & std::num::wrapping_sub_u16(y, 1) == 0 {
+        y
+    } else {
+        0
+    }
 }
 
 // Whether `x` is a probe, in a single pass over the acceptances: it must meet each of them, and every event of it must
-// be alone in the meeting with some.
+// be alone in the meeting with some. The pass goes on where one is not met: no jump hangs on the sets, so that several
+// are looked at together.
 fn is_probe(sets: &[u16], x: u16) -> bool
     ensures { λ r. ⌜ r ≡ isProbe (now (sets .entry)) x ⌝ }
 {
+    let mut met = true;
     let mut own: u16 = 0;
     for k in 0..sets.len() {
         let y = sets[k] & x;
-        if y == 0 {
-            return false;
-        }
+        met = met & (y != 0);
         own = own | lone_of(y);
     }
-    own == x
+    met & (own == x)
 }
 
-// How many sets of `e` events there are.
+// How many sets of events below `e` there are.
 pub(crate) fn set_count(e: usize) -> u16
     requires { ⌜ e ≤ 12 ⌝ }
     ensures { λ r. ⌜ (r ≡ 2 ^ e) × (r ≤ 4096) ⌝ }

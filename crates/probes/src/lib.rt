@@ -11,7 +11,7 @@ ghost use lib.ListN.{length};
 ghost use Rattle.base.specs.Front.{atFront};
 ghost use Rattle.probes_spec.specs.declared.Listed.the-variants.{Count, Denied};
 ghost use Rattle.probes_spec.specs.Probes.{probes};
-ghost use Rattle.probes_spec.specs.Shapes.{ascending};
+ghost use Rattle.probes_spec.specs.Shapes.{probesByNumber};
 ghost use Rattle.probes_spec.specs.FirstMissed.{firstMissing, firstMissed, missedNumbers, NoneMissed};
 ghost use Rattle.probes_spec.specs.Listing.{listFault, listCount, listedNumbers, listedOf, listAfter};
 use probes_spec::Listed;
@@ -22,9 +22,9 @@ use sheet_spec::Sheet;
 
 // Writes the probes by their number to the front of a list that is long enough, and answers how many they are.
 fn find(sets: &[u16], e: usize, out: &mut [u16]) -> usize
-    requires { ⌜ (e ≤ 12) × (length (ascending (now sets) e) ≤ length (now out)) ⌝ }
-    ensures { λ r. ⌜ (now (out .exit) ≡ atFront (now (out .entry)) (ascending (now (sets .entry)) e))
-        × (r ≡ length (ascending (now (sets .entry)) e)) ⌝ }
+    requires { ⌜ (e ≤ 12) × (length (probesByNumber (now sets) e) ≤ length (now out)) ⌝ }
+    ensures { λ r. ⌜ (now (out .exit) ≡ atFront (now (out .entry)) (probesByNumber (now (sets .entry)) e))
+        × (r ≡ length (probesByNumber (now (sets .entry)) e)) ⌝ }
 {
     let end = candidates::set_count(e);
     let mut at: usize = 0;

@@ -1,5 +1,5 @@
 // Sets in the order of a probe list (02, K3): those with fewer events first. They come by their number, so one pass for
-// each size leaves the lower numbers first among as many events.
+// each size leaves the lower numbers first among sets with as many events.
 ghost use mathlib.Core.Path.{_≡_};
 ghost use mathlib.Core.List.{_++_};
 ghost use Prim.Native.Nat.{suc, _+_, _≤_};

@@ -177,9 +177,9 @@ module _ (s : Sheet) (h : sheetFault s ≡ 0) (v : ℕ) (l : v < s .n) where
       there (x, k, e) = rw (← e) (probe-at (acceptances (row s v)) (s .e) x k)
 
   -- a list that has just these, in their order, is the node's
-  pub node-only : (l : List ℕ) → ProbeList (acceptances (row s v)) l → l ≡ nodeProbes s v
+  pub node-only : (ps : List ℕ) → ProbeList (acceptances (row s v)) ps → ps ≡ nodeProbes s v
   unfolding nodeProbes
-  node-only l q = probes-only (acceptances (row s v)) (s .e) node-narrow l q
+  node-only ps q = probes-only (acceptances (row s v)) (s .e) node-narrow ps q
 
   -- how many a node has is how many minimal hitting sets there are, whatever their order
   pub node-counted : Counted (Probe (acceptances (row s v))) (length (nodeProbes s v))

@@ -1,11 +1,14 @@
--- Nothing to believe: laws. The order of the probe list is strict and total.
+-- Nothing to believe: laws. The order of the probe list is strict and total, and goes by how many events a set has.
 use mathlib.Core.Path.{_≡_, sym, _∙_}
-use mathlib.Core.Logic.{_⊎_, inl, inr, _≢_}
+use mathlib.Core.Logic.{_⊎_, inl, inr, _↔_, _≢_}
 use Prim.Native.Nat.{ℕ, _≤_, _<_}
 use native.Mathlib.Nat.{eq-or-lt-of-le}
 use native.Mathlib.Omega.{arith}
 use Rattle.base.specs.Truth.{lt-or-ge}
+use Rattle.base.specs.Counted.{Counted}
+use Rattle.events.specs.Bit.{bit}
 use Rattle.events.specs.Size.{size}
+use Rattle.events.specs.SizeLaws.{size-only}
 use Rattle.probes_spec.specs.Probes.{Before}
 
 -- no set comes before itself
@@ -20,7 +23,7 @@ before-through X Y Z (inl a) (inr b) = inl (omega (arith, b .0))
 before-through X Y Z (inr a) (inl b) = inl (omega (arith, a .0))
 before-through X Y Z (inr a) (inr b) = inr (a .0 ∙ b .0, omega (arith, a .1, b .1))
 
--- of two sets one comes before the other
+-- of two different sets one comes before the other
 pub before-either : (X Y : ℕ) → X ≢ Y → Before X Y ⊎ Before Y X
 before-either X Y n = go (lt-or-ge (size X) (size Y)) (lt-or-ge X Y)
   where
@@ -32,3 +35,8 @@ before-either X Y n = go (lt-or-ge (size X) (size Y)) (lt-or-ge X Y)
         pick (inr h) k = inr (inl h)
         pick (inl e) (inl k) = inl (inr (sym e, k))
         pick (inl e) (inr k) = inr (inr (e, omega (arith, n)))
+
+-- one set comes before another exactly if a list of its events is shorter, or as long and its number is lower
+pub before-means : (X Y a b : ℕ) → X < 65536 → Y < 65536 → Counted (λ i. bit X i ≡ 1) a → Counted (λ i. bit Y i ≡ 1) b
+    → Before X Y ↔ ((a < b) ⊎ ((a ≡ b) × (X < Y)))
+before-means X Y a b k l c d = rw (size-only X a k c, size-only Y b l d) ((λ h. h), λ h. h)

@@ -31,7 +31,7 @@ use Rattle.probes_spec.specs.OrderLaws.{before-never, before-through}
 pub isProbe-means : (accs : List ℕ) (X : ℕ) → (isProbe accs X ≡ true) ↔ Probe accs X
 isProbe-means accs X = (isProbe→ accs X, isProbe← accs X)
 
--- whether a set is a probe of j events
+-- whether a set is a probe that has j events
 abbrev ofJ : List ℕ → ℕ → ℕ → Bool
 ofJ accs j x = eqb (size x) j && isProbe accs x
 
@@ -66,7 +66,7 @@ from accs e x l =
       among = g .4;
     }
 
--- what is listed is a probe, and a set of e events
+-- what is listed is a probe, and a set of events below e
 pub probe-at : (accs : List ℕ) (e x : ℕ) → x < length (probes accs e) → Probe accs (getD (probes accs e) x 0)
 probe-at accs e x l = let w = from accs e x l in rw (w .is) (isProbe→ accs (w .set) (w .probe))
 
@@ -79,7 +79,7 @@ probe-events accs X i p b =
     let w = probe→alone accs X p i b in
     (w .0, w .1, omega (arith, bit-and i (getD accs (w .0) 0) X, ap (λ (y : ℕ). bit y i) (w .2), bit-one i, bit≤1 (getD accs (w .0) 0) i))
 
--- a probe is a set of e events if the acceptances are
+-- a probe is a set of events below e if the acceptances are
 probe-narrow : (accs : List ℕ) (e : ℕ) → Narrow accs e → (X : ℕ) → Probe accs X → X < 2 ^ e
 probe-narrow accs e n X p = narrow e X (λ i b. below i (probe-events accs X i p b))
   where
@@ -130,9 +130,9 @@ probes-ordered accs e x y l h = go (from accs e x (omega arith)) (from accs e y 
 
 -- no probe is listed twice
 pub probe-once : (accs : List ℕ) (e x y : ℕ) → x < y → y < length (probes accs e) → getD (probes accs e) x 0 ≢ getD (probes accs e) y 0
-probe-once accs e = sorted-once Before before-never before-through (probes accs e) (probes-ordered accs e)
+probe-once accs e = sorted-once Before before-never (probes accs e) (probes-ordered accs e)
 
--- there are no more probes than sets of e events
+-- there are no more probes than sets of events below e
 pub probes-few : (accs : List ℕ) (e : ℕ) → length (probes accs e) ≤ 2 ^ e
 probes-few accs e = go (lt-or-ge (2 ^ e) (length (probes accs e)))
   where

@@ -25,11 +25,11 @@ hits accs x = all (λ j. meets (getD accs j 0) x) (length accs)
 unfoldable pub isProbe : List ℕ → ℕ → Bool
 isProbe accs x = hits accs x && all (λ y. not (inside y x && hits accs y)) x
 
--- the probes of j events among the sets of e events, ascending by number
+-- the probes that have j events, among the sets of events below e, ascending by number
 unfoldable pub probesOf : List ℕ → ℕ → ℕ → List ℕ
 probesOf accs e j = select (λ x. eqb (size x) j && isProbe accs x) (2 ^ e)
 
--- the probes among the sets of e events: those of no event, then those of one event, and so on to those of e events
+-- the probes among the sets of events below e: those with no event, then those with one, and so on to those with e
 unfoldable pub probes : List ℕ → ℕ → List ℕ
 probes accs e = joined (probesOf accs e) (suc e)
 

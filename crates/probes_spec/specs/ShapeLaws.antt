@@ -22,7 +22,7 @@ use Rattle.events.specs.Size.{size}
 use Rattle.events.specs.SizeLaws.{size-few}
 use Rattle.probes_spec.specs.Probes.{isProbe, probesOf, probes, Hits, Probe}
 use Rattle.probes_spec.specs.HitLaws.{isProbe→, isProbe←, alone→probe, probe→alone}
-use Rattle.probes_spec.specs.Shapes.{Alone, lone, onePass, ascending, ofSize}
+use Rattle.probes_spec.specs.Shapes.{Alone, lone, onePass, probesByNumber, ofSize}
 
 -- ---- a set and its predecessor have no event in common exactly if the set has at most one event
 
@@ -163,7 +163,7 @@ pub ofSize-no : (l : List ℕ) (x j : ℕ) → size x ≢ j → ofSize (l ++ (x 
 unfolding ofSize
 ofSize-no l x j n = rw (ofSize-append l (x ∷ []) j, ne-eqb (size x) j n) (append-nil (ofSize l j))
 
--- of the numbers that pass a test, those of j events
+-- of the numbers that pass a test, those that have j events
 ofSize-select : (p : ℕ → Bool) (j n : ℕ) → ofSize (select p n) j ≡ select (λ x. eqb (size x) j && p x) n
 unfolding select gather
 ofSize-select p j zero = unfold ofSize in refl
@@ -180,9 +180,9 @@ ofSize-select p j (suc n) = go (p n) (eqb (size n) j) refl (ofSize-select p j n)
     go false false e ih = ap (λ (l : List ℕ). ofSize l j) (append-nil (gather p (λ x. x) n)) ∙ ih ∙ sym (append-nil (gather both (λ x. x) n))
 
 -- what is found, size by size, is the list of probes
-pub sized-probes : (accs : List ℕ) (e : ℕ) → joined (ofSize (ascending accs e)) (suc e) ≡ probes accs e
-unfolding probes probesOf ascending
-sized-probes accs e = joined-same (ofSize (ascending accs e)) (probesOf accs e) (suc e) (λ j l. ofSize-select (isProbe accs) j (2 ^ e))
+pub sized-probes : (accs : List ℕ) (e : ℕ) → joined (ofSize (probesByNumber accs e)) (suc e) ≡ probes accs e
+unfolding probes probesOf probesByNumber
+sized-probes accs e = joined-same (ofSize (probesByNumber accs e)) (probesOf accs e) (suc e) (λ j l. ofSize-select (isProbe accs) j (2 ^ e))
 
 -- a set stands in the list of its own size alone
 module _ (x : ℕ) (l : List ℕ) where
@@ -227,11 +227,11 @@ sized-all [] n h = omega arith
 sized-all (x ∷ l) n h = omega (arith, above x l n (h 0 (omega arith)), sized-all l n (λ y k. h (suc y) (omega arith)))
 
 -- there are as many probes as are found
-pub found-count : (accs : List ℕ) (e : ℕ) → length (ascending accs e) ≡ length (probes accs e)
-unfolding ascending select
+pub found-count : (accs : List ℕ) (e : ℕ) → length (probesByNumber accs e) ≡ length (probes accs e)
+unfolding probesByNumber select
 found-count accs e =
-    let p : length (ascending accs e) ≤ length (joined (ofSize (ascending accs e)) (suc e)) = sized-all (ascending accs e) (suc e) small in
-    omega (arith, p, sized-short (ascending accs e) (suc e), ap length (sized-probes accs e))
+    let p : length (probesByNumber accs e) ≤ length (joined (ofSize (probesByNumber accs e)) (suc e)) = sized-all (probesByNumber accs e) (suc e) small in
+    omega (arith, p, sized-short (probesByNumber accs e) (suc e), ap length (sized-probes accs e))
   where
-    small : (x : ℕ) → x < length (ascending accs e) → size (getD (ascending accs e) x 0) < suc e
+    small : (x : ℕ) → x < length (probesByNumber accs e) → size (getD (probesByNumber accs e) x 0) < suc e
     small x l = let w = gather-from (isProbe accs) (λ y. y) (2 ^ e) x l in rw (w .4) (omega (arith, size-few e (w .0) (w .1)))

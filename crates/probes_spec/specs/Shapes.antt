@@ -26,8 +26,8 @@ onePass [] x own = eqb own x
 onePass (a ∷ accs) x own = cond (eqb (bitAnd a x) 0) false (onePass accs x (bitOr own (lone (bitAnd a x))))
 
 -- the probes by their number alone, as they are found
-unfoldable pub ascending : List ℕ → ℕ → List ℕ
-ascending accs e = select (isProbe accs) (2 ^ e)
+unfoldable pub probesByNumber : List ℕ → ℕ → List ℕ
+probesByNumber accs e = select (isProbe accs) (2 ^ e)
 
 -- the sets of a list that have j events, in their order
 unfoldable pub ofSize : List ℕ → ℕ → List ℕ

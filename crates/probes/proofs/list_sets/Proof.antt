@@ -4,7 +4,7 @@ use native.Mathlib.Omega.{arith}
 use denote.Ref.{now}
 use lib.ListN.{length, take, replicate}
 use Rattle.probes_spec.specs.declared.Listed.the-variants.{Count}
-use Rattle.probes_spec.specs.Shapes.{ascending}
+use Rattle.probes_spec.specs.Shapes.{probesByNumber}
 use Rattle.probes_spec.specs.ShapeLaws.{found-count}
 use Rattle.probes.proofs.Lists.{found-most, found-front, found-listed, found-length}
 use Rattle.probes.proofs.list_sets.Statement.{statement}
@@ -17,7 +17,7 @@ find-requires : tie.Need-find-requires
 find-requires c κs = let s = c .before .before .before in (omega arith, found-most (now (s .args .sets)) (s .args .e) (omega arith))
 
 -- the front of the array is what was found
-front : (c : tie.After-find) → take (c .find .result) (c .find .last .1 .1 .0) ≡ ascending (now (c .before .before .before .before .args .sets)) (c .before .before .before .before .args .e)
+front : (c : tie.After-find) → take (c .find .result) (c .find .last .1 .1 .0) ≡ probesByNumber (now (c .before .before .before .before .args .sets)) (c .before .before .before .before .args .e)
 front c = let a = c .before .before .before .before .args in found-front (now (a .sets)) (a .e) (replicate 4096 0) (c .find .ensures .0) (c .find .ensures .1)
 
 returns : tie.Need-returns

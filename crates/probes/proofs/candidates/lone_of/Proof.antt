@@ -1,20 +1,23 @@
 -- `candidates::lone_of`: a set and its predecessor have no event in common exactly if the set has at most one.
+use mathlib.Core.Path.{_≡_}
+use Prim.Native.Nat.{_-_, _<_}
 use native.Mathlib.Omega.{arith}
-use borrow.Author.Tests.{eq-eqb, ne-eqb}
-use Rattle.probes_spec.specs.Shapes.{lone}
+use Rattle.probes.proofs.candidates.Passes.{lone-yes, lone-no}
 use Rattle.probes.proofs.candidates.lone_of.Statement.{statement}
 use Rattle.probes.proofs.candidates.lone_of.Tie as tie
 
-sub-if1 : tie.Need-sub-if1
-sub-if1 c = omega arith
+wrapping-sub-u16-requires : tie.Need-wrapping-sub-u16-requires
+wrapping-sub-u16-requires c κs = tt
+
+-- what comes before a set that is not empty
+before : (c : tie.After-wrapping-sub-u16) → 0 < c .before .args .y → c .wrapping-sub-u16 .result ≡ c .before .args .y - 1
+before c l = omega (arith, c .wrapping-sub-u16 .ensures)
 
 returns : tie.Need-returns
-unfolding lone
-returns c = rw (eq-eqb _ 0 (c .if1 .taken))
+returns c = lone-yes _ _ (before (c .before)) (c .if1 .taken)
 
 returns-2 : tie.Need-returns-2
-unfolding lone
-returns-2 c = rw (ne-eqb _ 0 (c .if1 .left))
+returns-2 c = lone-no _ _ (before (c .before)) (c .if1 .left)
 
 pub lone-of-spec : {M : Type 1} → statement M
-lone-of-spec = tie.close (tie.spec sub-if1 returns returns-2)
+lone-of-spec = tie.close (tie.spec wrapping-sub-u16-requires returns returns-2)
