@@ -14,8 +14,8 @@
  * of its answer is 0; only bench_step gives the record back as it came.
  *
  * The stack that a call needs, measured on worst cases and rounded up, in bytes, with the copies of the sheets that are
- * handed over: bench_check and bench_read 9,000; bench_open 14,000; bench_step and bench_report 16,000; bench_list
- * 19,000; bench_judge and bench_judge_all 22,000; bench_compare 25,000; bench_count 62,000. The compiled library has no
+ * handed over: bench_check and bench_read 9,000; bench_list 19,000; bench_judge and bench_judge_all 22,000; bench_open
+ * 23,000; bench_step and bench_report 24,000; bench_compare 36,000; bench_count 62,000. The compiled library has no
  * recursion, so no call needs more for larger sheets, longer traces or longer scripts.
  */
 #ifndef BENCH_H
@@ -30,8 +30,9 @@ extern "C" {
 
 /* The version of this header and the library. It grows by one with each change of a number, of a struct, of a call's
  * arguments or of what a call answers; a new call alone does not change it. Before it was counted verdicts and
- * comparisons had other kinds; in 1 sheets had no codes. It is not the version of a sheet's bytes. */
-#define BENCH_VERSION 2
+ * comparisons had other kinds; in 1 sheets had no codes; in 2 probes were ordered by number alone, which h and what is
+ * named at a refusal followed, and the stack of some calls was less. It is not the version of a sheet's bytes. */
+#define BENCH_VERSION 3
 
 /* The most events, nodes and sets of a node, and a successor place that has no successor. */
 enum { BENCH_EVENTS = 12, BENCH_NODES = 32, BENCH_SETS = 16, BENCH_NONE = 255 };
