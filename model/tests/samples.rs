@@ -55,7 +55,7 @@ fn the_samples() {
             }
         }
     }
-    assert!(texts >= 61, "{texts}");
+    assert!(texts >= 68, "{texts}");
 }
 
 #[test]
