@@ -2,7 +2,8 @@
 // own or, 19, beside a sheet with its codes.
 ghost use mathlib.Core.Path.{_≡_};
 ghost use Rattle.sheet_spec.specs.Reading.{readSheet};
-ghost use Rattle.cases_samples.specs.Samples.{smallBytes, orderedBytes, sampleBytes, withNewNode, withCode, changedTo, sampleOf};
+ghost use Rattle.cases_samples.specs.Samples.{smallBytes, orderedBytes, sampleBytes, sampleOf};
+ghost use Rattle.cases_samples.specs.Samples.{withNewNode, withCode, changedTo};
 use sheet_spec::Sheet;
 
 // The sheet of these bytes, of zeros if they are refused.
