@@ -5,7 +5,7 @@ use mathlib.Core.Logic.{_⊎_, inl, inr}
 use Prim.Native.Nat.{ℕ, _≤_}
 use native.Mathlib.Omega.{arith}
 use Rattle.tests_spec.specs.declared.Answer.{Answer}
-use Rattle.tests_spec.specs.declared.Answer.the-variants.{Going, Stray, Refused, Passed, Denied}
+use Rattle.tests_spec.specs.declared.Answer.the-variants.{Going, Stray, Refused, Passed, Inconclusive, Denied}
 use Rattle.tests_spec.specs.Numbers.{said}
 use Rattle.verdicts_spec.specs.declared.Verdict.{Verdict}
 use Rattle.verdicts_spec.specs.declared.Verdict.the-variants.{Passes, Fails, Denied as NoVerdict}
@@ -21,6 +21,7 @@ said-low (Going x) = omega arith
 said-low (Stray i) = omega arith
 said-low (Refused x) = omega arith
 said-low Passed = omega arith
+said-low Inconclusive = omega arith
 said-low (Denied m) = omega arith
 
 -- the kind of a verdict is 0, or above 10 and at most 20

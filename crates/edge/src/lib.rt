@@ -126,6 +126,11 @@ fn said_flat(a: Answer) -> BenchSaid
             kind: 4,
             value: 0,
         },
+        Answer::Inconclusive => BenchSaid {
+            refusal: 0,
+            kind: 5,
+            value: 0,
+        },
         Answer::Denied(m) => BenchSaid {
             refusal: m,
             kind: 0,

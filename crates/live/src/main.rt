@@ -169,18 +169,8 @@ fn has_begun(a: Answer) -> bool {
         Answer::Stray(event) => false,
         Answer::Refused(set) => false,
         Answer::Passed => false,
+        Answer::Inconclusive => false,
         Answer::Denied(number) => false,
-    }
-}
-
-// Whether the run goes on after an answer: with the next offer, or with the same one after a refused report.
-fn goes_on(a: Answer) -> bool {
-    match a {
-        Answer::Going(set) => true,
-        Answer::Stray(event) => false,
-        Answer::Refused(set) => false,
-        Answer::Passed => false,
-        Answer::Denied(number) => true,
     }
 }
 
@@ -192,7 +182,7 @@ fn take_line(sheet: Sheet, run: Run, offered: u16, line: &[u8]) -> Heard {
     let next = live_lines::next_offer(offered, a);
     if say_answer(offered, a) {
         return Heard {
-            going: goes_on(a),
+            going: live_lines::goes_on(a),
             offered: next,
             run: after,
         };

@@ -5,7 +5,7 @@ ghost use mathlib.Core.List.{_++_};
 ghost use Rattle.text_spec.specs.Adds.{Adds, Holds};
 ghost use Rattle.live_lines_spec.specs.Answers.{kindWords, headLine, offerLine, refusedSetLine};
 ghost use Rattle.live_lines_spec.specs.Answers.{reportWords, reportRefusedLine};
-ghost use Rattle.live_lines_spec.specs.Answers.{answerLines, nextOffer, testLines, openingLines, endedLine};
+ghost use Rattle.live_lines_spec.specs.Answers.{answerLines, nextOffer, goesOn, testLines, openingLines, endedLine};
 use live_lines_spec::Asked;
 use tests_spec::Answer;
 
@@ -92,6 +92,7 @@ pub fn put_answer(out: &mut [u8], offered: u16, a: Answer) -> usize
         Answer::Stray(event) => text::put_number_line(out, 0, b"run failed stray ", event as u16),
         Answer::Refused(set) => put_refused(out, set),
         Answer::Passed => text::put(out, 0, b"run passed\n"),
+        Answer::Inconclusive => text::put(out, 0, b"run inconclusive\n"),
         Answer::Denied(number) => put_again(out, offered, number),
     }
 }
@@ -105,7 +106,23 @@ pub fn next_offer(offered: u16, a: Answer) -> u16
         Answer::Stray(event) => offered,
         Answer::Refused(set) => offered,
         Answer::Passed => offered,
+        Answer::Inconclusive => offered,
         Answer::Denied(number) => offered,
+    }
+}
+
+// Whether the run goes on after the answer to a report: with the next offer, or with the same one after a refused
+// report.
+pub fn goes_on(a: Answer) -> bool
+    ensures { λ r. ⌜ r ≡ goesOn a ⌝ }
+{
+    match a {
+        Answer::Going(set) => true,
+        Answer::Stray(event) => false,
+        Answer::Refused(set) => false,
+        Answer::Passed => false,
+        Answer::Inconclusive => false,
+        Answer::Denied(number) => true,
     }
 }
 
@@ -127,6 +144,7 @@ fn put_test(out: &mut [u8], asked: Asked, n: u16, e: u16, a: Answer) -> usize
         Answer::Stray(event) => 0,
         Answer::Refused(set) => 0,
         Answer::Passed => 0,
+        Answer::Inconclusive => 0,
         Answer::Denied(number) => text::put_number_line(out, 0, b"test refused ", number as u16),
     }
 }

@@ -21,11 +21,11 @@ use Rattle.text_spec.specs.LengthLaws.{number-length, events-length, set-length
 use Rattle.tests_spec.specs.declared.Run.{Run}
 use Rattle.tests_spec.specs.declared.Report.{Report}
 use Rattle.tests_spec.specs.declared.Answer.{Answer}
-use Rattle.tests_spec.specs.declared.Answer.the-variants.{Going, Stray, Refused, Passed, Denied}
+use Rattle.tests_spec.specs.declared.Answer.the-variants.{Going, Stray, Refused, Passed, Inconclusive, Denied}
 use Rattle.tests_spec.specs.declared.Stepped.{Stepped}
 use Rattle.tests_spec.specs.Flags.{flag}
 use Rattle.tests_spec.specs.Runs.{offerOf, openFault, openOf, endedRun, stepOf}
-use Rattle.tests_spec.specs.Reports.{Taken, denies, moves, strays, refuses, passes}
+use Rattle.tests_spec.specs.Reports.{Taken, denies, moves, strays, refuses, passes, halts}
 use Rattle.tests_spec.specs.RunLaws.{open-0, open-14, open-going, open-refused, answer-of, run-of, taken}
 use Rattle.tests_spec.specs.RunRecords.{opening-starts, denied-still}
 use Rattle.tests_spec.specs.Numbers.{said}
@@ -95,6 +95,7 @@ module _ (s : Sheet) (r : Run) (x : Report) where
       go (strays i _ z n p) = rw p
       go (refuses _ z f m p) = rw p
       go (passes z _ p) = rw p
+      go (halts z _ p) = rw p
 
   -- a refused report prints its number with why, and what the record after it offers, which is what it offered before
   pub offered-again : (m : ℕ) → stepOf s r x .answer ≡ Denied m
@@ -184,6 +185,7 @@ answer-length x (Going y) h r = omega (arith, offer-length y)
 answer-length x (Stray i) h r = omega (arith, number-length (ascii "run failed stray ") 4 i (omega arith))
 answer-length x (Refused y) h r = refused-length y h
 answer-length x Passed h r = omega arith
+answer-length x Inconclusive h r = omega arith
 answer-length x (Denied m) h r = omega (arith, length-append (reportRefusedLine m) (offerLine x), report-refused-length m r, offer-length x)
 
 test-length : (asked : Asked) → asked .k < 65536 → asked .h < 65536 → (n e : ℕ) → n < 256 → e < 256 → (a : Answer) → said a .refusal < 256 → length (testLines asked n e a) ≤ 128
@@ -198,6 +200,7 @@ test-length asked k h n e nn ee (Going x) r =
 test-length asked k h n e nn ee (Stray i) r = omega arith
 test-length asked k h n e nn ee (Refused x) r = omega arith
 test-length asked k h n e nn ee Passed r = omega arith
+test-length asked k h n e nn ee Inconclusive r = omega arith
 test-length asked k h n e nn ee (Denied m) r = omega (arith, number-length (ascii "test refused ") 2 m (omega arith))
 
 -- 128 bytes are enough for all that an opening prints, with numbers of the machine

@@ -1,12 +1,12 @@
 -- The lines that `live` prints, as the codes of their characters. Each ends with one newline.
-use mathlib.Core.Bool.{Bool, cond}
+use mathlib.Core.Bool.{Bool, true, false, cond}
 use mathlib.Core.List.{List, [], _++_}
 use Prim.Native.Nat.{ℕ}
 use lib.Dec.{eqb}
 use Rattle.text_spec.specs.Lines.{ascii, decimal, numberLine, numbersText, sheetLine}
 use Rattle.text_spec.specs.Sets.{members, setWords}
 use Rattle.tests_spec.specs.declared.Answer.{Answer}
-use Rattle.tests_spec.specs.declared.Answer.the-variants.{Going, Stray, Refused, Passed, Denied}
+use Rattle.tests_spec.specs.declared.Answer.the-variants.{Going, Stray, Refused, Passed, Inconclusive, Denied}
 use Rattle.live_lines_spec.specs.declared.Asked.{Asked}
 
 -- ---- lines
@@ -46,6 +46,7 @@ answerLines x (Going y) = offerLine y
 answerLines x (Stray i) = numberLine (ascii "run failed stray ") i
 answerLines x (Refused y) = refusedSetLine y
 answerLines x Passed = ascii "run passed\n"
+answerLines x Inconclusive = ascii "run inconclusive\n"
 answerLines x (Denied m) = reportRefusedLine m ++ offerLine x
 
 -- the set that stands offered after an answer, where x stood offered before it: another one only if the run goes on
@@ -54,7 +55,18 @@ nextOffer x (Going y) = y
 nextOffer x (Stray i) = x
 nextOffer x (Refused y) = x
 nextOffer x Passed = x
+nextOffer x Inconclusive = x
 nextOffer x (Denied m) = x
+
+-- whether the run goes on after the answer to a report: with the next offer, or with the same one after a refused
+-- report; after an ending no line is read
+unfoldable pub goesOn : Answer → Bool
+goesOn (Going x) = true
+goesOn (Stray i) = false
+goesOn (Refused x) = false
+goesOn Passed = false
+goesOn Inconclusive = false
+goesOn (Denied m) = true
 
 -- what the opening of a test prints on a reference of n nodes and e events: the first line and the first offer, or the
 -- refusal; an opening has no other answer
@@ -63,6 +75,7 @@ testLines asked n e (Going x) = headLine (asked .«trace_only») (asked .k) (ask
 testLines asked n e (Stray i) = []
 testLines asked n e (Refused x) = []
 testLines asked n e Passed = []
+testLines asked n e Inconclusive = []
 testLines asked n e (Denied m) = numberLine (ascii "test refused ") m
 
 -- what an opening prints, where `fault` is the reference's own refusal, 0 for none

@@ -12,7 +12,7 @@ use Rattle.text_spec.specs.Lines.{ascii, decimalIn, decimal, valueFrom, numberL
 use Rattle.text_spec.specs.Sets.{eventsIn, members, setWords}
 use Rattle.words_spec.specs.Numbers.{isDigit, digitAt, allDigits, fewDigits, numberIn, numberOf}
 use Rattle.tests_spec.specs.declared.Report.the-variants.{Event, Blocked}
-use Rattle.tests_spec.specs.declared.Answer.the-variants.{Going, Stray, Refused, Passed, Denied}
+use Rattle.tests_spec.specs.declared.Answer.the-variants.{Going, Stray, Refused, Passed, Inconclusive, Denied}
 use Rattle.live_lines_spec.specs.declared.Asked.{Asked}
 use Rattle.live_lines_spec.specs.Words.{agreeAt, sameText, eventNamed, reportOf, countedBytes, heard, lastOk, wordsOk, askedOf}
 use Rattle.live_lines_spec.specs.Answers.{kindWords, headLine, offerLine, refusedSetLine, reportWords, reportRefusedLine, answerLines, nextOffer, testLines, openingLines, endedLine}
@@ -49,15 +49,15 @@ unfolding headLine kindWords sheetLine decimal decimalIn
 heads-hold = refl
 
 -- what the answers to a report print, where events 0 and 1 stood offered
-pub answers-hold : map (answerLines 3) (Going 19 ∷ Going 0 ∷ Stray 7 ∷ Refused 5 ∷ Passed ∷ Denied 15 ∷ Denied 17 ∷ Denied 16 ∷ [])
-    ≡ (ascii "offer 0 1 4\n" ∷ ascii "offer\n" ∷ ascii "run failed stray 7\n" ∷ ascii "run failed refused 5 ( 0 2 )\n" ∷ ascii "run passed\n"
+pub answers-hold : map (answerLines 3) (Going 19 ∷ Going 0 ∷ Stray 7 ∷ Refused 5 ∷ Passed ∷ Inconclusive ∷ Denied 15 ∷ Denied 17 ∷ Denied 16 ∷ [])
+    ≡ (ascii "offer 0 1 4\n" ∷ ascii "offer\n" ∷ ascii "run failed stray 7\n" ∷ ascii "run failed refused 5 ( 0 2 )\n" ∷ ascii "run passed\n" ∷ ascii "run inconclusive\n"
     ∷ ascii "report refused 15 no event of the sheet, or no report\noffer 0 1\n" ∷ ascii "report refused 17 the event was not offered\noffer 0 1\n"
     ∷ ascii "report refused 16 the run takes no report\noffer 0 1\n" ∷ [])
 unfolding answerLines offerLine refusedSetLine reportRefusedLine reportWords numberLine setWords members eventsIn select gather eventList decimal decimalIn has bit
 answers-hold = refl
 
 -- the sets that stand offered after these answers
-pub offers-hold : map (nextOffer 3) (Going 19 ∷ Going 0 ∷ Stray 7 ∷ Refused 5 ∷ Passed ∷ Denied 15 ∷ []) ≡ (19 ∷ 0 ∷ 3 ∷ 3 ∷ 3 ∷ 3 ∷ [])
+pub offers-hold : map (nextOffer 3) (Going 19 ∷ Going 0 ∷ Stray 7 ∷ Refused 5 ∷ Passed ∷ Inconclusive ∷ Denied 15 ∷ []) ≡ (19 ∷ 0 ∷ 3 ∷ 3 ∷ 3 ∷ 3 ∷ 3 ∷ [])
 unfolding nextOffer
 offers-hold = refl
 
@@ -66,8 +66,8 @@ abbrev askedOne : Asked
 askedOne = record { k = 1; h = 7; «trace_only» = false }
 
 -- what the answers to an opening print; an opening has no ending
-pub openings-hold : (openingLines askedOne 2 3 0 (Going 3) ∷ openingLines askedOne 2 3 0 (Denied 14) ∷ openingLines askedOne 0 0 3 (Denied 3) ∷ openingLines askedOne 0 0 1 (Denied 14) ∷ openingLines askedOne 2 3 0 Passed ∷ [])
-    ≡ (ascii "test 1 choice 7 reference 2 nodes 3 events\noffer 0 1\n" ∷ ascii "test refused 14\n" ∷ ascii "reference refused 3\n" ∷ ascii "reference refused 1\n" ∷ [] ∷ [])
+pub openings-hold : (openingLines askedOne 2 3 0 (Going 3) ∷ openingLines askedOne 2 3 0 (Denied 14) ∷ openingLines askedOne 0 0 3 (Denied 3) ∷ openingLines askedOne 0 0 1 (Denied 14) ∷ openingLines askedOne 2 3 0 Passed ∷ openingLines askedOne 2 3 0 Inconclusive ∷ [])
+    ≡ (ascii "test 1 choice 7 reference 2 nodes 3 events\noffer 0 1\n" ∷ ascii "test refused 14\n" ∷ ascii "reference refused 3\n" ∷ ascii "reference refused 1\n" ∷ [] ∷ [] ∷ [])
 unfolding openingLines testLines headLine kindWords sheetLine offerLine numberLine members eventsIn select gather eventList decimal decimalIn has bit
 openings-hold = refl
 

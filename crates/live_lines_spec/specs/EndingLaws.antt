@@ -17,22 +17,22 @@ use Rattle.tests_spec.specs.declared.Run.{Run}
 use Rattle.tests_spec.specs.declared.Report.{Report}
 use Rattle.tests_spec.specs.declared.Report.the-variants.{Event, Blocked}
 use Rattle.tests_spec.specs.declared.Answer.{Answer}
-use Rattle.tests_spec.specs.declared.Answer.the-variants.{Going, Stray, Refused, Passed, Denied}
+use Rattle.tests_spec.specs.declared.Answer.the-variants.{Going, Stray, Refused, Passed, Inconclusive, Denied}
 use Rattle.tests_spec.specs.Numbers.{said}
 use Rattle.tests_spec.specs.Runs.{offerOf, reportFault, stepOf}
-use Rattle.tests_spec.specs.Reports.{Straying, Refusing, Passing}
+use Rattle.tests_spec.specs.Reports.{Straying, Refusing, Passing, Halting}
 use Rattle.tests_spec.specs.RunLaws.{stray-step, blocked-refused, answer-of, kind-same}
-use Rattle.tests_spec.specs.NumberLaws.{kind-2, kind-3, kind-4}
+use Rattle.tests_spec.specs.Endings.{strayed-means, refused-means, passed-means, inconclusive-means}
 use Rattle.live_lines_spec.specs.declared.Asked.{Asked}
-use Rattle.live_lines_spec.specs.Answers.{kindWords, headLine, offerLine, refusedSetLine, reportRefusedLine, answerLines, testLines, openingLines, endedLine}
+use Rattle.live_lines_spec.specs.Answers.{kindWords, headLine, offerLine, refusedSetLine, reportRefusedLine, answerLines, goesOn, testLines, openingLines, endedLine}
 
 -- a text begins with these words
 abbrev pub StartsWith : List ℕ → List ℕ → Type 0
 StartsWith words text = (rest : List ℕ) × (text ≡ words ++ rest)
 
--- an answer that ends a run: a stray, "refused", or passed
+-- an answer that ends a run: a stray, "refused", passed, or inconclusive
 abbrev pub Ends : Answer → Type 0
-Ends a = ((i : ℕ) × (a ≡ Stray i)) ⊎ (((X : ℕ) × (a ≡ Refused X)) ⊎ (a ≡ Passed))
+Ends a = ((i : ℕ) × (a ≡ Stray i)) ⊎ (((X : ℕ) × (a ≡ Refused X)) ⊎ ((a ≡ Passed) ⊎ (a ≡ Inconclusive)))
 
 -- ---- the text of an answer, whatever was offered before it
 
@@ -43,7 +43,18 @@ passed-exactly x (Going y) = (λ e. absurd (let z = ap (λ (l : List ℕ). getD 
 passed-exactly x (Stray i) = (λ e. absurd (let z = ap (λ (l : List ℕ). getD l 4 0) e in omega (arith, z)), λ e. absurd (omega (arith, kind-same e)))
 passed-exactly x (Refused y) = (λ e. absurd (let z = ap (λ (l : List ℕ). getD l 4 0) e in omega (arith, z)), λ e. absurd (omega (arith, kind-same e)))
 passed-exactly x Passed = (λ e. refl, λ e. refl)
+passed-exactly x Inconclusive = (λ e. absurd (let z = ap (λ (l : List ℕ). getD l 4 0) e in omega (arith, z)), λ e. absurd (omega (arith, kind-same e)))
 passed-exactly x (Denied m) = (λ e. absurd (let z = ap (λ (l : List ℕ). getD l 1 0) e in omega (arith, z)), λ e. absurd (omega (arith, kind-same e)))
+
+-- the text of an answer is `run inconclusive` exactly if the answer is that the run is inconclusive
+pub inconclusive-exactly : (x : ℕ) (a : Answer) → (answerLines x a ≡ ascii "run inconclusive\n") ↔ (a ≡ Inconclusive)
+unfolding answerLines offerLine numberLine refusedSetLine reportRefusedLine said
+inconclusive-exactly x (Going y) = (λ e. absurd (let z = ap (λ (l : List ℕ). getD l 0 0) e in omega (arith, z)), λ e. absurd (omega (arith, kind-same e)))
+inconclusive-exactly x (Stray i) = (λ e. absurd (let z = ap (λ (l : List ℕ). getD l 4 0) e in omega (arith, z)), λ e. absurd (omega (arith, kind-same e)))
+inconclusive-exactly x (Refused y) = (λ e. absurd (let z = ap (λ (l : List ℕ). getD l 4 0) e in omega (arith, z)), λ e. absurd (omega (arith, kind-same e)))
+inconclusive-exactly x Passed = (λ e. absurd (let z = ap (λ (l : List ℕ). getD l 4 0) e in omega (arith, z)), λ e. absurd (omega (arith, kind-same e)))
+inconclusive-exactly x Inconclusive = (λ e. refl, λ e. refl)
+inconclusive-exactly x (Denied m) = (λ e. absurd (let z = ap (λ (l : List ℕ). getD l 1 0) e in omega (arith, z)), λ e. absurd (omega (arith, kind-same e)))
 
 -- the text of an answer begins with `run failed stray ` exactly if the answer is a stray
 pub stray-exactly : (x : ℕ) (a : Answer) → StartsWith (ascii "run failed stray ") (answerLines x a) ↔ ((i : ℕ) × (a ≡ Stray i))
@@ -52,6 +63,7 @@ stray-exactly x (Going y) = (λ w. absurd (let z = ap (λ (l : List ℕ). getD l
 stray-exactly x (Stray i) = (λ w. (i, refl), λ w. (decimal i ++ ascii "\n", refl))
 stray-exactly x (Refused y) = (λ w. absurd (let z = ap (λ (l : List ℕ). getD l 11 0) (w .1) in omega (arith, z)), λ w. absurd (omega (arith, kind-same (w .1))))
 stray-exactly x Passed = (λ w. absurd (let z = ap (λ (l : List ℕ). getD l 4 0) (w .1) in omega (arith, z)), λ w. absurd (omega (arith, kind-same (w .1))))
+stray-exactly x Inconclusive = (λ w. absurd (let z = ap (λ (l : List ℕ). getD l 4 0) (w .1) in omega (arith, z)), λ w. absurd (omega (arith, kind-same (w .1))))
 stray-exactly x (Denied m) = (λ w. absurd (let z = ap (λ (l : List ℕ). getD l 1 0) (w .1) in omega (arith, z)), λ w. absurd (omega (arith, kind-same (w .1))))
 
 -- the text of an answer begins with `run failed refused ` exactly if the answer is "refused"
@@ -61,19 +73,22 @@ refused-exactly x (Going y) = (λ w. absurd (let z = ap (λ (l : List ℕ). getD
 refused-exactly x (Stray i) = (λ w. absurd (let z = ap (λ (l : List ℕ). getD l 11 0) (w .1) in omega (arith, z)), λ w. absurd (omega (arith, kind-same (w .1))))
 refused-exactly x (Refused y) = (λ w. (y, refl), λ w. (setWords y ++ ascii "\n", refl))
 refused-exactly x Passed = (λ w. absurd (let z = ap (λ (l : List ℕ). getD l 4 0) (w .1) in omega (arith, z)), λ w. absurd (omega (arith, kind-same (w .1))))
+refused-exactly x Inconclusive = (λ w. absurd (let z = ap (λ (l : List ℕ). getD l 4 0) (w .1) in omega (arith, z)), λ w. absurd (omega (arith, kind-same (w .1))))
 refused-exactly x (Denied m) = (λ w. absurd (let z = ap (λ (l : List ℕ). getD l 1 0) (w .1) in omega (arith, z)), λ w. absurd (omega (arith, kind-same (w .1))))
 
 going-on : (y : ℕ) → ¬ Ends (Going y)
 unfolding said
 going-on y (inl w) = omega (arith, kind-same (w .1))
 going-on y (inr (inl w)) = omega (arith, kind-same (w .1))
-going-on y (inr (inr e)) = omega (arith, kind-same e)
+going-on y (inr (inr (inl e))) = omega (arith, kind-same e)
+going-on y (inr (inr (inr e))) = omega (arith, kind-same e)
 
 denied-on : (m : ℕ) → ¬ Ends (Denied m)
 unfolding said
 denied-on m (inl w) = omega (arith, kind-same (w .1))
 denied-on m (inr (inl w)) = omega (arith, kind-same (w .1))
-denied-on m (inr (inr e)) = omega (arith, kind-same e)
+denied-on m (inr (inr (inl e))) = omega (arith, kind-same e)
+denied-on m (inr (inr (inr e))) = omega (arith, kind-same e)
 
 -- the text of an answer begins with `run ` exactly if the answer ends the run
 pub ending-exactly : (x : ℕ) (a : Answer) → StartsWith (ascii "run ") (answerLines x a) ↔ Ends a
@@ -81,84 +96,65 @@ unfolding answerLines offerLine numberLine refusedSetLine reportRefusedLine
 ending-exactly x (Going y) = (λ w. absurd (let z = ap (λ (l : List ℕ). getD l 0 0) (w .1) in omega (arith, z)), λ e. absurd (going-on y e))
 ending-exactly x (Stray i) = (λ w. inl (i, refl), λ e. (ascii "failed stray " ++ (decimal i ++ ascii "\n"), refl))
 ending-exactly x (Refused y) = (λ w. inr (inl (y, refl)), λ e. (ascii "failed refused " ++ (setWords y ++ ascii "\n"), refl))
-ending-exactly x Passed = (λ w. inr (inr refl), λ e. (ascii "passed\n", refl))
+ending-exactly x Passed = (λ w. inr (inr (inl refl)), λ e. (ascii "passed\n", refl))
+ending-exactly x Inconclusive = (λ w. inr (inr (inr refl)), λ e. (ascii "inconclusive\n", refl))
 ending-exactly x (Denied m) = (λ w. absurd (let z = ap (λ (l : List ℕ). getD l 1 0) (w .1) in omega (arith, z)), λ e. absurd (denied-on m e))
+
+-- the run goes on after exactly the answers that do not end it
+pub goes-on-means : (a : Answer) → (goesOn a ≡ true) ↔ (¬ Ends a)
+unfolding goesOn
+goes-on-means (Going y) = (λ t. going-on y, λ n. refl)
+goes-on-means (Stray i) = (λ t. absurd (false≢true t), λ n. absurd (n (inl (i, refl))))
+goes-on-means (Refused X) = (λ t. absurd (false≢true t), λ n. absurd (n (inr (inl (X, refl)))))
+goes-on-means Passed = (λ t. absurd (false≢true t), λ n. absurd (n (inr (inr (inl refl)))))
+goes-on-means Inconclusive = (λ t. absurd (false≢true t), λ n. absurd (n (inr (inr (inr refl)))))
+goes-on-means (Denied m) = (λ t. denied-on m, λ n. refl)
 
 -- ---- every sheet, record and report
 
--- the answers of the kinds 2, 3 and 4
-stray-kind : (a : Answer) → said a .kind ≡ 2 → (i : ℕ) × (a ≡ Stray i)
-unfolding said
-stray-kind (Going y) e = absurd (omega (arith, e))
-stray-kind (Stray i) e = (i, refl)
-stray-kind (Refused y) e = absurd (omega (arith, e))
-stray-kind Passed e = absurd (omega (arith, e))
-stray-kind (Denied m) e = absurd (omega (arith, e))
+module _ (s : Sheet) (r : Run) (x : Report) (y : ℕ) where
+  -- `run passed` is printed exactly if the report is not refused and the run has passed with it
+  pub says-passed : (answerLines y (stepOf s r x .answer) ≡ ascii "run passed\n") ↔ ((reportFault s r x ≡ 0) × Passing s r x)
+  says-passed =
+      let p = passed-exactly y (stepOf s r x .answer) in
+      (λ e. passed-means s r x .0 (p .0 e), λ w. p .1 (passed-means s r x .1 w))
 
-refused-kind : (a : Answer) → said a .kind ≡ 3 → (X : ℕ) × (a ≡ Refused X)
-unfolding said
-refused-kind (Going y) e = absurd (omega (arith, e))
-refused-kind (Stray i) e = absurd (omega (arith, e))
-refused-kind (Refused y) e = (y, refl)
-refused-kind Passed e = absurd (omega (arith, e))
-refused-kind (Denied m) e = absurd (omega (arith, e))
+  -- `run inconclusive` is printed exactly if the report is not refused and is "blocked", in a trace-only run, below
+  -- depth k
+  pub says-inconclusive : (answerLines y (stepOf s r x .answer) ≡ ascii "run inconclusive\n") ↔ ((reportFault s r x ≡ 0) × Halting r x)
+  says-inconclusive =
+      let p = inconclusive-exactly y (stepOf s r x .answer) in
+      (λ e. inconclusive-means s r x .0 (p .0 e), λ w. p .1 (inconclusive-means s r x .1 w))
 
-passed-kind : (a : Answer) → said a .kind ≡ 4 → a ≡ Passed
-unfolding said
-passed-kind (Going y) e = absurd (omega (arith, e))
-passed-kind (Stray i) e = absurd (omega (arith, e))
-passed-kind (Refused y) e = absurd (omega (arith, e))
-passed-kind Passed e = refl
-passed-kind (Denied m) e = absurd (omega (arith, e))
+  -- `run failed stray ` is printed exactly if the report is not refused and is an event outside the initials
+  pub says-stray : StartsWith (ascii "run failed stray ") (answerLines y (stepOf s r x .answer)) ↔ ((reportFault s r x ≡ 0) × Straying s r x)
+  says-stray =
+      let p = stray-exactly y (stepOf s r x .answer) in
+      (λ e. strayed-means s r x .0 (p .0 e), λ w. p .1 (strayed-means s r x .1 w))
 
-module _ (s : Sheet) (r : Run) (x : Report) where
-  -- the step answers with a stray exactly to an event outside the initials that is not refused
-  strays-exactly : ((i : ℕ) × (stepOf s r x .answer ≡ Stray i)) ↔ ((reportFault s r x ≡ 0) × Straying s r x)
-  unfolding said
-  strays-exactly = (λ w. kind-2 s r x .0 (kind-same (w .1)), λ w. stray-kind (stepOf s r x .answer) (kind-2 s r x .1 w))
+  -- `run failed refused ` is printed exactly if the report is not refused and is "blocked", in a run that is not
+  -- trace-only, at a node that may not stop
+  pub says-refused : StartsWith (ascii "run failed refused ") (answerLines y (stepOf s r x .answer)) ↔ ((reportFault s r x ≡ 0) × Refusing s r x)
+  says-refused =
+      let p = refused-exactly y (stepOf s r x .answer) in
+      (λ e. refused-means s r x .0 (p .0 e), λ w. p .1 (refused-means s r x .1 w))
 
-  refuses-exactly : ((X : ℕ) × (stepOf s r x .answer ≡ Refused X)) ↔ ((reportFault s r x ≡ 0) × Refusing s r x)
-  unfolding said
-  refuses-exactly = (λ w. kind-3 s r x .0 (kind-same (w .1)), λ w. refused-kind (stepOf s r x .answer) (kind-3 s r x .1 w))
+  -- what is printed to a report begins with `run ` exactly if the report is not refused and ends the run in one of
+  -- these four ways
+  pub says-ending : StartsWith (ascii "run ") (answerLines y (stepOf s r x .answer)) ↔ ((reportFault s r x ≡ 0) × (Straying s r x ⊎ (Refusing s r x ⊎ (Passing s r x ⊎ Halting r x))))
+  says-ending = (λ e. forth (ending-exactly y (stepOf s r x .answer) .0 e), λ w. ending-exactly y (stepOf s r x .answer) .1 (back (w .0) (w .1)))
+    where
+      forth : Ends (stepOf s r x .answer) → (reportFault s r x ≡ 0) × (Straying s r x ⊎ (Refusing s r x ⊎ (Passing s r x ⊎ Halting r x)))
+      forth (inl e) = let w = strayed-means s r x .0 e in (w .0, inl (w .1))
+      forth (inr (inl e)) = let w = refused-means s r x .0 e in (w .0, inr (inl (w .1)))
+      forth (inr (inr (inl e))) = let w = passed-means s r x .0 e in (w .0, inr (inr (inl (w .1))))
+      forth (inr (inr (inr e))) = let w = inconclusive-means s r x .0 e in (w .0, inr (inr (inr (w .1))))
 
-  passes-exactly : (stepOf s r x .answer ≡ Passed) ↔ ((reportFault s r x ≡ 0) × Passing s r x)
-  unfolding said
-  passes-exactly = (λ e. kind-4 s r x .0 (kind-same e), λ w. passed-kind (stepOf s r x .answer) (kind-4 s r x .1 w))
-
-  module _ (y : ℕ) where
-    -- `run passed` is printed exactly if the report is not refused and the run has passed with it
-    pub says-passed : (answerLines y (stepOf s r x .answer) ≡ ascii "run passed\n") ↔ ((reportFault s r x ≡ 0) × Passing s r x)
-    says-passed =
-        let p = passed-exactly y (stepOf s r x .answer) in
-        (λ e. passes-exactly .0 (p .0 e), λ w. p .1 (passes-exactly .1 w))
-
-    -- `run failed stray ` is printed exactly if the report is not refused and is an event outside the initials
-    pub says-stray : StartsWith (ascii "run failed stray ") (answerLines y (stepOf s r x .answer)) ↔ ((reportFault s r x ≡ 0) × Straying s r x)
-    says-stray =
-        let p = stray-exactly y (stepOf s r x .answer) in
-        (λ e. strays-exactly .0 (p .0 e), λ w. p .1 (strays-exactly .1 w))
-
-    -- `run failed refused ` is printed exactly if the report is not refused and is "blocked", in a run that is not
-    -- trace-only, at a node that may not stop
-    pub says-refused : StartsWith (ascii "run failed refused ") (answerLines y (stepOf s r x .answer)) ↔ ((reportFault s r x ≡ 0) × Refusing s r x)
-    says-refused =
-        let p = refused-exactly y (stepOf s r x .answer) in
-        (λ e. refuses-exactly .0 (p .0 e), λ w. p .1 (refuses-exactly .1 w))
-
-    -- what is printed to a report begins with `run ` exactly if the report is not refused and ends the run in one of
-    -- these three ways
-    pub says-ending : StartsWith (ascii "run ") (answerLines y (stepOf s r x .answer)) ↔ ((reportFault s r x ≡ 0) × (Straying s r x ⊎ (Refusing s r x ⊎ Passing s r x)))
-    says-ending = (λ e. forth (ending-exactly y (stepOf s r x .answer) .0 e), λ w. ending-exactly y (stepOf s r x .answer) .1 (back (w .0) (w .1)))
-      where
-        forth : Ends (stepOf s r x .answer) → (reportFault s r x ≡ 0) × (Straying s r x ⊎ (Refusing s r x ⊎ Passing s r x))
-        forth (inl e) = let w = strays-exactly .0 e in (w .0, inl (w .1))
-        forth (inr (inl e)) = let w = refuses-exactly .0 e in (w .0, inr (inl (w .1)))
-        forth (inr (inr e)) = let w = passes-exactly .0 e in (w .0, inr (inr (w .1)))
-
-        back : reportFault s r x ≡ 0 → Straying s r x ⊎ (Refusing s r x ⊎ Passing s r x) → Ends (stepOf s r x .answer)
-        back z (inl w) = inl (strays-exactly .1 (z, w))
-        back z (inr (inl w)) = inr (inl (refuses-exactly .1 (z, w)))
-        back z (inr (inr w)) = inr (inr (passes-exactly .1 (z, w)))
+      back : reportFault s r x ≡ 0 → Straying s r x ⊎ (Refusing s r x ⊎ (Passing s r x ⊎ Halting r x)) → Ends (stepOf s r x .answer)
+      back z (inl w) = inl (strayed-means s r x .1 (z, w))
+      back z (inr (inl w)) = inr (inl (refused-means s r x .1 (z, w)))
+      back z (inr (inr (inl w))) = inr (inr (inl (passed-means s r x .1 (z, w))))
+      back z (inr (inr (inr w))) = inr (inr (inr (inconclusive-means s r x .1 (z, w))))
 
 -- the event of a stray is the one that was reported
 pub stray-line : (y : ℕ) (s : Sheet) (r : Run) (i : ℕ) → reportFault s r (Event i) ≡ 0 → Straying s r (Event i)
@@ -200,6 +196,7 @@ test-other asked n e (Going x) w = go (asked .«trace_only») (ap (λ (l : List 
 test-other asked n e (Stray i) w = let z = ap (λ (l : List ℕ). getD l 0 0) (w .1) in omega (arith, z)
 test-other asked n e (Refused x) w = let z = ap (λ (l : List ℕ). getD l 0 0) (w .1) in omega (arith, z)
 test-other asked n e Passed w = let z = ap (λ (l : List ℕ). getD l 0 0) (w .1) in omega (arith, z)
+test-other asked n e Inconclusive w = let z = ap (λ (l : List ℕ). getD l 0 0) (w .1) in omega (arith, z)
 test-other asked n e (Denied m) w = let z = ap (λ (l : List ℕ). getD l 0 0) (w .1) in omega (arith, z)
 
 -- what an opening prints does not begin with `run `

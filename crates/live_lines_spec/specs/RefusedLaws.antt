@@ -20,7 +20,7 @@ use Rattle.tests_spec.specs.declared.Report.{Report}
 use Rattle.tests_spec.specs.declared.Report.the-variants.{Event, Blocked}
 use Rattle.tests_spec.specs.declared.Answer.the-variants.{Denied}
 use Rattle.tests_spec.specs.Runs.{offerOf, openFault, openOf, reportFault, movedBy, stepOf}
-use Rattle.tests_spec.specs.Reports.{Beyond, NotOffered, WrongRecord, Fitting, Started, Taken, denies, moves, strays, refuses, passes}
+use Rattle.tests_spec.specs.Reports.{Beyond, NotOffered, WrongRecord, Fitting, Started, Taken, denies, moves, strays, refuses, passes, halts}
 use Rattle.tests_spec.specs.RunLaws.{open-0, report-0, report-15, report-17, answer-of, run-of, taken}
 use Rattle.tests_spec.specs.RunRecords.{opening-starts, step-refused}
 use Rattle.live_lines_spec.specs.Answers.{offerLine, reportWords, reportRefusedLine, answerLines}
@@ -68,7 +68,8 @@ module _ (s : Sheet) (r : Run) (x : Report) (fit : Fitting s r) where
       go (moves i q z a l p) = rw (run-of p) (fit .0, moved i (node i (a .0) (a .1)) l)
       go (strays i q z m p) = absurd (n (inl (i, answer-of p)))
       go (refuses q z t m p) = absurd (n (inr (inl (offerOf s r, answer-of p))))
-      go (passes z q p) = absurd (n (inr (inr (answer-of p))))
+      go (passes z q p) = absurd (n (inr (inr (inl (answer-of p)))))
+      go (halts z q p) = absurd (n (inr (inr (inr (answer-of p)))))
 
   -- on a record that fits the sheet a refused report names no event of the sheet, or one that was not offered, and what
   -- is printed says which, before the offer that stood

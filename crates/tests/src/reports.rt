@@ -104,8 +104,8 @@ pub(crate) fn on_event(rows: [Row; 32], n: usize, e: usize, run: Run, event: u8)
     }
 }
 
-// The answer to "blocked": passed if the run is trace-only or the node may stop, else failed as refused. The sheet of
-// the rows and the record are not refused.
+// The answer to "blocked": in a trace-only run inconclusive below depth k, and passed at depth k; in any other passed if
+// the node may stop, else failed as refused. The sheet of the rows and the record are not refused.
 pub(crate) fn on_blocked(rows: [Row; 32], n: usize, e: usize, run: Run) -> Stepped
     requires { ⌜ (sheetFault (sheetWith rows e n) ≡ 0) × (recordFault n run ≡ 0) ⌝ }
     ensures { λ r. ⌜ r ≡ stepOf (sheetWith rows e n) run Blocked ⌝ }
@@ -113,6 +113,12 @@ pub(crate) fn on_blocked(rows: [Row; 32], n: usize, e: usize, run: Run) -> Stepp
     let row = rows[base::wide(run.node)];
     let after = ended(run);
     if run.trace_only != 0 {
+        if run.depth < run.k {
+            return Stepped {
+                answer: Answer::Inconclusive,
+                run: after,
+            };
+        }
         return Stepped {
             answer: Answer::Passed,
             run: after,

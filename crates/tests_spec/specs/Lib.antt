@@ -6,5 +6,6 @@ pub mod Offers
 pub mod RunLaws
 pub mod RunRecords
 pub mod NumberLaws
+pub mod Endings
 pub mod Recoded
 pub mod Cases

@@ -14,8 +14,8 @@ use Rattle.tests_spec.specs.declared.Report.{Report}
 use Rattle.tests_spec.specs.declared.Report.the-variants.{Event, Blocked}
 use Rattle.tests_spec.specs.Runs.{offerOf, newRun, openFault, openOf, reportFault, stepOf}
 use Rattle.tests_spec.specs.Numbers.{Said, said}
-use Rattle.tests_spec.specs.RunLaws.{open-going, open-denied, step-denied, stray-step, moving-step, passing-step, blocked-passes, blocked-refused, taken}
-use Rattle.tests_spec.specs.Reports.{Moving, Straying, Refusing, Passing, Taken, denies, moves, strays, refuses, passes}
+use Rattle.tests_spec.specs.RunLaws.{open-going, open-denied, step-denied, stray-step, moving-step, passing-step, blocked-halts, blocked-at-k, blocked-stops, blocked-refused, taken}
+use Rattle.tests_spec.specs.Reports.{Moving, Straying, Refusing, Passing, Halting, Taken, denies, moves, strays, refuses, passes, halts}
 
 -- ---- an opening
 
@@ -69,80 +69,96 @@ module _ (s : Sheet) (r : Run) where
   refusing-said (Event i) z m = absurd m
   refusing-said Blocked z (t, m) = rw (blocked-refused s r z t m)
 
-  -- an event inside the initials at depth k, and blocked, trace-only or where the node may stop, are of kind 4, with no
-  -- value
+  -- an event inside the initials at depth k, and blocked, trace-only at depth k or not trace-only where the node may
+  -- stop, are of kind 4, with no value
   pub passing-said : (x : Report) → reportFault s r x ≡ 0 → Passing s r x → said (stepOf s r x .answer) ≡ record { refusal = 0; kind = 4; value = 0 }
   unfolding said Passing
   passing-said (Event i) z (a, l) = rw (passing-step s r i z a l)
-  passing-said Blocked z w = rw (blocked-passes s r z w)
+  passing-said Blocked z (inl (t, l)) = rw (blocked-at-k s r z t l)
+  passing-said Blocked z (inr (t, m)) = rw (blocked-stops s r z t m)
+
+  -- blocked, trace-only, below depth k, is of kind 5, with no value
+  pub halting-said : (x : Report) → reportFault s r x ≡ 0 → Halting r x → said (stepOf s r x .answer) ≡ record { refusal = 0; kind = 5; value = 0 }
+  unfolding said
+  halting-said x z (e, t, l) = rw (e, blocked-halts s r (rw e at z) t l)
 
   module _ (x : Report) where
-    -- why a report is answered as it is: it is refused, or one of the four
-    reason : (reportFault s r x ≢ 0) ⊎ ((reportFault s r x ≡ 0) × (Moving s r x ⊎ (Straying s r x ⊎ (Refusing s r x ⊎ Passing s r x))))
+    -- why a report is answered as it is: it is refused, or one of the five
+    reason : (reportFault s r x ≢ 0) ⊎ ((reportFault s r x ≡ 0) × (Moving s r x ⊎ (Straying s r x ⊎ (Refusing s r x ⊎ (Passing s r x ⊎ Halting r x)))))
     unfolding Moving Straying Refusing
     reason = go (taken s r x)
       where
-        go : Taken s r x → (reportFault s r x ≢ 0) ⊎ ((reportFault s r x ≡ 0) × (Moving s r x ⊎ (Straying s r x ⊎ (Refusing s r x ⊎ Passing s r x))))
+        go : Taken s r x → (reportFault s r x ≢ 0) ⊎ ((reportFault s r x ≡ 0) × (Moving s r x ⊎ (Straying s r x ⊎ (Refusing s r x ⊎ (Passing s r x ⊎ Halting r x)))))
         go (denies n p) = inl n
         go (moves i e z a l p) = inr (z, inl (rw e (a, l)))
         go (strays i e z n p) = inr (z, inr (inl (rw e n)))
         go (refuses e z t m p) = inr (z, inr (inr (inl (rw e (t, m)))))
-        go (passes z w p) = inr (z, inr (inr (inr w)))
+        go (passes z w p) = inr (z, inr (inr (inr (inl w))))
+        go (halts z w p) = inr (z, inr (inr (inr (inr w))))
 
-    -- from the kind of the answer to the reason for it: the reasons of the four other kinds do not hold
+    -- from the kind of the answer to the reason for it: the reasons of the five other kinds do not hold
     by-kind : {A : Type 0} (m : ℕ) → said (stepOf s r x .answer) .kind ≡ m
         → (m ≡ 0 → reportFault s r x ≢ 0 → A)
         → (m ≡ 1 → reportFault s r x ≡ 0 → Moving s r x → A)
         → (m ≡ 2 → reportFault s r x ≡ 0 → Straying s r x → A)
         → (m ≡ 3 → reportFault s r x ≡ 0 → Refusing s r x → A)
         → (m ≡ 4 → reportFault s r x ≡ 0 → Passing s r x → A)
+        → (m ≡ 5 → reportFault s r x ≡ 0 → Halting r x → A)
         → A
-    by-kind {A} m e f0 f1 f2 f3 f4 = go reason
+    by-kind {A} m e f0 f1 f2 f3 f4 f5 = go reason
       where
         is : {n : Said} → said (stepOf s r x .answer) ≡ n → m ≡ n .kind
         is q = sym e ∙ ap (λ (n : Said). n .kind) q
 
-        go : (reportFault s r x ≢ 0) ⊎ ((reportFault s r x ≡ 0) × (Moving s r x ⊎ (Straying s r x ⊎ (Refusing s r x ⊎ Passing s r x)))) → A
+        go : (reportFault s r x ≢ 0) ⊎ ((reportFault s r x ≡ 0) × (Moving s r x ⊎ (Straying s r x ⊎ (Refusing s r x ⊎ (Passing s r x ⊎ Halting r x))))) → A
         go (inl n) = f0 (is (denied-said x n)) n
         go (inr (z, inl w)) = f1 (is (moving-said x z w)) z w
         go (inr (z, inr (inl w))) = f2 (is (stray-parts x z w .1)) z w
         go (inr (z, inr (inr (inl w)))) = f3 (is (refusing-said x z w)) z w
-        go (inr (z, inr (inr (inr w)))) = f4 (is (passing-said x z w)) z w
+        go (inr (z, inr (inr (inr (inl w))))) = f4 (is (passing-said x z w)) z w
+        go (inr (z, inr (inr (inr (inr w))))) = f5 (is (halting-said x z w)) z w
 
     -- the kind is 0 exactly if the report is refused
     pub kind-0 : (said (stepOf s r x .answer) .kind ≡ 0) ↔ (reportFault s r x ≢ 0)
     kind-0 = (
-      λ e. by-kind 0 e (λ q n. n) (λ q. absurd (omega arith)) (λ q. absurd (omega arith)) (λ q. absurd (omega arith)) (λ q. absurd (omega arith)),
+      λ e. by-kind 0 e (λ q n. n) (λ q. absurd (omega arith)) (λ q. absurd (omega arith)) (λ q. absurd (omega arith)) (λ q. absurd (omega arith)) (λ q. absurd (omega arith)),
       λ n. ap (λ (m : Said). m .kind) (denied-said x n),
     )
 
     -- the kind is 1 exactly if the report is an event inside the initials below depth k, and not refused
     pub kind-1 : (said (stepOf s r x .answer) .kind ≡ 1) ↔ ((reportFault s r x ≡ 0) × Moving s r x)
     kind-1 = (
-      λ e. by-kind 1 e (λ q. absurd (omega arith)) (λ q z w. (z, w)) (λ q. absurd (omega arith)) (λ q. absurd (omega arith)) (λ q. absurd (omega arith)),
+      λ e. by-kind 1 e (λ q. absurd (omega arith)) (λ q z w. (z, w)) (λ q. absurd (omega arith)) (λ q. absurd (omega arith)) (λ q. absurd (omega arith)) (λ q. absurd (omega arith)),
       λ w. ap (λ (m : Said). m .kind) (moving-said x (w .0) (w .1)),
     )
 
     -- the kind is 2 exactly if the report is an event outside the initials, and not refused
     pub kind-2 : (said (stepOf s r x .answer) .kind ≡ 2) ↔ ((reportFault s r x ≡ 0) × Straying s r x)
     kind-2 = (
-      λ e. by-kind 2 e (λ q. absurd (omega arith)) (λ q. absurd (omega arith)) (λ q z w. (z, w)) (λ q. absurd (omega arith)) (λ q. absurd (omega arith)),
+      λ e. by-kind 2 e (λ q. absurd (omega arith)) (λ q. absurd (omega arith)) (λ q z w. (z, w)) (λ q. absurd (omega arith)) (λ q. absurd (omega arith)) (λ q. absurd (omega arith)),
       λ w. ap (λ (m : Said). m .kind) (stray-parts x (w .0) (w .1) .1),
     )
 
     -- the kind is 3 exactly if the report is blocked, not trace-only, where the node may not stop, and not refused
     pub kind-3 : (said (stepOf s r x .answer) .kind ≡ 3) ↔ ((reportFault s r x ≡ 0) × Refusing s r x)
     kind-3 = (
-      λ e. by-kind 3 e (λ q. absurd (omega arith)) (λ q. absurd (omega arith)) (λ q. absurd (omega arith)) (λ q z w. (z, w)) (λ q. absurd (omega arith)),
+      λ e. by-kind 3 e (λ q. absurd (omega arith)) (λ q. absurd (omega arith)) (λ q. absurd (omega arith)) (λ q z w. (z, w)) (λ q. absurd (omega arith)) (λ q. absurd (omega arith)),
       λ w. ap (λ (m : Said). m .kind) (refusing-said x (w .0) (w .1)),
     )
 
     -- the kind is 4 exactly if the report is not refused and is an event inside the initials at depth k, or blocked,
-    -- trace-only or where the node may stop
+    -- trace-only at depth k or not trace-only where the node may stop
     pub kind-4 : (said (stepOf s r x .answer) .kind ≡ 4) ↔ ((reportFault s r x ≡ 0) × Passing s r x)
     kind-4 = (
-      λ e. by-kind 4 e (λ q. absurd (omega arith)) (λ q. absurd (omega arith)) (λ q. absurd (omega arith)) (λ q. absurd (omega arith)) (λ q z w. (z, w)),
+      λ e. by-kind 4 e (λ q. absurd (omega arith)) (λ q. absurd (omega arith)) (λ q. absurd (omega arith)) (λ q. absurd (omega arith)) (λ q z w. (z, w)) (λ q. absurd (omega arith)),
       λ w. ap (λ (m : Said). m .kind) (passing-said x (w .0) (w .1)),
+    )
+
+    -- the kind is 5 exactly if the report is blocked, trace-only, below depth k, and not refused
+    pub kind-5 : (said (stepOf s r x .answer) .kind ≡ 5) ↔ ((reportFault s r x ≡ 0) × Halting r x)
+    kind-5 = (
+      λ e. by-kind 5 e (λ q. absurd (omega arith)) (λ q. absurd (omega arith)) (λ q. absurd (omega arith)) (λ q. absurd (omega arith)) (λ q. absurd (omega arith)) (λ q z w. (z, w)),
+      λ w. ap (λ (m : Said). m .kind) (halting-said x (w .0) (w .1)),
     )
 
     -- every report, refused or not, is answered with its refusal
@@ -152,10 +168,11 @@ module _ (s : Sheet) (r : Run) where
         is : {n : Said} → said (stepOf s r x .answer) ≡ n → said (stepOf s r x .answer) .refusal ≡ n .refusal
         is q = ap (λ (n : Said). n .refusal) q
 
-        go : (reportFault s r x ≢ 0) ⊎ ((reportFault s r x ≡ 0) × (Moving s r x ⊎ (Straying s r x ⊎ (Refusing s r x ⊎ Passing s r x))))
+        go : (reportFault s r x ≢ 0) ⊎ ((reportFault s r x ≡ 0) × (Moving s r x ⊎ (Straying s r x ⊎ (Refusing s r x ⊎ (Passing s r x ⊎ Halting r x)))))
             → said (stepOf s r x .answer) .refusal ≡ reportFault s r x
         go (inl n) = is (denied-said x n)
         go (inr (z, inl w)) = is (moving-said x z w) ∙ sym z
         go (inr (z, inr (inl w))) = is (stray-parts x z w .1) ∙ sym z
         go (inr (z, inr (inr (inl w)))) = is (refusing-said x z w) ∙ sym z
-        go (inr (z, inr (inr (inr w)))) = is (passing-said x z w) ∙ sym z
+        go (inr (z, inr (inr (inr (inl w))))) = is (passing-said x z w) ∙ sym z
+        go (inr (z, inr (inr (inr (inr w))))) = is (halting-said x z w) ∙ sym z

@@ -5,7 +5,7 @@ use mathlib.Core.Bool.{cond}
 use Prim.Native.Nat.{ℕ}
 use lib.Dec.{eqb}
 use Rattle.tests_spec.specs.declared.Answer.{Answer}
-use Rattle.tests_spec.specs.declared.Answer.the-variants.{Going, Stray, Refused, Passed, Denied}
+use Rattle.tests_spec.specs.declared.Answer.the-variants.{Going, Stray, Refused, Passed, Inconclusive, Denied}
 
 -- what an answer says in numbers
 pub record Said : Type 0 where
@@ -17,13 +17,14 @@ pub record Said : Type 0 where
   pub value : ℕ
 
 -- the numbers of an answer: going on is 1 with the next offer, stray 2 with the event, refused 3 with the set offered,
--- passed 4
+-- passed 4, inconclusive 5
 unfoldable pub said : Answer → Said
 said (Denied m) = record { refusal = m; kind = 0; value = 0 }
 said (Going x) = record { refusal = 0; kind = 1; value = x }
 said (Stray i) = record { refusal = 0; kind = 2; value = i }
 said (Refused x) = record { refusal = 0; kind = 3; value = x }
 said Passed = record { refusal = 0; kind = 4; value = 0 }
+said Inconclusive = record { refusal = 0; kind = 5; value = 0 }
 
 -- the answer that has the given numbers
 answerFrom : Said → Answer
@@ -31,7 +32,8 @@ answerFrom n =
     cond (eqb (n .kind) 0) (Denied (n .refusal))
     (cond (eqb (n .kind) 1) (Going (n .value))
     (cond (eqb (n .kind) 2) (Stray (n .value))
-    (cond (eqb (n .kind) 3) (Refused (n .value)) Passed)))
+    (cond (eqb (n .kind) 3) (Refused (n .value))
+    (cond (eqb (n .kind) 4) Passed Inconclusive))))
 
 answer-back : (a : Answer) → answerFrom (said a) ≡ a
 unfolding said answerFrom
@@ -40,6 +42,7 @@ answer-back (Going x) = refl
 answer-back (Stray i) = refl
 answer-back (Refused x) = refl
 answer-back Passed = refl
+answer-back Inconclusive = refl
 
 -- two answers with the same numbers are one
 pub said-once : (a b : Answer) → said a ≡ said b → a ≡ b

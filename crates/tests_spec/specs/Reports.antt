@@ -13,7 +13,7 @@ use Rattle.tests_spec.specs.declared.Run.{Run}
 use Rattle.tests_spec.specs.declared.Report.{Report}
 use Rattle.tests_spec.specs.declared.Report.the-variants.{Event, Blocked}
 use Rattle.tests_spec.specs.declared.Answer.{Answer}
-use Rattle.tests_spec.specs.declared.Answer.the-variants.{Going, Stray, Refused, Passed, Denied}
+use Rattle.tests_spec.specs.declared.Answer.the-variants.{Going, Stray, Refused, Passed, Inconclusive, Denied}
 use Rattle.tests_spec.specs.Flags.{flag}
 use Rattle.tests_spec.specs.Runs.{offerOf, answered, reportFault, movedBy, endedRun, stepOf}
 
@@ -86,10 +86,15 @@ Refusing s r (Event i) = ⊥
 Refusing s r Blocked = (flag (r .«trace_only») ≡ false) × (mayStop (row s (r .node)) ≡ false)
 
 -- a report with which a run that takes it has passed: an event inside the initials at depth k; or blocked, in a
--- trace-only run or where the node may stop
+-- trace-only run at depth k, in any other where the node may stop
 unfoldable pub Passing : Sheet → Run → Report → Type 0
 Passing s r (Event i) = Initial (s .e) (row s (r .node)) i × (r .k ≤ r .depth)
-Passing s r Blocked = (flag (r .«trace_only») ≡ true) ⊎ (mayStop (row s (r .node)) ≡ true)
+Passing s r Blocked =
+    ((flag (r .«trace_only») ≡ true) × (r .k ≤ r .depth)) ⊎ ((flag (r .«trace_only») ≡ false) × (mayStop (row s (r .node)) ≡ true))
+
+-- a report by which a run that takes it has ended as inconclusive (02, K4): blocked, in a trace-only run, below depth k
+abbrev pub Halting : Run → Report → Type 0
+Halting r x = (x ≡ Blocked) × (flag (r .«trace_only») ≡ true) × (r .depth < r .k)
 
 -- what becomes of a report: it is refused and alters nothing, or moves the run on below depth k, or ends it
 pub data Taken (s : Sheet) (r : Run) (x : Report) : Type 0 where
@@ -100,6 +105,7 @@ pub data Taken (s : Sheet) (r : Run) (x : Report) : Type 0 where
   refuses : x ≡ Blocked → reportFault s r x ≡ 0 → flag (r .«trace_only») ≡ false → mayStop (row s (r .node)) ≡ false
       → stepOf s r x ≡ answered (Refused (offerOf s r)) (endedRun r) → Taken s r x
   passes : reportFault s r x ≡ 0 → Passing s r x → stepOf s r x ≡ answered Passed (endedRun r) → Taken s r x
+  halts : reportFault s r x ≡ 0 → Halting r x → stepOf s r x ≡ answered Inconclusive (endedRun r) → Taken s r x
 
 -- 1 for an answer that is not a refusal
 unfoldable pub counts : Answer → ℕ
@@ -107,6 +113,7 @@ counts (Going x) = 1
 counts (Stray i) = 1
 counts (Refused x) = 1
 counts Passed = 1
+counts Inconclusive = 1
 counts (Denied m) = 0
 
 -- how many of a sequence of reports, each shown some sheet, are not denied

@@ -7,7 +7,7 @@ use Prim.Native.Nat.{ℕ, _≤_, _<_}
 use native.Mathlib.Omega.{arith}
 use lib.Dec.{eqb, ltb, leb}
 use borrow.Author.Tests.{eqb-true, eqb-false, eq-eqb, ne-eqb, lt-ltb, le-ltb}
-use Rattle.base.specs.Truth.{dec, clash, lt-or-ge, or-r, not-i}
+use Rattle.base.specs.Truth.{dec, clash, lt-or-ge, not-i}
 use Rattle.base.specs.Finds.{Finds, finds-le, finds-lt, finds-and, finds-not}
 use Rattle.base.specs.Refusal.{unless, unless-hit, unless-pass, unless-none, unless-other, orElse-first, orElse-then}
 use Rattle.events.specs.Bit.{bit}
@@ -23,12 +23,12 @@ use Rattle.tests_spec.specs.declared.Run.{Run}
 use Rattle.tests_spec.specs.declared.Report.{Report}
 use Rattle.tests_spec.specs.declared.Report.the-variants.{Event, Blocked}
 use Rattle.tests_spec.specs.declared.Answer.{Answer}
-use Rattle.tests_spec.specs.declared.Answer.the-variants.{Going, Stray, Refused, Passed, Denied}
+use Rattle.tests_spec.specs.declared.Answer.the-variants.{Going, Stray, Refused, Passed, Inconclusive, Denied}
 use Rattle.tests_spec.specs.declared.Stepped.{Stepped}
 use Rattle.tests_spec.specs.Flags.{flag}
 use Rattle.tests_spec.specs.Runs.{offerOf, newRun, zeroRun, answered, openFault, openOf, recordOk, eventFault, reportFault, movedBy, endedRun, answerOf, stepOf}
 use Rattle.tests_spec.specs.Numbers.{said}
-use Rattle.tests_spec.specs.Reports.{Beyond, NotOffered, WrongRecord, Shown, Fitting, Passing, Taken, denies, moves, strays, refuses, passes}
+use Rattle.tests_spec.specs.Reports.{Beyond, NotOffered, WrongRecord, Shown, Fitting, Passing, Taken, denies, moves, strays, refuses, passes, halts}
 
 -- the refusals and the answers of an opening
 module _ (s : Sheet) (k : ℕ) where
@@ -216,11 +216,20 @@ module _ (s : Sheet) (r : Run) where
   unfolding answerOf
   passing-step i z a l = step-answers s r (Event i) z ∙ rw (inner i z a, le-ltb (r .depth) (r .k) l)
 
-  -- blocked: passed in a trace-only run and where the node may stop
-  pub blocked-passes : reportFault s r Blocked ≡ 0 → (flag (r .«trace_only») ≡ true) ⊎ (mayStop (row s (r .node)) ≡ true) → stepOf s r Blocked ≡ answered Passed (endedRun r)
+  -- blocked in a trace-only run below depth k: ended, inconclusive, whether or not the node may stop
+  pub blocked-halts : reportFault s r Blocked ≡ 0 → flag (r .«trace_only») ≡ true → r .depth < r .k → stepOf s r Blocked ≡ answered Inconclusive (endedRun r)
   unfolding answerOf
-  blocked-passes z (inl t) = step-answers s r Blocked z ∙ rw t
-  blocked-passes z (inr m) = step-answers s r Blocked z ∙ rw (or-r (flag (r .«trace_only»)) m)
+  blocked-halts z t l = step-answers s r Blocked z ∙ rw (t, lt-ltb (r .depth) (r .k) l)
+
+  -- blocked in a trace-only run at depth k: the run has passed
+  pub blocked-at-k : reportFault s r Blocked ≡ 0 → flag (r .«trace_only») ≡ true → r .k ≤ r .depth → stepOf s r Blocked ≡ answered Passed (endedRun r)
+  unfolding answerOf
+  blocked-at-k z t l = step-answers s r Blocked z ∙ rw (t, le-ltb (r .depth) (r .k) l)
+
+  -- blocked in a run with refusals where the node may stop: the run has passed
+  pub blocked-stops : reportFault s r Blocked ≡ 0 → flag (r .«trace_only») ≡ false → mayStop (row s (r .node)) ≡ true → stepOf s r Blocked ≡ answered Passed (endedRun r)
+  unfolding answerOf
+  blocked-stops z t m = step-answers s r Blocked z ∙ rw (t, m)
 
   -- blocked in a run with refusals where the node may not stop: ended, failed as refused, with the set offered
   pub blocked-refused : reportFault s r Blocked ≡ 0 → flag (r .«trace_only») ≡ false → mayStop (row s (r .node)) ≡ false
@@ -249,12 +258,14 @@ taken s r x = go (dec (eqb (reportFault s r x) 0))
         pick (inr t) d =
             let n : ¬ Initial (s .e) (row s (r .node)) i = λ a. clash (inner s r i z a) t in
             strays i refl z n (stray-step s r i z n)
-    given Blocked z = pick (dec (flag (r .«trace_only»))) (dec (mayStop (row s (r .node))))
+    given Blocked z = pick (dec (flag (r .«trace_only»))) (lt-or-ge (r .depth) (r .k)) (dec (mayStop (row s (r .node))))
       where
-        pick : (flag (r .«trace_only») ≡ true) ⊎ (flag (r .«trace_only») ≡ false) → (mayStop (row s (r .node)) ≡ true) ⊎ (mayStop (row s (r .node)) ≡ false) → Taken s r Blocked
-        pick (inl t) m = passes z (inl t) (blocked-passes s r z (inl t))
-        pick (inr t) (inl m) = passes z (inr m) (blocked-passes s r z (inr m))
-        pick (inr t) (inr m) = refuses refl z t m (blocked-refused s r z t m)
+        pick : (flag (r .«trace_only») ≡ true) ⊎ (flag (r .«trace_only») ≡ false) → (r .depth < r .k) ⊎ (r .k ≤ r .depth)
+            → (mayStop (row s (r .node)) ≡ true) ⊎ (mayStop (row s (r .node)) ≡ false) → Taken s r Blocked
+        pick (inl t) (inl l) m = halts z (refl, t, l) (blocked-halts s r z t l)
+        pick (inl t) (inr l) m = passes z (inl (t, l)) (blocked-at-k s r z t l)
+        pick (inr t) l (inl m) = passes z (inr (t, m)) (blocked-stops s r z t m)
+        pick (inr t) l (inr m) = refuses refl z t m (blocked-refused s r z t m)
 
     go : (eqb (reportFault s r x) 0 ≡ true) ⊎ (eqb (reportFault s r x) 0 ≡ false) → Taken s r x
     go (inl t) = given x (eqb-true _ 0 t)

@@ -16,13 +16,13 @@ use Rattle.tests_spec.specs.declared.Run.{Run}
 use Rattle.tests_spec.specs.declared.Report.{Report}
 use Rattle.tests_spec.specs.declared.Report.the-variants.{Event}
 use Rattle.tests_spec.specs.declared.Answer.{Answer}
-use Rattle.tests_spec.specs.declared.Answer.the-variants.{Going, Refused, Denied}
+use Rattle.tests_spec.specs.declared.Answer.the-variants.{Going, Stray, Refused, Passed, Inconclusive, Denied}
 use Rattle.tests_spec.specs.Flags.{flag, flag-clear, flag-set, flag-of, flag-small}
 use Rattle.tests_spec.specs.Runs.{answered, offerOf, newRun, openFault, openOf, reportFault, movedBy, endedRun, stepOf}
 use Rattle.tests_spec.specs.declared.Stepped.{Stepped}
 use Rattle.tests_spec.specs.Numbers.{said}
 use Rattle.tests_spec.specs.RunLaws.{open-going, answer-of, kind-same, report-16, run-of, step-denied, taken, unrefused, value-same}
-use Rattle.tests_spec.specs.Reports.{Taken, denies, moves, strays, refuses, passes, Started, Moved, Marked, counts, takenCount, runAfter}
+use Rattle.tests_spec.specs.Reports.{Taken, denies, moves, strays, refuses, passes, halts, Started, Moved, Marked, counts, takenCount, runAfter}
 
 -- an opening that is not refused has the record of a run at its start
 pub opening-starts : (traceOnly : Bool) (s : Sheet) (k h : ℕ) → openFault s k ≡ 0 → Started traceOnly k h (openOf traceOnly s k h .run)
@@ -43,6 +43,7 @@ module _ (s : Sheet) (r : Run) (x : Report) where
       forth e (strays i _ z n p) = absurd (omega (arith, kind-same (sym (answer-of p) ∙ e)))
       forth e (refuses _ z t m p) = absurd (omega (arith, kind-same (sym (answer-of p) ∙ e)))
       forth e (passes z _ p) = absurd (omega (arith, kind-same (sym (answer-of p) ∙ e)))
+      forth e (halts z _ p) = absurd (omega (arith, kind-same (sym (answer-of p) ∙ e)))
 
       back : (reportFault s r x ≡ m) × (m ≢ 0) → stepOf s r x .answer ≡ Denied m
       back (e, n) = answer-of (step-denied s r x (λ z. n (sym e ∙ z))) ∙ ap Denied e
@@ -83,6 +84,7 @@ module _ (s : Sheet) (r : Run) (x : Report) where
       go (strays i _ z n p) = omega (arith, kind-same (sym (answer-of p) ∙ e))
       go (refuses _ z f m p) = clash t f
       go (passes z _ p) = omega (arith, kind-same (sym (answer-of p) ∙ e))
+      go (halts z _ p) = omega (arith, kind-same (sym (answer-of p) ∙ e))
 
   -- a report with which the run goes on is an event; the run, at most k deep, is one deeper and at the event's
   -- successor, and nothing else of it alters; the answer has its next offer
@@ -103,6 +105,7 @@ module _ (s : Sheet) (r : Run) (x : Report) where
       go (strays i _ z n p) = absurd (omega (arith, kind-same (sym (answer-of p) ∙ e)))
       go (refuses _ z f m p) = absurd (omega (arith, kind-same (sym (answer-of p) ∙ e)))
       go (passes z _ p) = absurd (omega (arith, kind-same (sym (answer-of p) ∙ e)))
+      go (halts z _ p) = absurd (omega (arith, kind-same (sym (answer-of p) ∙ e)))
 
   -- an answer that neither refuses nor goes on ends the run: the record is marked, and nothing else of it alters
   pub ending-marks : ((m : ℕ) → stepOf s r x .answer ≢ Denied m) → ((X : ℕ) → stepOf s r x .answer ≢ Going X) → Marked r (stepOf s r x .run)
@@ -118,11 +121,27 @@ module _ (s : Sheet) (r : Run) (x : Report) where
       go (strays i _ z n p) = marked p
       go (refuses _ z f m p) = marked p
       go (passes z _ p) = marked p
+      go (halts z _ p) = marked p
+
+-- after an ending every report, shown an accepted sheet, gets 16, and the record stays
+pub ending-16 : (s : Sheet) (r : Run) (x : Report) → ((m : ℕ) → stepOf s r x .answer ≢ Denied m) → ((X : ℕ) → stepOf s r x .answer ≢ Going X)
+    → (next : Sheet) (y : Report) → sheetFault next ≡ 0 → stepOf next (stepOf s r x .run) y ≡ answered (Denied 16) (stepOf s r x .run)
+ending-16 s r x a b next y z = ended-16 next (stepOf s r x .run) y z (flag-set _ (λ e. omega (arith, e, ending-marks s r x a b .ended)))
 
 -- a marked record reads as ended
 pub ended-marked : (r : Run) → flag (endedRun r .ended) ≡ true
 unfolding endedRun
 ended-marked r = flag-set 1 (λ e. omega arith)
+
+-- an answer counts as an accepted report exactly if it is no refusal
+pub counts-means : (a : Answer) → (counts a ≡ 1) ↔ ((m : ℕ) → a ≢ Denied m)
+unfolding counts said
+counts-means (Going x) = (λ c m e. omega (arith, kind-same e), λ n. refl)
+counts-means (Stray i) = (λ c m e. omega (arith, kind-same e), λ n. refl)
+counts-means (Refused x) = (λ c m e. omega (arith, kind-same e), λ n. refl)
+counts-means Passed = (λ c m e. omega (arith, kind-same e), λ n. refl)
+counts-means Inconclusive = (λ c m e. omega (arith, kind-same e), λ n. refl)
+counts-means (Denied k) = (λ c. absurd (omega (arith, c)), λ n. absurd (n k refl))
 
 -- whatever an ended run is shown, its record stays
 pub ended-stays : (ls : List (Sheet × Report)) (r : Run) → flag (r .ended) ≡ true → runAfter r ls ≡ r
@@ -145,6 +164,7 @@ ended-none (l ∷ ls) r t = go (taken (l .0) r (l .1)) (ended-none ls r t)
     go (strays i _ z n p) ih = absurd (live z)
     go (refuses _ z f m p) ih = absurd (live z)
     go (passes z _ p) ih = absurd (live z)
+    go (halts z _ p) ih = absurd (live z)
 
 -- over any sequence of sheets and reports a record with depth at most k has at most k + 1 - depth reports that are not
 -- denied
@@ -163,6 +183,7 @@ taken-bound (l ∷ ls) r d = go (taken (l .0) r (l .1)) (taken-bound ls)
     go (strays i _ z n p) ih = rw p (omega (arith, last))
     go (refuses _ z f m p) ih = rw p (omega (arith, last))
     go (passes z _ p) ih = rw p (omega (arith, last))
+    go (halts z _ p) ih = rw p (omega (arith, last))
 
 -- with k + 1 - depth reports that are not denied the run has ended: it ends within k + 1 accepted reports
 pub taken-ends : (ls : List (Sheet × Report)) (r : Run) → r .depth ≤ r .k → takenCount r ls ≡ r .k + 1 - r .depth → flag (runAfter r ls .ended) ≡ true
@@ -180,3 +201,4 @@ taken-ends (l ∷ ls) r d e = go (taken (l .0) r (l .1)) (taken-ends ls)
     go (strays i _ z n p) ih = rw p last
     go (refuses _ z f m p) ih = rw p last
     go (passes z _ p) ih = rw p last
+    go (halts z _ p) ih = rw p last

@@ -16,7 +16,7 @@ use Rattle.tests_spec.specs.declared.Run.{Run}
 use Rattle.tests_spec.specs.declared.Report.{Report}
 use Rattle.tests_spec.specs.declared.Report.the-variants.{Event, Blocked}
 use Rattle.tests_spec.specs.declared.Answer.{Answer}
-use Rattle.tests_spec.specs.declared.Answer.the-variants.{Going, Stray, Refused, Passed, Denied}
+use Rattle.tests_spec.specs.declared.Answer.the-variants.{Going, Stray, Refused, Passed, Inconclusive, Denied}
 use Rattle.tests_spec.specs.declared.Stepped.{Stepped}
 use Rattle.tests_spec.specs.Flags.{flag, flagOf}
 
@@ -87,8 +87,8 @@ unfoldable pub endedRun : Run → Run
 endedRun r = record { k = r .k; h = r .h; «trace_only» = r .«trace_only»; ended = 1; node = r .node; depth = r .depth }
 
 -- the answer to a report. An event outside the initials: failed as stray; inside them below depth k the run moves on,
--- at depth k it has passed. Blocked: passed if the node may stop or the run is trace-only, else failed as refused with
--- the set offered
+-- at depth k it has passed. Blocked, in a trace-only run: inconclusive below depth k, passed at depth k; in any other:
+-- passed if the node may stop, else failed as refused with the set offered
 unfoldable pub answerOf : Sheet → Run → Report → Stepped
 answerOf s r (Event i) =
     cond (has (initials (s .e) (row s (r .node))) i)
@@ -97,9 +97,13 @@ answerOf s r (Event i) =
     (answered Passed (endedRun r)))
     (answered (Stray i) (endedRun r))
 answerOf s r Blocked =
-    cond (flag (r .«trace_only») || mayStop (row s (r .node)))
+    cond (flag (r .«trace_only»))
+    (cond (ltb (r .depth) (r .k))
+    (answered Inconclusive (endedRun r))
+    (answered Passed (endedRun r)))
+    (cond (mayStop (row s (r .node)))
     (answered Passed (endedRun r))
-    (answered (Refused (offerOf s r)) (endedRun r))
+    (answered (Refused (offerOf s r)) (endedRun r)))
 
 -- a report is answered, or refused with its number and the record as it came
 unfoldable pub stepOf : Sheet → Run → Report → Stepped

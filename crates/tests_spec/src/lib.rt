@@ -21,12 +21,13 @@ pub enum Report {
 }
 
 // The answer to an opening or a report: the run goes on with the next offer, or has ended failed as stray with the
-// event, failed as refused with the set offered, or passed; or the call is refused with a number.
+// event, failed as refused with the set offered, passed, or inconclusive; or the call is refused with a number.
 pub enum Answer {
     Going(u16),
     Stray(u8),
     Refused(u16),
     Passed,
+    Inconclusive,
     Denied(u8),
 }
 

@@ -170,12 +170,20 @@ module _ (P Q : Sheet) (accP : sheetFault P ≡ 0) (accQ : sheetFault Q ≡ 0) (
         go (inl l) = (l, distance-fails l, nearer-passes)
         go (inr l) = absurd (n (refines-distance op oq same traceOnly .1 l))
 
+    -- where the device refines the reference, no run of a test ends failed, whatever the test's number; with traces
+    -- alone its runs may be inconclusive (02, K4)
+    pub refining-unfailed : RefinesIn traceOnly P Q → (k : ℕ) → k ≤ 1023 → ¬ FailsTest traceOnly P Q k
+    refining-unfailed r k l f = clash (fails-means P Q accP accQ same traceOnly k l .1 f) (refining-false r k)
+
     -- no run of a test below p·q can end failed exactly if the device refines the reference
     pub runs-complete : ((k : ℕ) → k < P .n * Q .n → ¬ FailsTest traceOnly P Q k) ↔ RefinesIn traceOnly P Q
-    runs-complete = (λ f. tests-complete .0 (λ k l. not-i (λ t. f k l (means k l .0 t))), λ r k l x. clash (means k l .1 x) (refining-false r k))
+    runs-complete = (
+      λ f. tests-complete .0 (λ k l. not-i (λ t. f k l (fails-means P Q accP accQ same traceOnly k (few k l) .0 t))),
+      λ r k l. refining-unfailed r k (few k l),
+    )
       where
-        means : (k : ℕ) → k < P .n * Q .n → (failsFrom traceOnly P Q k 0 0 ≡ true) ↔ FailsTest traceOnly P Q k
-        means k l = fails-means P Q accP accQ same traceOnly k (omega (arith, nodes-most op oq))
+        few : (k : ℕ) → k < P .n * Q .n → k ≤ 1023
+        few k l = omega (arith, nodes-most op oq)
 
   -- of the trace-only tests, test p·q - 1 decides alone
   pub single-test : (failsFrom true P Q (P .n * Q .n - 1) 0 0 ≡ false) ↔ TraceRefines P Q

@@ -28,7 +28,8 @@ use Rattle.refinement_spec.specs.PairLaws.{stray-means, violates-means}
 use Rattle.tests_spec.specs.declared.Run.{Run}
 use Rattle.tests_spec.specs.declared.Report.{Report}
 use Rattle.tests_spec.specs.declared.Report.the-variants.{Event, Blocked}
-use Rattle.tests_spec.specs.declared.Answer.the-variants.{Going}
+use Rattle.tests_spec.specs.declared.Answer.{Answer}
+use Rattle.tests_spec.specs.declared.Answer.the-variants.{Going, Stray, Refused, Passed, Inconclusive, Denied}
 use Rattle.verdicts_spec.specs.declared.Verdict.{Verdict}
 use Rattle.verdicts_spec.specs.declared.Verdict.the-variants.{Passes, Fails, Denied as NoVerdict}
 use Rattle.tests_spec.specs.Flags.{flag, flagOf, flag-clear, flag-of}
@@ -39,7 +40,7 @@ use Rattle.verdicts_spec.specs.Numbers.{judged}
 use Rattle.tests_spec.specs.Offers.{offer-all, offer-below, offer-at, offer-outside}
 use Rattle.verdicts_spec.specs.Blocks.{stop-blocks, all-blocked, block-refusal, refusal-block}
 use Rattle.tests_spec.specs.RunLaws.{open-0, open-going, report-0, answer-of, run-of, kind-same, value-same, stray-step, moving-step, blocked-refused, taken}
-use Rattle.tests_spec.specs.Reports.{Beyond, NotOffered, WrongRecord, Taken, denies, moves, strays, refuses, passes}
+use Rattle.tests_spec.specs.Reports.{Beyond, NotOffered, WrongRecord, Taken, denies, moves, strays, refuses, passes, halts}
 use Rattle.verdicts_spec.specs.FaultyPairs.{StopsAt, FailsOnward, fails-next}
 
 -- The refusals of a verdict.
@@ -100,6 +101,32 @@ verdict-refused P Q k traceOnly m = (λ e. forth e (dec (eqb (verdictFault P Q k
 
     back : (verdictFault P Q k ≡ m) × (m ≢ 0) → verdictOf traceOnly P Q k ≡ NoVerdict m
     back (e, n) = verdict-denied P Q k traceOnly (λ z. n (sym e ∙ z)) ∙ ap NoVerdict e
+
+-- an answer ends a run as failed exactly if it is a stray or "refused": passed and inconclusive are no failure
+pub failed-means : (a : Answer) → Failed a ↔ (((i : ℕ) × (a ≡ Stray i)) ⊎ ((X : ℕ) × (a ≡ Refused X)))
+unfolding Failed said
+failed-means (Going y) = (λ f. absurd f, never)
+  where
+    never : ((i : ℕ) × (Going y ≡ Stray i)) ⊎ ((X : ℕ) × (Going y ≡ Refused X)) → ⊥
+    never (inl w) = omega (arith, kind-same (w .1))
+    never (inr w) = omega (arith, kind-same (w .1))
+failed-means (Stray i) = (λ f. inl (i, refl), λ w. tt)
+failed-means (Refused X) = (λ f. inr (X, refl), λ w. tt)
+failed-means Passed = (λ f. absurd f, never)
+  where
+    never : ((i : ℕ) × (Passed ≡ Stray i)) ⊎ ((X : ℕ) × (Passed ≡ Refused X)) → ⊥
+    never (inl w) = omega (arith, kind-same (w .1))
+    never (inr w) = omega (arith, kind-same (w .1))
+failed-means Inconclusive = (λ f. absurd f, never)
+  where
+    never : ((i : ℕ) × (Inconclusive ≡ Stray i)) ⊎ ((X : ℕ) × (Inconclusive ≡ Refused X)) → ⊥
+    never (inl w) = omega (arith, kind-same (w .1))
+    never (inr w) = omega (arith, kind-same (w .1))
+failed-means (Denied m) = (λ f. absurd f, never)
+  where
+    never : ((i : ℕ) × (Denied m ≡ Stray i)) ⊎ ((X : ℕ) × (Denied m ≡ Refused X)) → ⊥
+    never (inl w) = omega (arith, kind-same (w .1))
+    never (inr w) = omega (arith, kind-same (w .1))
 
 -- at a node an initial leads on to a node
 leads-on : {s : Sheet} → Sound s → (v i : ℕ) → v < s .n → Initial (s .e) (row s v) i → (step s v i ≡ successor (row s v) i) × (successor (row s v) i < s .n)
@@ -233,6 +260,8 @@ module _ (P Q : Sheet) (accP : sheetFault P ≡ 0) (accQ : sheetFault Q ≡ 0) (
       go (denies z p) (inr (next, g, f)) ih = absurd (omega (arith, kind-same (sym (answer-of p) ∙ g)))
       go (passes z _ p) (inl (_, f)) ih = absurd (subst Failed (answer-of p) f)
       go (passes z _ p) (inr (next, g, f)) ih = absurd (omega (arith, kind-same (sym (answer-of p) ∙ g)))
+      go (halts z _ p) (inl (_, f)) ih = absurd (subst Failed (answer-of p) f)
+      go (halts z _ p) (inr (next, g, f)) ih = absurd (omega (arith, kind-same (sym (answer-of p) ∙ g)))
       go (moves i q z u l p) (inl (_, f)) ih = absurd (subst Failed (answer-of p) f)
       go (moves i q z u l p) (inr (next, g, f)) ih =
           moved i left e l u (subst (CanReport Q m (offerOf P (live h n x))) q can .1) ih

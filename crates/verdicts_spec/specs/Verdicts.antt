@@ -18,7 +18,7 @@ use Rattle.tests_spec.specs.declared.Run.{Run}
 use Rattle.tests_spec.specs.declared.Report.{Report}
 use Rattle.tests_spec.specs.declared.Report.the-variants.{Event, Blocked}
 use Rattle.tests_spec.specs.declared.Answer.{Answer}
-use Rattle.tests_spec.specs.declared.Answer.the-variants.{Going, Stray, Refused, Passed, Denied}
+use Rattle.tests_spec.specs.declared.Answer.the-variants.{Going, Stray, Refused, Passed, Inconclusive, Denied}
 use Rattle.verdicts_spec.specs.declared.Verdict.{Verdict}
 use Rattle.verdicts_spec.specs.declared.Verdict.the-variants.{Passes, Fails, Denied as NoVerdict}
 use Rattle.tests_spec.specs.Runs.{openOf, stepOf}
@@ -35,6 +35,7 @@ Failed (Going x) = ⊥
 Failed (Stray i) = Unit {0}
 Failed (Refused x) = Unit {0}
 Failed Passed = ⊥
+Failed Inconclusive = ⊥
 Failed (Denied k) = ⊥
 
 -- the device's node after a report

@@ -19,6 +19,9 @@ enum-known-a-3 c = omega arith
 enum-told : tie.Need-enum-told
 enum-told c = omega arith
 
+enum-told-2 : tie.Need-enum-told-2
+enum-told-2 c = omega arith
+
 enum-known-a-4 : tie.Need-enum-known-a-4
 enum-known-a-4 c = omega arith
 
@@ -40,7 +43,11 @@ returns-4 c = rw (c .enum-told .given .1)
 
 returns-5 : tie.Need-returns-5
 unfolding saidFlat said
-returns-5 c = rw (c .before .a4 .given .1)
+returns-5 c = rw (c .enum-told2 .given .1)
+
+returns-6 : tie.Need-returns-6
+unfolding saidFlat said
+returns-6 c = rw (c .before .a4 .given .1)
 
 pub said-flat-spec : {M : Type 1} → statement M
 said-flat-spec =
@@ -51,9 +58,11 @@ said-flat-spec =
     cast-t7
     enum-known-a-3
     enum-told
+    enum-told-2
     enum-known-a-4
     returns
     returns-2
     returns-3
     returns-4
-    returns-5)
+    returns-5
+    returns-6)

@@ -16,6 +16,9 @@ enum-known-a-3 c = omega arith
 enum-told : tie.Need-enum-told
 enum-told c = omega arith
 
+enum-told-2 : tie.Need-enum-told-2
+enum-told-2 c = omega arith
+
 enum-known-a-4 : tie.Need-enum-known-a-4
 enum-known-a-4 c = omega arith
 
@@ -37,7 +40,11 @@ returns-4 c = rw (c .enum-told .given .1)
 
 returns-5 : tie.Need-returns-5
 unfolding nextOffer
-returns-5 c = rw (c .before .a4 .given .1)
+returns-5 c = rw (c .enum-told2 .given .1)
+
+returns-6 : tie.Need-returns-6
+unfolding nextOffer
+returns-6 c = rw (c .before .a4 .given .1)
 
 pub next-offer-spec : {M : Type 1} → statement M
 next-offer-spec =
@@ -47,9 +54,11 @@ next-offer-spec =
     enum-known-a-2
     enum-known-a-3
     enum-told
+    enum-told-2
     enum-known-a-4
     returns
     returns-2
     returns-3
     returns-4
-    returns-5)
+    returns-5
+    returns-6)

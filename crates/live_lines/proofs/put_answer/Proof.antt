@@ -38,6 +38,15 @@ slice-aggregate-put c = omega arith
 put-requires : tie.Need-put-requires
 put-requires c κs = tt
 
+enum-told-2 : tie.Need-enum-told-2
+enum-told-2 c = omega arith
+
+slice-aggregate-put-2 : tie.Need-slice-aggregate-put-2
+slice-aggregate-put-2 c = omega arith
+
+put-requires-2 : tie.Need-put-requires-2
+put-requires-2 c κs = tt
+
 enum-known-a-4 : tie.Need-enum-known-a-4
 enum-known-a-4 c = omega arith
 
@@ -77,7 +86,14 @@ same-length-5 c = omega arith
 
 returns-5 : tie.Need-returns-5
 unfolding answerLines
-returns-5 c = rw (c .before .before .before .before .before .a4 .given .1) (adds-all (c .before .before .put-again .ensures))
+returns-5 c = rw (c .before .before .before .before .before .enum-told2 .given .1) (adds-all (c .before .before .put2 .ensures))
+
+same-length-6 : tie.Need-same-length-6
+same-length-6 c = omega arith
+
+returns-6 : tie.Need-returns-6
+unfolding answerLines
+returns-6 c = rw (c .before .before .before .before .before .a4 .given .1) (adds-all (c .before .before .put-again .ensures))
 
 pub put-answer-spec : {M : Type 1} → statement M
 put-answer-spec =
@@ -94,6 +110,9 @@ put-answer-spec =
     enum-told
     slice-aggregate-put
     put-requires
+    enum-told-2
+    slice-aggregate-put-2
+    put-requires-2
     enum-known-a-4
     put-again-requires
     same-length
@@ -105,4 +124,6 @@ put-answer-spec =
     same-length-4
     returns-4
     same-length-5
-    returns-5)
+    returns-5
+    same-length-6
+    returns-6)

@@ -20,6 +20,9 @@ enum-known-a-3 c = omega arith
 enum-told : tie.Need-enum-told
 enum-told c = omega arith
 
+enum-told-2 : tie.Need-enum-told-2
+enum-told-2 c = omega arith
+
 enum-known-a-4 : tie.Need-enum-known-a-4
 enum-known-a-4 c = omega arith
 
@@ -51,12 +54,16 @@ returns-4 : tie.Need-returns-4
 unfolding testLines
 returns-4 c = rw (c .enum-told .given .1) (adds-none (c .before .before .before .args .out .now) 0)
 
+returns-5 : tie.Need-returns-5
+unfolding testLines
+returns-5 c = rw (c .enum-told2 .given .1) (adds-none (c .before .before .before .args .out .now) 0)
+
 same-length-2 : tie.Need-same-length-2
 same-length-2 c = omega arith
 
-returns-5 : tie.Need-returns-5
+returns-6 : tie.Need-returns-6
 unfolding testLines
-returns-5 c = rw (c .before .before .before .before .before .before .a4 .given .1) (c .before .before .put-number-line .ensures)
+returns-6 c = rw (c .before .before .before .before .before .before .a4 .given .1) (c .before .before .put-number-line .ensures)
 
 pub put-test-spec : {M : Type 1} → statement M
 put-test-spec =
@@ -67,6 +74,7 @@ put-test-spec =
     enum-known-a-2
     enum-known-a-3
     enum-told
+    enum-told-2
     enum-known-a-4
     slice-aggregate-put-number-line
     cast-put-number-line
@@ -76,5 +84,6 @@ put-test-spec =
     returns-2
     returns-3
     returns-4
+    returns-5
     same-length-2
-    returns-5)
+    returns-6)

@@ -1,7 +1,7 @@
 -- The answers of a report on an accepted sheet with a right record, test by test in the order of the code.
 use mathlib.Core.Path.{_≡_, refl, sym, ap, _∙_, subst}
 use mathlib.Core.Logic.{_⊎_, inl, inr, _≢_}
-use mathlib.Core.Bool.{Bool, true, false, not, _||_, cond}
+use mathlib.Core.Bool.{Bool, true, false, not, cond}
 use Prim.Native.Nat.{ℕ, _≤_, _<_}
 use native.Mathlib.Omega.{arith}
 use borrow.Author.Tests.{lt-ltb, le-ltb, ne-eqb, not-true, not-false}
@@ -15,7 +15,7 @@ use Rattle.sheet_spec.specs.SoundLaws.{check-sound}
 use Rattle.tests_spec.specs.declared.Run.{Run}
 use Rattle.tests_spec.specs.declared.Report.{Report}
 use Rattle.tests_spec.specs.declared.Report.the-variants.{Event, Blocked}
-use Rattle.tests_spec.specs.declared.Answer.the-variants.{Going, Stray, Refused, Passed, Denied}
+use Rattle.tests_spec.specs.declared.Answer.the-variants.{Going, Stray, Refused, Passed, Inconclusive, Denied}
 use Rattle.tests_spec.specs.declared.Stepped.{Stepped}
 use Rattle.tests_spec.specs.Flags.{flag, flag-clear, flag-set}
 use Rattle.tests_spec.specs.Runs.{outside, probesAt, offerOf, answered, recordOk, eventFault, reportFault, movedBy, endedRun, answerOf, stepOf}
@@ -39,9 +39,9 @@ module _ (s : Sheet) {f : ℕ} (p : f ≡ sheetFault s) (z : f ≡ 0) where
   few : s .n ≤ 32
   few = sound .ranges .n-high
 
--- where of two tests neither passes, their `or` takes the second case
-neither : (a b : Bool) → a ≡ false → b ≡ false → (x y : Stepped) → y ≡ cond (a || b) x y
-neither a b p q x y = rw (p, q)
+-- where of two tests neither passes, the last of three answers is given
+neither : (a b : Bool) → a ≡ false → b ≡ false → (x y z : Stepped) → z ≡ cond a x (cond b y z)
+neither a b p q x y z = rw (p, q)
 
 module _ (s : Sheet) (r : Run) (report : Report) where
   pub refused : {m : ℕ} → reportFault s r report ≡ m → (m ≡ 0 → ⊥) → answered (Denied m) r ≡ stepOf s r report
@@ -80,8 +80,11 @@ module _ (s : Sheet) (r : Run) (z : sheetFault s ≡ 0) (y : recordFault (s .n) 
   module _ {v : ℕ} (e : v ≡ r .node) where
     -- the answers to "blocked"
     module _ {o : Run} (q : o ≡ endedRun r) where
-      pub blocked-traces : r .«trace_only» ≢ 0 → answered Passed o ≡ stepOf s r Blocked
-      blocked-traces t = answers Blocked (unfold eventFault in refl) (unfold answerOf in rw (q, flag-set (r .«trace_only») t))
+      pub blocked-halts : r .«trace_only» ≢ 0 → r .depth < r .k → answered Inconclusive o ≡ stepOf s r Blocked
+      blocked-halts t l = answers Blocked (unfold eventFault in refl) (unfold answerOf in rw (q, flag-set (r .«trace_only») t, lt-ltb (r .depth) (r .k) l))
+
+      pub blocked-at-k : r .«trace_only» ≢ 0 → r .k ≤ r .depth → answered Passed o ≡ stepOf s r Blocked
+      blocked-at-k t l = answers Blocked (unfold eventFault in refl) (unfold answerOf in rw (q, flag-set (r .«trace_only») t, le-ltb (r .depth) (r .k) l))
 
       pub blocked-stops : {t : Bool} → r .«trace_only» ≡ 0 → t ≡ mayStop (row s v) → t ≡ true → answered Passed o ≡ stepOf s r Blocked
       blocked-stops f p t = answers Blocked (unfold eventFault in refl) (unfold answerOf in rw (q, f, flag-clear, ← e, ← p, t))
@@ -97,7 +100,7 @@ module _ (s : Sheet) (r : Run) (z : sheetFault s ≡ 0) (y : recordFault (s .n) 
           stays = sym (subst (λ (y : ℕ). t ≡ mayStop (row s y)) e p) ∙ d
 
           goes : answered (Refused (offerOf s r)) (endedRun r) ≡ answerOf s r Blocked
-          goes = unfold answerOf in neither (flag (r .«trace_only»)) (mayStop (row s (r .node))) (ap flag f ∙ flag-clear) stays (answered Passed (endedRun r)) (answered (Refused (offerOf s r)) (endedRun r))
+          goes = unfold answerOf in neither (flag (r .«trace_only»)) (mayStop (row s (r .node))) (ap flag f ∙ flag-clear) stays _ (answered Passed (endedRun r)) (answered (Refused (offerOf s r)) (endedRun r))
 
     -- the answers to event i
     module _ (i : ℕ) {m : ℕ} (u : m ≡ eventFaultAt (s .e) (row s v) r i) where

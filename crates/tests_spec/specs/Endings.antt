@@ -1,0 +1,110 @@
+-- Nothing to believe: laws. How a run ends: by which reports it has failed as stray or as refused, has passed, or is
+-- inconclusive (02, K4), each exactly; and which reports of "blocked" are no failure.
+use mathlib.Core.Path.{_≡_, refl}
+use mathlib.Core.Logic.{_⊎_, inl, inr, _↔_}
+use mathlib.Core.Bool.{true, false}
+use Prim.Native.Nat.{ℕ, _≤_, _<_}
+use native.Mathlib.Omega.{arith}
+use Rattle.base.specs.Truth.{dec, lt-or-ge}
+use Rattle.sheet_spec.specs.declared.Sheet.{Sheet}
+use Rattle.sheet_spec.specs.Kept.{row, mayStop}
+use Rattle.tests_spec.specs.declared.Run.{Run}
+use Rattle.tests_spec.specs.declared.Report.{Report}
+use Rattle.tests_spec.specs.declared.Report.the-variants.{Blocked}
+use Rattle.tests_spec.specs.declared.Answer.{Answer}
+use Rattle.tests_spec.specs.declared.Answer.the-variants.{Going, Stray, Refused, Passed, Inconclusive, Denied}
+use Rattle.tests_spec.specs.Flags.{flag}
+use Rattle.tests_spec.specs.Runs.{reportFault, stepOf}
+use Rattle.tests_spec.specs.Numbers.{said}
+use Rattle.tests_spec.specs.Reports.{Straying, Refusing, Passing, Halting}
+use Rattle.tests_spec.specs.RunLaws.{kind-same}
+use Rattle.tests_spec.specs.NumberLaws.{kind-2, kind-3, kind-4, kind-5}
+
+-- the answers of the kinds 2 to 5
+stray-kind : (a : Answer) → said a .kind ≡ 2 → (i : ℕ) × (a ≡ Stray i)
+unfolding said
+stray-kind (Going y) e = absurd (omega (arith, e))
+stray-kind (Stray i) e = (i, refl)
+stray-kind (Refused y) e = absurd (omega (arith, e))
+stray-kind Passed e = absurd (omega (arith, e))
+stray-kind Inconclusive e = absurd (omega (arith, e))
+stray-kind (Denied m) e = absurd (omega (arith, e))
+
+refused-kind : (a : Answer) → said a .kind ≡ 3 → (X : ℕ) × (a ≡ Refused X)
+unfolding said
+refused-kind (Going y) e = absurd (omega (arith, e))
+refused-kind (Stray i) e = absurd (omega (arith, e))
+refused-kind (Refused y) e = (y, refl)
+refused-kind Passed e = absurd (omega (arith, e))
+refused-kind Inconclusive e = absurd (omega (arith, e))
+refused-kind (Denied m) e = absurd (omega (arith, e))
+
+passed-kind : (a : Answer) → said a .kind ≡ 4 → a ≡ Passed
+unfolding said
+passed-kind (Going y) e = absurd (omega (arith, e))
+passed-kind (Stray i) e = absurd (omega (arith, e))
+passed-kind (Refused y) e = absurd (omega (arith, e))
+passed-kind Passed e = refl
+passed-kind Inconclusive e = absurd (omega (arith, e))
+passed-kind (Denied m) e = absurd (omega (arith, e))
+
+inconclusive-kind : (a : Answer) → said a .kind ≡ 5 → a ≡ Inconclusive
+unfolding said
+inconclusive-kind (Going y) e = absurd (omega (arith, e))
+inconclusive-kind (Stray i) e = absurd (omega (arith, e))
+inconclusive-kind (Refused y) e = absurd (omega (arith, e))
+inconclusive-kind Passed e = absurd (omega (arith, e))
+inconclusive-kind Inconclusive e = refl
+inconclusive-kind (Denied m) e = absurd (omega (arith, e))
+
+module _ (s : Sheet) (r : Run) (x : Report) where
+  -- a run has failed as stray exactly by an event outside the initials that is not refused
+  pub strayed-means : ((i : ℕ) × (stepOf s r x .answer ≡ Stray i)) ↔ ((reportFault s r x ≡ 0) × Straying s r x)
+  unfolding said
+  strayed-means = (λ w. kind-2 s r x .0 (kind-same (w .1)), λ w. stray-kind (stepOf s r x .answer) (kind-2 s r x .1 w))
+
+  -- a run has failed as refused exactly by "blocked", not refused, in a run that is not trace-only, where the node may
+  -- not stop
+  pub refused-means : ((X : ℕ) × (stepOf s r x .answer ≡ Refused X)) ↔ ((reportFault s r x ≡ 0) × Refusing s r x)
+  unfolding said
+  refused-means = (λ w. kind-3 s r x .0 (kind-same (w .1)), λ w. refused-kind (stepOf s r x .answer) (kind-3 s r x .1 w))
+
+  -- a run has passed exactly by a report that is not refused and is an event inside the initials at depth k, or
+  -- blocked, trace-only at depth k or not trace-only where the node may stop
+  pub passed-means : (stepOf s r x .answer ≡ Passed) ↔ ((reportFault s r x ≡ 0) × Passing s r x)
+  unfolding said
+  passed-means = (λ e. kind-4 s r x .0 (kind-same e), λ w. passed-kind (stepOf s r x .answer) (kind-4 s r x .1 w))
+
+  -- a run is inconclusive exactly by a report that is not refused and is "blocked", if the run is trace-only and its
+  -- depth is below its k
+  pub inconclusive-means : (stepOf s r x .answer ≡ Inconclusive) ↔ ((reportFault s r x ≡ 0) × Halting r x)
+  unfolding said
+  inconclusive-means = (λ e. kind-5 s r x .0 (kind-same e), λ w. inconclusive-kind (stepOf s r x .answer) (kind-5 s r x .1 w))
+
+-- "blocked" that is not refused is no failure, but passed or inconclusive, exactly if the run is trace-only or the node
+-- may stop: K4 moved no failure
+pub blocked-unfailed : (s : Sheet) (r : Run) → reportFault s r Blocked ≡ 0
+    → ((stepOf s r Blocked .answer ≡ Passed) ⊎ (stepOf s r Blocked .answer ≡ Inconclusive)) ↔ ((flag (r .«trace_only») ≡ true) ⊎ (mayStop (row s (r .node)) ≡ true))
+unfolding Passing
+blocked-unfailed s r z = (forth, back)
+  where
+    passing : Passing s r Blocked → (flag (r .«trace_only») ≡ true) ⊎ (mayStop (row s (r .node)) ≡ true)
+    passing (inl (t, l)) = inl t
+    passing (inr (t, m)) = inr m
+
+    forth : (stepOf s r Blocked .answer ≡ Passed) ⊎ (stepOf s r Blocked .answer ≡ Inconclusive) → (flag (r .«trace_only») ≡ true) ⊎ (mayStop (row s (r .node)) ≡ true)
+    forth (inl e) = passing (passed-means s r Blocked .0 e .1)
+    forth (inr e) = inl (inconclusive-means s r Blocked .0 e .1 .1)
+
+    traces : flag (r .«trace_only») ≡ true → (r .depth < r .k) ⊎ (r .k ≤ r .depth) → (stepOf s r Blocked .answer ≡ Passed) ⊎ (stepOf s r Blocked .answer ≡ Inconclusive)
+    traces t (inl l) = inr (inconclusive-means s r Blocked .1 (z, (refl, t, l)))
+    traces t (inr l) = inl (passed-means s r Blocked .1 (z, inl (t, l)))
+
+    stops : mayStop (row s (r .node)) ≡ true → (flag (r .«trace_only») ≡ true) ⊎ (flag (r .«trace_only») ≡ false)
+        → (stepOf s r Blocked .answer ≡ Passed) ⊎ (stepOf s r Blocked .answer ≡ Inconclusive)
+    stops m (inl t) = traces t (lt-or-ge (r .depth) (r .k))
+    stops m (inr t) = inl (passed-means s r Blocked .1 (z, inr (t, m)))
+
+    back : (flag (r .«trace_only») ≡ true) ⊎ (mayStop (row s (r .node)) ≡ true) → (stepOf s r Blocked .answer ≡ Passed) ⊎ (stepOf s r Blocked .answer ≡ Inconclusive)
+    back (inl t) = traces t (lt-or-ge (r .depth) (r .k))
+    back (inr m) = stops m (dec (flag (r .«trace_only»)))
