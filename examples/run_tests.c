@@ -47,11 +47,11 @@ static struct bench_read_sheet read_coded(uint16_t first, uint16_t second) {
 
 /* The answer to an opening or a report. */
 static void print_said(const char *what, struct bench_said said) {
-    static const char *const KINDS[5] = {"denied", "going", "stray", "refused", "passed"};
-    printf("%s: %s", what, said.kind < 5 ? KINDS[said.kind] : "no kind");
+    static const char *const KINDS[6] = {"denied", "going", "stray", "refused", "passed", "inconclusive"};
+    printf("%s: %s", what, said.kind < 6 ? KINDS[said.kind] : "no kind");
     if (said.kind == BENCH_DENIED) {
         printf(" %d", said.refusal);
-    } else if (said.kind != BENCH_PASSED) {
+    } else if (said.kind != BENCH_PASSED && said.kind != BENCH_INCONCLUSIVE) {
         printf(" %d", said.value);
     }
     printf("\n");
@@ -97,6 +97,19 @@ static void run_test(uint16_t h) {
     print_said("  event 0", bench_report(&run, reference, 0));
     print_said("  blocked", bench_report(&run, reference, BENCH_BLOCKED));
     print_run(&run);
+}
+
+/* Test 5 again, trace-only, against a device that stops after so many events: before the fifth its run is inconclusive,
+ * after it the run passes. */
+static void run_traces(int events) {
+    struct bench_run run = bench_open(reference, 5, 0, 1).run;
+    for (int count = 0; count < events; count++) {
+        bench_report(&run, reference, 0);
+    }
+    printf("trace-only test 5, %d events", events);
+    print_said(", blocked", bench_report(&run, reference, BENCH_BLOCKED));
+    print_run(&run);
+    print_said("  blocked again", bench_report(&run, reference, BENCH_BLOCKED));
 }
 
 /* The verdicts on tests 0 to 6. */
@@ -171,6 +184,10 @@ int main(void) {
     bytes.ended = 2;
     print_said("ended by the flag 2", bench_report(&bytes, reference, 0));
     print_run(&bytes);
+
+    run_traces(0);
+    run_traces(4);
+    run_traces(5);
 
     print_verdicts(0);
     print_verdicts(1);

@@ -31,8 +31,9 @@ extern "C" {
 /* The version of this header and the library. It grows by one with each change of a number, of a struct, of a call's
  * arguments or of what a call answers; a new call alone does not change it. Before it was counted verdicts and
  * comparisons had other kinds; in 1 sheets had no codes; in 2 probes were ordered by number alone, which h and what is
- * named at a refusal followed, and the stack of some calls was less. It is not the version of a sheet's bytes. */
-#define BENCH_VERSION 3
+ * named at a refusal followed, and the stack of some calls was less; in 3 a trace-only run that was blocked passed at
+ * every depth, and no run was inconclusive. It is not the version of a sheet's bytes. */
+#define BENCH_VERSION 4
 
 /* The most events, nodes and sets of a node, and a successor place that has no successor. */
 enum { BENCH_EVENTS = 12, BENCH_NODES = 32, BENCH_SETS = 16, BENCH_NONE = 255 };
@@ -147,13 +148,15 @@ struct bench_run {
  * next tens. */
 enum { BENCH_DENIED = 0 };
 
-/* The kinds of an answer to an opening or a report. 5 is kept for a run that ends inconclusive; no call answers it
- * yet. */
+/* The kinds of an answer to an opening or a report. A trace-only run that is blocked at a depth below its k is
+ * inconclusive, at a node that may stop too: the device has shown no fault, but less than the test asks for, so it is
+ * neither passed nor failed. At depth k it passes. No other run is inconclusive. */
 enum {
-    BENCH_GOING = 1,   /* the run goes on; the value is the set that is offered next */
-    BENCH_STRAY = 2,   /* ended, failed as stray; the value is the event */
-    BENCH_REFUSED = 3, /* ended, failed as refused; the value is the set that was offered */
-    BENCH_PASSED = 4   /* ended, passed; the value is 0 */
+    BENCH_GOING = 1,       /* the run goes on; the value is the set that is offered next */
+    BENCH_STRAY = 2,       /* ended, failed as stray; the value is the event */
+    BENCH_REFUSED = 3,     /* ended, failed as refused; the value is the set that was offered */
+    BENCH_PASSED = 4,      /* ended, passed; the value is 0 */
+    BENCH_INCONCLUSIVE = 5 /* ended, inconclusive; the value is 0 */
 };
 
 /* An answer to an opening or a report: the refusal, 0 for none; the kind; the event or set that comes with it, 0 where

@@ -1,8 +1,8 @@
 -- Nothing to believe: 01's cases (P) as one table, to be read beside 01 and in its order: each row is a call or a whole
 -- run, beside it stand the numbers that it answers, and one equation has them all. Comments that begin with 01 have the
--- words of its case. The rows that are for a request of 02 name it (K1, K2, K3, K5, K7). Sheets come as bytes, through
--- the definition of reading. The rows compute through the definitions that the contracts cite, the probe lists among
--- them.
+-- words of its case. The rows that are for a request of 02 name it (K1, K2, K3, K4, K5, K7). Sheets come as bytes,
+-- through the definition of reading. The rows compute through the definitions that the contracts cite, the probe lists
+-- among them.
 use mathlib.Core.Path.{_≡_, refl, sym, ap₂, _∙_}
 use mathlib.Core.Bool.{Bool, true, false}
 use mathlib.Core.List.{List, [], _∷_, _++_, map, map-append}
@@ -320,10 +320,14 @@ rowsOf01 =
       running onlyZero 2 0 true (Event 0 ∷ Event 0 ∷ Event 0 ∷ []),
       0 ∷ 1 ∷ 3 ∷ 0 ∷ 1 ∷ 3 ∷ 0 ∷ 1 ∷ 3 ∷ 0 ∷ 4 ∷ 0 ∷ 2 ∷ 0 ∷ 1 ∷ 1 ∷ 0 ∷ 2 ∷ [],
     )
-    -- a trace-only run passes when blocked
+    -- a trace-only run passes when blocked at depth k; below it, it is inconclusive (02, K4)
+    ∷ (
+      running onlyZero 2 0 true (Event 0 ∷ Event 0 ∷ Blocked ∷ []),
+      0 ∷ 1 ∷ 3 ∷ 0 ∷ 1 ∷ 3 ∷ 0 ∷ 1 ∷ 3 ∷ 0 ∷ 4 ∷ 0 ∷ 2 ∷ 0 ∷ 1 ∷ 1 ∷ 0 ∷ 2 ∷ [],
+    )
     ∷ (
       running onlyZero 2 0 true (Event 0 ∷ Blocked ∷ []),
-      0 ∷ 1 ∷ 3 ∷ 0 ∷ 1 ∷ 3 ∷ 0 ∷ 4 ∷ 0 ∷ 2 ∷ 0 ∷ 1 ∷ 1 ∷ 0 ∷ 1 ∷ [],
+      0 ∷ 1 ∷ 3 ∷ 0 ∷ 1 ∷ 3 ∷ 0 ∷ 5 ∷ 0 ∷ 2 ∷ 0 ∷ 1 ∷ 1 ∷ 0 ∷ 1 ∷ [],
     )
     -- a trace-only run fails as stray
     ∷ (
@@ -507,6 +511,43 @@ rowsOf02 =
     ∷ (verdict (accepting (5 ∷ 6 ∷ [])) (accepting (3 ∷ 4 ∷ [])) 0 false, 0 ∷ 12 ∷ [])
     ∷ (verdict (accepting (5 ∷ 6 ∷ [])) (accepting (4 ∷ [])) 0 false, 0 ∷ 12 ∷ [])
     ∷ (verdict (accepting (5 ∷ 6 ∷ [])) (accepting (5 ∷ 6 ∷ [])) 0 false, 0 ∷ 11 ∷ [])
+    -- 02, K4: a trace-only run blocked at depth 4 of test 5 is inconclusive; it is marked as ended, its node and depth
+    -- stay, and every later report is refused with 16
+    ∷ (
+      running exampleReference 5 0 true (Event 0 ∷ Event 1 ∷ Event 0 ∷ Event 1 ∷ Blocked ∷ Blocked ∷ Event 0 ∷ []),
+      0 ∷ 1 ∷ 3 ∷ 0 ∷ 1 ∷ 3 ∷ 0 ∷ 1 ∷ 3 ∷ 0 ∷ 1 ∷ 3 ∷ 0 ∷ 1 ∷ 3 ∷ 0 ∷ 5 ∷ 0 ∷ 16 ∷ 0 ∷ 0 ∷ 16 ∷ 0 ∷ 0 ∷ 5 ∷ 0 ∷ 1 ∷ 1 ∷ 0 ∷ 4 ∷ [],
+    )
+    -- 02, K4: at depth 5 of test 5 it passes
+    ∷ (
+      running exampleReference 5 0 true (Event 0 ∷ Event 1 ∷ Event 0 ∷ Event 1 ∷ Event 0 ∷ Blocked ∷ []),
+      0 ∷ 1 ∷ 3 ∷ 0 ∷ 1 ∷ 3 ∷ 0 ∷ 1 ∷ 3 ∷ 0 ∷ 1 ∷ 3 ∷ 0 ∷ 1 ∷ 3 ∷ 0 ∷ 1 ∷ 3 ∷ 0 ∷ 4 ∷ 0 ∷ 5 ∷ 0 ∷ 1 ∷ 1 ∷ 1 ∷ 5 ∷ [],
+    )
+    -- 02, K4: in a run with refusals blocked at depth 4 of test 5 has failed, as before
+    ∷ (
+      running exampleReference 5 0 false (Event 0 ∷ Event 1 ∷ Event 0 ∷ Event 1 ∷ Blocked ∷ []),
+      0 ∷ 1 ∷ 3 ∷ 0 ∷ 1 ∷ 3 ∷ 0 ∷ 1 ∷ 3 ∷ 0 ∷ 1 ∷ 3 ∷ 0 ∷ 1 ∷ 3 ∷ 0 ∷ 3 ∷ 3 ∷ 5 ∷ 0 ∷ 0 ∷ 1 ∷ 0 ∷ 4 ∷ [],
+    )
+    -- 02, K4: test 0 has nothing below depth k: blocked passes, where the node may stop and where it may not
+    ∷ (running mayLoop 0 0 true (Blocked ∷ []), 0 ∷ 1 ∷ 1 ∷ 0 ∷ 4 ∷ 0 ∷ 0 ∷ 0 ∷ 1 ∷ 1 ∷ 0 ∷ 0 ∷ [])
+    ∷ (running mustLoop 0 0 true (Blocked ∷ []), 0 ∷ 1 ∷ 1 ∷ 0 ∷ 4 ∷ 0 ∷ 0 ∷ 0 ∷ 1 ∷ 1 ∷ 0 ∷ 0 ∷ [])
+    -- 02, K4: in test 1 both are inconclusive at depth 0, and so is a node without initials; at depth 1 they pass; with
+    -- refusals the node that may stop passes at depth 0, as before
+    ∷ (running mayLoop 1 0 true (Blocked ∷ []), 0 ∷ 1 ∷ 1 ∷ 0 ∷ 5 ∷ 0 ∷ 1 ∷ 0 ∷ 1 ∷ 1 ∷ 0 ∷ 0 ∷ [])
+    ∷ (running mustLoop 1 0 true (Blocked ∷ []), 0 ∷ 1 ∷ 1 ∷ 0 ∷ 5 ∷ 0 ∷ 1 ∷ 0 ∷ 1 ∷ 1 ∷ 0 ∷ 0 ∷ [])
+    ∷ (running stopped 1 0 true (Blocked ∷ []), 0 ∷ 1 ∷ 1 ∷ 0 ∷ 5 ∷ 0 ∷ 1 ∷ 0 ∷ 1 ∷ 1 ∷ 0 ∷ 0 ∷ [])
+    ∷ (running mayLoop 1 0 true (Event 0 ∷ Blocked ∷ []), 0 ∷ 1 ∷ 1 ∷ 0 ∷ 1 ∷ 1 ∷ 0 ∷ 4 ∷ 0 ∷ 1 ∷ 0 ∷ 1 ∷ 1 ∷ 0 ∷ 1 ∷ [])
+    ∷ (running mustLoop 1 0 true (Event 0 ∷ Blocked ∷ []), 0 ∷ 1 ∷ 1 ∷ 0 ∷ 1 ∷ 1 ∷ 0 ∷ 4 ∷ 0 ∷ 1 ∷ 0 ∷ 1 ∷ 1 ∷ 0 ∷ 1 ∷ [])
+    ∷ (running mayLoop 1 0 false (Blocked ∷ []), 0 ∷ 1 ∷ 1 ∷ 0 ∷ 4 ∷ 0 ∷ 1 ∷ 0 ∷ 0 ∷ 1 ∷ 0 ∷ 0 ∷ [])
+    -- 02, K4: the last test, at its start: inconclusive
+    ∷ (running mustLoop 1023 0 true (Blocked ∷ []), 0 ∷ 1 ∷ 1 ∷ 0 ∷ 5 ∷ 0 ∷ 1023 ∷ 0 ∷ 1 ∷ 1 ∷ 0 ∷ 0 ∷ [])
+    -- 02, K4: a device that stops at once trace-refines one that must loop, and meets no failure in a trace-only test;
+    -- with refusals it fails each test
+    ∷ (comparing mustLoop stopped true, lists (0 ∷ 21 ∷ 0 ∷ 1 ∷ 0 ∷ 0 ∷ 0 ∷ []) [] 2)
+    ∷ (verdict mustLoop stopped 0 true, 0 ∷ 11 ∷ [])
+    ∷ (verdict mustLoop stopped 1 true, 0 ∷ 11 ∷ [])
+    ∷ (verdict mustLoop stopped 1023 true, 0 ∷ 11 ∷ [])
+    ∷ (verdict mustLoop stopped 0 false, 0 ∷ 12 ∷ [])
+    ∷ (verdict mustLoop stopped 1 false, 0 ∷ 12 ∷ [])
     ∷ []
 
 -- the whole table

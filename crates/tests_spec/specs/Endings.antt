@@ -1,23 +1,25 @@
 -- Nothing to believe: laws. How a run ends: by which reports it has failed as stray or as refused, has passed, or is
 -- inconclusive (02, K4), each exactly; and which reports of "blocked" are no failure.
-use mathlib.Core.Path.{_≡_, refl}
-use mathlib.Core.Logic.{_⊎_, inl, inr, _↔_}
+use mathlib.Core.Path.{_≡_, refl, sym, _∙_}
+use mathlib.Core.Logic.{_⊎_, inl, inr, _≢_, _↔_}
 use mathlib.Core.Bool.{true, false}
 use Prim.Native.Nat.{ℕ, _≤_, _<_}
 use native.Mathlib.Omega.{arith}
 use Rattle.base.specs.Truth.{dec, lt-or-ge}
 use Rattle.sheet_spec.specs.declared.Sheet.{Sheet}
 use Rattle.sheet_spec.specs.Kept.{row, mayStop}
+use Rattle.sheet_spec.specs.Refusals.{sheetFault}
 use Rattle.tests_spec.specs.declared.Run.{Run}
 use Rattle.tests_spec.specs.declared.Report.{Report}
 use Rattle.tests_spec.specs.declared.Report.the-variants.{Blocked}
 use Rattle.tests_spec.specs.declared.Answer.{Answer}
 use Rattle.tests_spec.specs.declared.Answer.the-variants.{Going, Stray, Refused, Passed, Inconclusive, Denied}
 use Rattle.tests_spec.specs.Flags.{flag}
-use Rattle.tests_spec.specs.Runs.{reportFault, stepOf}
+use Rattle.tests_spec.specs.Runs.{answered, reportFault, stepOf}
 use Rattle.tests_spec.specs.Numbers.{said}
-use Rattle.tests_spec.specs.Reports.{Straying, Refusing, Passing, Halting}
+use Rattle.tests_spec.specs.Reports.{Straying, Refusing, Passing, Marked}
 use Rattle.tests_spec.specs.RunLaws.{kind-same}
+use Rattle.tests_spec.specs.RunRecords.{ending-marks, ending-16}
 use Rattle.tests_spec.specs.NumberLaws.{kind-2, kind-3, kind-4, kind-5}
 
 -- the answers of the kinds 2 to 5
@@ -76,10 +78,24 @@ module _ (s : Sheet) (r : Run) (x : Report) where
   passed-means = (λ e. kind-4 s r x .0 (kind-same e), λ w. passed-kind (stepOf s r x .answer) (kind-4 s r x .1 w))
 
   -- a run is inconclusive exactly by a report that is not refused and is "blocked", if the run is trace-only and its
-  -- depth is below its k
-  pub inconclusive-means : (stepOf s r x .answer ≡ Inconclusive) ↔ ((reportFault s r x ≡ 0) × Halting r x)
+  -- depth is below its k (`Halting`)
+  pub inconclusive-means : (stepOf s r x .answer ≡ Inconclusive) ↔ ((reportFault s r x ≡ 0) × ((x ≡ Blocked) × (flag (r .«trace_only») ≡ true) × (r .depth < r .k)))
   unfolding said
   inconclusive-means = (λ e. kind-5 s r x .0 (kind-same e), λ w. inconclusive-kind (stepOf s r x .answer) (kind-5 s r x .1 w))
+
+  -- an inconclusive answer is neither a refusal nor goes on
+  inconclusive-ends : stepOf s r x .answer ≡ Inconclusive → ((m : ℕ) → stepOf s r x .answer ≢ Denied m) × ((X : ℕ) → stepOf s r x .answer ≢ Going X)
+  unfolding said
+  inconclusive-ends e = (λ m d. omega (arith, kind-same (sym e ∙ d)), λ X d. omega (arith, kind-same (sym e ∙ d)))
+
+  -- an inconclusive run is marked as ended; its node, its depth and all else stay
+  pub inconclusive-marks : stepOf s r x .answer ≡ Inconclusive → Marked r (stepOf s r x .run)
+  inconclusive-marks e = let w = inconclusive-ends e in ending-marks s r x (w .0) (w .1)
+
+  -- after it every report, shown an accepted sheet, gets 16, and the record stays
+  pub inconclusive-16 : stepOf s r x .answer ≡ Inconclusive → (next : Sheet) (y : Report) → sheetFault next ≡ 0
+      → stepOf next (stepOf s r x .run) y ≡ answered (Denied 16) (stepOf s r x .run)
+  inconclusive-16 e = let w = inconclusive-ends e in ending-16 s r x (w .0) (w .1)
 
 -- "blocked" that is not refused is no failure, but passed or inconclusive, exactly if the run is trace-only or the node
 -- may stop: K4 moved no failure

@@ -98,12 +98,8 @@ answerOf s r (Event i) =
     (answered (Stray i) (endedRun r))
 answerOf s r Blocked =
     cond (flag (r .«trace_only»))
-    (cond (ltb (r .depth) (r .k))
-    (answered Inconclusive (endedRun r))
-    (answered Passed (endedRun r)))
-    (cond (mayStop (row s (r .node)))
-    (answered Passed (endedRun r))
-    (answered (Refused (offerOf s r)) (endedRun r)))
+    (cond (ltb (r .depth) (r .k)) (answered Inconclusive (endedRun r)) (answered Passed (endedRun r)))
+    (cond (mayStop (row s (r .node))) (answered Passed (endedRun r)) (answered (Refused (offerOf s r)) (endedRun r)))
 
 -- a report is answered, or refused with its number and the record as it came
 unfoldable pub stepOf : Sheet → Run → Report → Stepped
