@@ -1,4 +1,4 @@
-// The Run cases of tests (01, "Test k and a live run", refusals 9 to 11 and 14 to 17; 02, K1, K3). Each line of
+// The Run cases of tests (01, "Test k and a live run", refusals 9 to 11 and 14 to 17; 02, K1, K3, K4). Each line of
 // standard input is a case: its name, a colon, and numbers, of which the first says what is called:
 //   1, sheet, k h traces                           a test is opened
 //   2, sheet, k h traces ended node depth, report  a report on that record
@@ -49,6 +49,7 @@ fn say_answer(a: Answer) {
             cases_lines::say_number(set);
         }
         Answer::Passed => cases_lines::say(b" passed"),
+        Answer::Inconclusive => cases_lines::say(b" inconclusive"),
         Answer::Denied(x) => cases_lines::say_denied(x),
     }
 }
