@@ -44,7 +44,9 @@ bytes 00 00 00 07 03 01 01 00 01 00 00 > "$scratch/version"
 lines 'event 0' 'event 0' > "$scratch/passes"
 lines 'event 0' 'blocked' > "$scratch/refuses"
 lines 'event 1' > "$scratch/strays"
+lines 'blocked' > "$scratch/blocks"
 bytes $only_zero > "$scratch/only_zero"
+bytes $may_loop > "$scratch/may_loop"
 
 ends_with 0 'refines' ./bench compare $tray/reference.sheet $tray/repaired.sheet
 ends_with 1 'violates, stray' ./bench compare $tray/reference.sheet $tray/device.sheet
@@ -83,6 +85,23 @@ live_ends() { # STATUS NAME REPORTS WORD..
 live_ends 0 'passed' "$scratch/passes" "$scratch/reference" 1 0
 live_ends 1 'refused' "$scratch/refuses" "$scratch/reference" 1 0
 live_ends 1 'stray' "$scratch/strays" "$scratch/only_zero" 0 0
+live_ends 1 'blocked below depth k' "$scratch/blocks" "$scratch/reference" 1 0
+live_ends 0 'blocked where it may stop' "$scratch/blocks" "$scratch/may_loop" 1 0
+# inconclusive is neither yes nor no, and nothing else is wrong
+inconclusive() { # NAME SHEET: `blocked` at once, of test 1, trace-only
+    live_ends 2 "$1" "$scratch/blocks" "$2" 1 0 traces
+    runs=$((runs + 1))
+    [ "$(tail -n 1 "$scratch/printed")" = 'run inconclusive' ] && [ ! -s "$scratch/said" ] || {
+        fails "live, $1: it said:"
+        tail -n 3 "$scratch/printed" "$scratch/said" >&2
+    }
+}
+inconclusive 'inconclusive' "$scratch/reference"
+inconclusive 'inconclusive where it may stop' "$scratch/may_loop"
+live_ends 2 'inconclusive after an event' "$scratch/refuses" "$scratch/reference" 2 0 traces
+live_ends 0 'blocked at depth k, traces' "$scratch/refuses" "$scratch/reference" 1 0 traces
+live_ends 0 'blocked, k 0, traces' "$scratch/blocks" "$scratch/reference" 0 0 traces
+live_ends 1 'stray below depth k, traces' "$scratch/strays" "$scratch/only_zero" 1 0 traces
 live_ends 2 'input ended' "$scratch/empty" "$scratch/reference" 1 0
 live_ends 2 'test refused' "$scratch/passes" "$scratch/reference" 1024 0
 live_ends 2 'reference refused' "$scratch/passes" "$scratch/version" 1 0

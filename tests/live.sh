@@ -1,6 +1,6 @@
 #!/bin/sh
-# Runs the program `live` and holds what it prints to 01's section "Test k and a live run" and to the header of
-# crates/live/src/main.rt: every kind of line, bad words, files that cannot be read, trace-only runs, input that is
+# Runs the program `live` and holds what it prints to 01's section "Test k and a live run", to 02's K4 and to the header
+# of crates/live/src/main.rt: every kind of line, bad words, files that cannot be read, trace-only runs, input that is
 # empty, cut off, long or in pieces, and output that cannot be written.
 set -u
 cd "$(dirname "$0")/.." || exit 1
@@ -191,6 +191,81 @@ reports 'event 0' 'event 1'
 started "$scratch/only_zero" 3 0 traces
 held 'traces, a stray' 'trace-only test 3 choice 0 reference 1 nodes 2 events' 'offer 0 1' 'offer 0 1' \
     'run failed stray 1'
+
+# ---- trace-only, blocked below depth k: inconclusive, also where it may stop; at depth k: passed
+traces_0='trace-only test 0 choice 0 reference 2 nodes 2 events'
+traces_1='trace-only test 1 choice 0 reference 2 nodes 2 events'
+traces_2='trace-only test 2 choice 0 reference 2 nodes 2 events'
+# of the sheets with one event
+small_0='trace-only test 0 choice 0 reference 1 nodes 1 events'
+small_1='trace-only test 1 choice 0 reference 1 nodes 1 events'
+reports 'blocked'
+started "$R" 1 0 traces
+held 'traces, blocked at once' "$traces_1" 'offer 0 1' 'run inconclusive'
+quiet 'traces, blocked at once'
+started "$R" 0 0 traces
+held 'traces, k 0, blocked' "$traces_0" 'offer 0 1' 'run passed'
+started "$scratch/may_loop" 1 0 traces
+held 'traces, blocked at once where it may stop' "$small_1" 'offer 0' 'run inconclusive'
+started "$scratch/may_loop" 0 0 traces
+held 'traces, k 0, blocked where it may stop' "$small_0" 'offer 0' 'run passed'
+started "$scratch/stopped" 1 0 traces
+held 'traces, blocked at once without an initial' "$small_1" 'offer 0' 'run inconclusive'
+started "$scratch/stopped" 0 0 traces
+held 'traces, k 0, blocked without an initial' "$small_0" 'offer 0' 'run passed'
+started "$scratch/twelve" 1 0 traces
+held 'traces, twelve events, blocked at once' 'trace-only test 1 choice 0 reference 1 nodes 12 events' \
+    'offer 0 1 2 3 4 5 6 7 8 9 10 11' 'run inconclusive'
+started "$R" 1023 65535 traces
+held 'traces, k 1,023, blocked at once' 'trace-only test 1023 choice 65535 reference 2 nodes 2 events' 'offer 0 1' \
+    'run inconclusive'
+started "$scratch/coded" 1 0 traces
+held 'traces, version 2, blocked at once' "$traces_1" 'offer 0 1' 'run inconclusive'
+# the same reports in runs that are not trace-only
+started "$scratch/may_loop" 1 0
+held 'blocked below depth k where it may stop' 'test 1 choice 0 reference 1 nodes 1 events' 'offer 0' 'run passed'
+started "$scratch/stopped" 1 0
+held 'blocked below depth k without an initial' 'test 1 choice 0 reference 1 nodes 1 events' 'offer 0' 'run passed'
+reports 'event 0' 'blocked'
+started "$R" 2 0
+held 'blocked below depth k after an event' 'test 2 choice 0 reference 2 nodes 2 events' 'offer 0 1' 'offer 0 1' \
+    'run failed refused 3 ( 0 1 )'
+# after an event
+started "$R" 2 0 traces
+held 'traces, blocked below depth k after an event' "$traces_2" 'offer 0 1' 'offer 0 1' 'run inconclusive'
+started "$scratch/may_loop" 1 0 traces
+held 'traces, blocked at depth k where it may stop' "$small_1" 'offer 0' 'offer 0' 'run passed'
+{
+    repeat 1022 'event 0\n'
+    echo blocked
+} > "$scratch/input"
+started "$R" 1023 0 traces
+held 'traces, blocked at depth 1,022 of k 1,023' 'trace-only test 1023 choice 0 reference 2 nodes 2 events' \
+    "$(repeat 1023 'offer 0 1\n')" 'run inconclusive'
+started "$R" 1022 0 traces
+held 'traces, blocked at depth 1,022 of k 1,022' 'trace-only test 1022 choice 0 reference 2 nodes 2 events' \
+    "$(repeat 1023 'offer 0 1\n')" 'run passed'
+# after lines that are refused: the offer is printed again each time
+reports 'event 2' 'block' 'event 1' 'event 255' 'blocked'
+started "$R" 2 0 traces
+held 'traces, refused lines, and blocked' "$traces_2" 'offer 0 1' "$no_report" 'offer 0 1' "$no_report" 'offer 0 1' \
+    'offer 0 1' "$no_report" 'offer 0 1' 'run inconclusive'
+printf 'blocked\r\n' > "$scratch/input"
+started "$R" 1 0 traces
+held 'traces, blocked and a carriage return' "$traces_1" 'offer 0 1' 'run inconclusive'
+printf 'blocked' > "$scratch/input"
+started "$R" 1 0 traces
+held 'traces, blocked without its newline' "$traces_1" 'offer 0 1' 'input ended'
+# what follows it is not read: another program finds it in the same input
+reports 'blocked' 'event 0' 'blocked' 'no report'
+started "$R" 2 0 traces
+held 'traces, after an inconclusive end' "$traces_2" 'offer 0 1' 'run inconclusive'
+{
+    "$program" "$R" 2 0 traces
+    cat
+} < "$scratch/input" > "$scratch/printed"
+held 'traces, the lines after an inconclusive end' "$traces_2" 'offer 0 1' 'run inconclusive' 'event 0' 'blocked' \
+    'no report'
 
 # ---- k 1,023 and 1,024
 repeat 1030 'event 0\n' > "$scratch/input"
