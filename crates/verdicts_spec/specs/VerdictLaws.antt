@@ -104,29 +104,20 @@ verdict-refused P Q k traceOnly m = (λ e. forth e (dec (eqb (verdictFault P Q k
 
 -- an answer ends a run as failed exactly if it is a stray or "refused": passed and inconclusive are no failure
 pub failed-means : (a : Answer) → Failed a ↔ (((i : ℕ) × (a ≡ Stray i)) ⊎ ((X : ℕ) × (a ≡ Refused X)))
-unfolding Failed said
-failed-means (Going y) = (λ f. absurd f, never)
+unfolding Failed
+failed-means a = (forth a, back)
   where
-    never : ((i : ℕ) × (Going y ≡ Stray i)) ⊎ ((X : ℕ) × (Going y ≡ Refused X)) → ⊥
-    never (inl w) = omega (arith, kind-same (w .1))
-    never (inr w) = omega (arith, kind-same (w .1))
-failed-means (Stray i) = (λ f. inl (i, refl), λ w. tt)
-failed-means (Refused X) = (λ f. inr (X, refl), λ w. tt)
-failed-means Passed = (λ f. absurd f, never)
-  where
-    never : ((i : ℕ) × (Passed ≡ Stray i)) ⊎ ((X : ℕ) × (Passed ≡ Refused X)) → ⊥
-    never (inl w) = omega (arith, kind-same (w .1))
-    never (inr w) = omega (arith, kind-same (w .1))
-failed-means Inconclusive = (λ f. absurd f, never)
-  where
-    never : ((i : ℕ) × (Inconclusive ≡ Stray i)) ⊎ ((X : ℕ) × (Inconclusive ≡ Refused X)) → ⊥
-    never (inl w) = omega (arith, kind-same (w .1))
-    never (inr w) = omega (arith, kind-same (w .1))
-failed-means (Denied m) = (λ f. absurd f, never)
-  where
-    never : ((i : ℕ) × (Denied m ≡ Stray i)) ⊎ ((X : ℕ) × (Denied m ≡ Refused X)) → ⊥
-    never (inl w) = omega (arith, kind-same (w .1))
-    never (inr w) = omega (arith, kind-same (w .1))
+    forth : (a : Answer) → Failed a → ((i : ℕ) × (a ≡ Stray i)) ⊎ ((X : ℕ) × (a ≡ Refused X))
+    forth (Going y) f = absurd f
+    forth (Stray i) f = inl (i, refl)
+    forth (Refused X) f = inr (X, refl)
+    forth Passed f = absurd f
+    forth Inconclusive f = absurd f
+    forth (Denied m) f = absurd f
+
+    back : ((i : ℕ) × (a ≡ Stray i)) ⊎ ((X : ℕ) × (a ≡ Refused X)) → Failed a
+    back (inl (i, e)) = subst Failed (sym e) tt
+    back (inr (X, e)) = subst Failed (sym e) tt
 
 -- at a node an initial leads on to a node
 leads-on : {s : Sheet} → Sound s → (v i : ℕ) → v < s .n → Initial (s .e) (row s v) i → (step s v i ≡ successor (row s v) i) × (successor (row s v) i < s .n)
