@@ -154,6 +154,7 @@ pub fn said(answer: Answer) -> Said {
         Answer::Stray(event) => (0, 2, u16::from(event)),
         Answer::Refused(set) => (0, 3, set),
         Answer::Passed => (0, 4, 0),
+        Answer::Inconclusive => (0, 5, 0),
     };
     Said {
         refusal,

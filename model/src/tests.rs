@@ -37,18 +37,20 @@ pub enum Report {
     Blocked,
 }
 
-/// What a report is answered with.
+/// What a report is answered with: the run goes on, with the next offer; it ends, failed as stray
+/// or as refused, passed, or inconclusive; or the report is refused.
 #[derive(Clone, Copy, PartialEq, Eq, Debug)]
 pub enum Answer {
     Going(u16),
     Stray(u8),
     Refused(u16),
     Passed,
+    Inconclusive,
     Denied(u8),
 }
 
 impl Answer {
-    /// An ending that counts as failed.
+    /// An ending that counts as failed. An inconclusive one does not.
     pub fn failed(self) -> bool {
         matches!(self, Answer::Stray(_) | Answer::Refused(_))
     }
@@ -145,10 +147,7 @@ pub fn advance(
         ..*run
     };
     let event = match report {
-        Report::Blocked if run.trace_only || sheet.row(run.node).may_stop() => {
-            return (Answer::Passed, ended)
-        }
-        Report::Blocked => return (Answer::Refused(offer(sheet, run)), ended),
+        Report::Blocked => return (blocked(sheet, run, offer), ended),
         Report::Event(event) => event,
     };
     match after(sheet, run.node, event) {
@@ -163,4 +162,17 @@ pub fn advance(
             (Answer::Going(offer(sheet, &moved)), moved)
         }
     }
+}
+
+/// The ending of a run that is blocked. A trace-only run is inconclusive below depth k and has
+/// passed at depth k, whether the node may stop or not. Any other run has passed where the node may
+/// stop, at every depth, and has failed as refused elsewhere.
+fn blocked(sheet: &Sheet, run: &Run, offer: &dyn Fn(&Sheet, &Run) -> u16) -> Answer {
+    if run.trace_only && run.depth < run.k {
+        return Answer::Inconclusive;
+    }
+    if run.trace_only || sheet.row(run.node).may_stop() {
+        return Answer::Passed;
+    }
+    Answer::Refused(offer(sheet, run))
 }

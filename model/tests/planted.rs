@@ -5,10 +5,10 @@
 
 use model::comparison::{compare_into, Outcome, MAX_WORDS};
 use model::examples::program_pair;
-use model::numbers::{count_numbers, judged, listed, Record, Suited};
+use model::numbers::{count_numbers, judged, listed, step_numbers, Record, Suited};
 use model::planted::comparisons::{compare_with, CompareFault};
 use model::planted::probes::{fill_with, ProbeFault};
-use model::planted::runs::{open_with, step_with, RunFault};
+use model::planted::runs::{open_with, step_numbers_with, step_with, RunFault};
 use model::planted::scripts::{count_with, ScriptFault};
 use model::planted::suites::{suite_with, SuiteFault};
 use model::planted::text;
@@ -22,7 +22,7 @@ use model::planted::verdicts::{verdict_with, VerdictFault};
 use model::probes::{fill, list};
 use model::random::*;
 use model::sheet::{check, Sheet};
-use model::tests::{open, step};
+use model::tests::{open, step, Report, Run};
 use model::text::{compare, live, probe_list, script_counts, show, suite};
 use model::verdict::{verdict, verdicts};
 
@@ -62,7 +62,26 @@ fn no_fault_in_runs() {
         let report = random_report(&mut rng, &sheet);
         let stepped = step(&sheet, &run, report);
         assert_eq!(stepped, step_with(RunFault::None, &sheet, &run, report));
+        let (record, code) = in_numbers(&mut rng, &run, report);
+        assert_eq!(
+            step_numbers(&sheet, &record, code),
+            step_numbers_with(RunFault::None, &sheet, &record, code)
+        );
     }
+}
+
+/// A record with any number in place of a flag that is true, and the code of a report.
+fn in_numbers(rng: &mut Rng, run: &Run, report: Report) -> (Record, u16) {
+    let record = Record {
+        traces: u8::from(run.trace_only) * rng.pick(&[1, 1, 2, 128, 255]),
+        ended: u8::from(run.ended) * rng.pick(&[1, 1, 2, 128, 255]),
+        ..Record::ZERO.after(run)
+    };
+    let code = match report {
+        Report::Event(event) => u16::from(event),
+        Report::Blocked => rng.pick(&[256, 65_535]),
+    };
+    (record, code)
 }
 
 /// A sheet, refused or not, and mostly one of its nodes.
@@ -109,9 +128,10 @@ fn every_fault_of_a_run_shows() {
         let traces = rng.one_in(3);
         let run = random_record(&mut rng, &sheet);
         let report = random_report(&mut rng, &sheet);
+        let (record, code) = in_numbers(&mut rng, &run, report);
         let played = |fault| {
             let opened = open_with(fault, &sheet, k, h, traces);
-            (opened, step_with(fault, &sheet, &run, report))
+            (opened, step_numbers_with(fault, &sheet, &record, code))
         };
         let plain = played(RunFault::None);
         hidden.retain(|&fault| played(fault) == plain);

@@ -89,7 +89,7 @@ fn trace_only_runs() {
     let sheet = example_3();
     let (first, mut run) = open(&sheet, 1, 0, true);
     assert_eq!(first, Answer::Going(7));
-    assert_eq!(step(&sheet, &run, Report::Blocked).0, Answer::Passed);
+    assert_eq!(step(&sheet, &run, Report::Blocked).0, Answer::Inconclusive);
     assert_eq!(step(&sheet, &run, Report::Event(2)).0, Answer::Stray(2));
     assert_eq!(report(&sheet, &mut run, Report::Event(0)), Answer::Going(7));
     let at_k = run;
@@ -113,6 +113,7 @@ fn expected(sheet: &Sheet, run: &Run, given: Report) -> Answer {
         _ if outside(run) => Answer::Denied(9),
         Report::Event(event) if event >= sheet.e => Answer::Denied(15),
         Report::Event(event) if offered(run) & 1 << event == 0 => Answer::Denied(17),
+        Report::Blocked if run.trace_only && run.depth < run.k => Answer::Inconclusive,
         Report::Blocked if run.trace_only => Answer::Passed,
         Report::Blocked if sheet.row(run.node).sets[0] == 0 => Answer::Passed,
         Report::Blocked => Answer::Refused(offered(run)),
@@ -150,7 +151,8 @@ fn random_reports() {
                 Answer::Going(_) => 0,
                 _ => {
                     assert_eq!(altered, Run { ended: true, ..run });
-                    1 + u8::from(answer.failed())
+                    let unclear = answer == Answer::Inconclusive;
+                    1 + u8::from(answer.failed()) + 2 * u8::from(unclear)
                 }
             };
             *seen.entry(kind).or_insert(0) += 1;
@@ -158,7 +160,7 @@ fn random_reports() {
     }
     assert_eq!(
         seen.keys().copied().collect::<Vec<u8>>(),
-        [0, 1, 2, 9, 15, 16, 17]
+        [0, 1, 2, 3, 9, 15, 16, 17]
     );
 }
 

@@ -2,6 +2,7 @@
 
 use super::faults;
 use super::probes::{found_with, ProbeFault};
+use crate::numbers::{report_of, stepped, Record, Stepped};
 use crate::sheet::{accept, after, Sheet};
 use crate::tests::{Answer, Report, Run, MAX_TEST};
 
@@ -74,6 +75,39 @@ faults! {
         TracesRefused,
         /// A run is opened at node 0 with depth 1.
         OpenedDeep,
+        /// A trace-only run that is blocked below depth k passes.
+        BlockedBelowPasses,
+        /// A trace-only run that is blocked at depth k is inconclusive too.
+        InconclusiveAtK,
+        /// A trace-only run that is blocked with k 0 is inconclusive too.
+        InconclusiveAtZero,
+        /// A trace-only run that is blocked at depth k - 1 passes.
+        InconclusiveOneShort,
+        /// A trace-only run that is blocked after an event passes at every depth.
+        InconclusiveAtStart,
+        /// A trace-only run that is blocked below depth k passes at a node that may stop.
+        InconclusiveUnlessStops,
+        /// A trace-only run that is blocked below depth k passes at a node that may not stop.
+        InconclusiveIfStops,
+        /// A run that is not trace-only is inconclusive too if it is blocked below depth k.
+        InconclusiveWithRefusals,
+        /// The same, at a node that may stop only: elsewhere it fails as refused.
+        InconclusiveForPassed,
+        /// A trace-only run that is blocked below depth k fails as refused at every node.
+        InconclusiveFails,
+        /// A trace-only run that is blocked below depth k goes on with the same offer.
+        InconclusiveGoesOn,
+        /// An inconclusive ending does not mark the record.
+        InconclusiveNotMarked,
+        /// An inconclusive ending goes back to node 0.
+        InconclusiveGoesBack,
+        /// An inconclusive ending makes the depth grow.
+        InconclusiveDeeper,
+        /// In numbers, an inconclusive ending has the set offered.
+        InconclusiveNamesOffer,
+        /// In numbers, a trace-only run that is blocked below depth k passes unless its flag of
+        /// trace-only is 1.
+        InconclusiveByOne,
     }
 }
 
@@ -110,6 +144,22 @@ pub fn open_with(
         run.depth = 1;
     }
     (Answer::Going(offer), run)
+}
+
+/// Answers a report in numbers. Two faults show in these alone.
+pub fn step_numbers_with(fault: RunFault, sheet: &Sheet, record: &Record, code: u16) -> Stepped {
+    let passes = fault == RunFault::InconclusiveByOne && record.traces != 1;
+    let fault = match passes {
+        true => RunFault::BlockedBelowPasses,
+        false => fault,
+    };
+    let run = record.run();
+    let (answer, after) = step_with(fault, sheet, &run, report_of(code));
+    let mut numbers = stepped(record, (answer, after));
+    if fault == RunFault::InconclusiveNamesOffer && answer == Answer::Inconclusive {
+        numbers.answer.value = offer_with(fault, sheet, &run);
+    }
+    numbers
 }
 
 /// Answers a report.
@@ -200,6 +250,9 @@ fn advance(fault: RunFault, sheet: &Sheet, run: &Run, report: Report) -> (Answer
     };
     let stops = sheet.row(run.node).may_stop();
     let event = match report {
+        Report::Blocked if inconclusive(fault, run, stops) => {
+            return below_k(fault, sheet, run, ended)
+        }
         Report::Blocked => return (blocked(fault, sheet, run, stops), ended),
         Report::Event(event) => event,
     };
@@ -232,6 +285,46 @@ fn advance(fault: RunFault, sheet: &Sheet, run: &Run, report: Report) -> (Answer
     (Answer::Going(offer_with(fault, sheet, &moved)), moved)
 }
 
+/// Whether a run that is blocked counts as blocked too early to have passed or failed.
+fn inconclusive(fault: RunFault, run: &Run, stops: bool) -> bool {
+    let early = match fault {
+        RunFault::InconclusiveAtK => run.depth <= run.k,
+        RunFault::InconclusiveAtZero => run.depth < run.k || run.k == 0,
+        RunFault::InconclusiveOneShort => run.depth + 1 < run.k,
+        RunFault::InconclusiveAtStart => run.depth == 0 && run.k > 0,
+        _ => run.depth < run.k,
+    };
+    let counts = match fault {
+        RunFault::BlockedBelowPasses | RunFault::TracesRefused => false,
+        RunFault::InconclusiveUnlessStops => run.trace_only && !stops,
+        RunFault::InconclusiveIfStops => run.trace_only && stops,
+        RunFault::InconclusiveForPassed => run.trace_only || stops,
+        RunFault::InconclusiveWithRefusals => true,
+        _ => run.trace_only,
+    };
+    early && counts
+}
+
+/// The ending of such a run.
+fn below_k(fault: RunFault, sheet: &Sheet, run: &Run, ended: Run) -> (Answer, Run) {
+    let answer = match fault {
+        RunFault::InconclusiveFails => Answer::Refused(offer_with(fault, sheet, run)),
+        RunFault::InconclusiveGoesOn => Answer::Going(offer_with(fault, sheet, run)),
+        _ => Answer::Inconclusive,
+    };
+    let after = match fault {
+        RunFault::InconclusiveGoesOn | RunFault::InconclusiveNotMarked => *run,
+        RunFault::InconclusiveGoesBack => Run { node: 0, ..ended },
+        RunFault::InconclusiveDeeper => Run {
+            depth: run.depth + 1,
+            ..ended
+        },
+        _ => ended,
+    };
+    (answer, after)
+}
+
+/// The ending of any other run that is blocked.
 fn blocked(fault: RunFault, sheet: &Sheet, run: &Run, stops: bool) -> Answer {
     let traces = run.trace_only && fault != RunFault::TracesRefused;
     let stops = stops && fault != RunFault::BlockedFails;

@@ -28,6 +28,8 @@ faults! {
         Exchanged,
         /// A trace-only call is judged as another.
         TracesIgnored,
+        /// An inconclusive run counts as failed.
+        InconclusiveFails,
         /// The rest of the list is cleared.
         RestCleared,
         /// Nothing is written.
@@ -113,6 +115,7 @@ fn single(fault: SuiteFault) -> Option<VerdictFault> {
         SuiteFault::InitialsBelow => Some(VerdictFault::InitialsBelow),
         SuiteFault::AcceptancesEqual => Some(VerdictFault::AcceptancesEqual),
         SuiteFault::EmptyIsNoRule => Some(VerdictFault::EmptyIsNoRule),
+        SuiteFault::InconclusiveFails => Some(VerdictFault::InconclusiveFails),
         _ => None,
     }
 }

@@ -42,6 +42,8 @@ faults! {
         TracesIgnored,
         /// Every test is judged as trace-only.
         TracesAlways,
+        /// An inconclusive run counts as failed.
+        InconclusiveFails,
         /// 14 is looked for before 11.
         FourteenFirst,
         /// 19 is looked for before 11.
@@ -172,6 +174,9 @@ fn failing(
     let free = fault == VerdictFault::EmptyIsNoRule && row.may_stop();
     let hidden = fault == VerdictFault::InitialsBelow && !last;
     if strays(reference, device, pair) && !free && !hidden {
+        return true;
+    }
+    if fault == VerdictFault::InconclusiveFails && trace_only && !last && other.may_stop() {
         return true;
     }
     if trace_only || free {

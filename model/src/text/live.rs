@@ -118,6 +118,7 @@ fn last_line(ending: Answer) -> String {
     match ending {
         Answer::Stray(event) => format!("run failed stray {event}\n"),
         Answer::Refused(set) => format!("run failed refused {}\n", set_words(set)),
+        Answer::Inconclusive => "run inconclusive\n".to_string(),
         _ => "run passed\n".to_string(),
     }
 }

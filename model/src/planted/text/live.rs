@@ -52,8 +52,31 @@ faults! {
         OneDeeper,
         /// 14: 1,024 is accepted.
         NumberOneMore,
+        /// An inconclusive run is printed as one that passed.
+        InconclusivePasses,
+        /// An inconclusive run is printed as one that failed.
+        InconclusiveFails,
+        /// An inconclusive ending is printed without the word `run`.
+        InconclusiveAlone,
+        /// After an inconclusive ending the end of the input is told too.
+        InconclusiveReadsOn,
+        /// A trace-only run that is blocked below depth k goes on with the same offer.
+        InconclusiveGoesOn,
+        /// A trace-only run that is blocked at depth k is inconclusive too.
+        InconclusiveAtK,
+        /// A trace-only run that is blocked with k 0 is inconclusive too.
+        InconclusiveAtZero,
+        /// A trace-only run that is blocked at depth k - 1 passes.
+        InconclusiveOneShort,
+        /// A trace-only run that is blocked below depth k passes at a node that may stop.
+        InconclusiveUnlessStops,
+        /// A run that is not trace-only is inconclusive too if it is blocked below depth k.
+        InconclusiveWithRefusals,
     }
 }
+
+/// The line of an inconclusive ending.
+const INCONCLUSIVE: &str = "run inconclusive\n";
 
 /// The fault of the run that a fault of the text comes from; no fault comes from none.
 fn run_fault(fault: LiveFault) -> Option<RunFault> {
@@ -68,6 +91,12 @@ fn run_fault(fault: LiveFault) -> Option<RunFault> {
         LiveFault::RefusedNamesProbe => RunFault::RefusedNamesProbe,
         LiveFault::OneDeeper => RunFault::OneDeeper,
         LiveFault::NumberOneMore => RunFault::NumberOneMore,
+        LiveFault::InconclusiveGoesOn => RunFault::InconclusiveGoesOn,
+        LiveFault::InconclusiveAtK => RunFault::InconclusiveAtK,
+        LiveFault::InconclusiveAtZero => RunFault::InconclusiveAtZero,
+        LiveFault::InconclusiveOneShort => RunFault::InconclusiveOneShort,
+        LiveFault::InconclusiveUnlessStops => RunFault::InconclusiveUnlessStops,
+        LiveFault::InconclusiveWithRefusals => RunFault::InconclusiveWithRefusals,
         _ => return None,
     })
 }
@@ -97,6 +126,12 @@ pub fn output_with(fault: LiveFault, call: &Call) -> String {
         LiveFault::NoEvents => without_events(&plain),
         LiveFault::BlankAfterOffer => plain.replace("offer\n", "offer \n"),
         LiveFault::NoInputEnded => without(&plain, |line| line == "input ended"),
+        LiveFault::InconclusivePasses => plain.replace(INCONCLUSIVE, "run passed\n"),
+        LiveFault::InconclusiveFails => plain.replace(INCONCLUSIVE, "run failed inconclusive\n"),
+        LiveFault::InconclusiveAlone => plain.replace(INCONCLUSIVE, "inconclusive\n"),
+        LiveFault::InconclusiveReadsOn => {
+            plain.replace(INCONCLUSIVE, "run inconclusive\ninput ended\n")
+        }
         _ => plain,
     }
 }
