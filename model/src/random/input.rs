@@ -86,9 +86,11 @@ pub fn live_call(rng: &mut Rng, round: u64) -> Call {
         2 => mixed_sheet(rng),
         _ => random_sheet(rng),
     };
+    let traces = rng.one_in(3);
     let k = match rng.below(8) {
         0 => rng.pick(&[1_023, 1_024, 65_535]),
         1 => rng.range(10, 30),
+        2 if traces => 0,
         _ => rng.below(5),
     };
     let h = if rng.one_in(2) {
@@ -97,7 +99,7 @@ pub fn live_call(rng: &mut Rng, round: u64) -> Call {
         usize::from(rng.word())
     };
     let mut words = vec![k.to_string(), h.to_string()];
-    if rng.one_in(4) {
+    if traces {
         words.push("traces".to_string());
     }
     match round % 24 {
@@ -110,7 +112,7 @@ pub fn live_call(rng: &mut Rng, round: u64) -> Call {
         6 => damaged(rng, aim),
         _ => spelled(rng, &sheet),
     };
-    let typed = typed_lines(rng, &sheet, k.min(40));
+    let typed = typed_lines(rng, &sheet, k.min(40), traces);
     Call { file, words, typed }
 }
 
@@ -122,10 +124,11 @@ pub(super) fn wrong_word(rng: &mut Rng) -> String {
     rng.pick(&words).to_string()
 }
 
-/// Some lines, about as many as a run of depth `k` takes; at times the last has no newline.
-fn typed_lines(rng: &mut Rng, sheet: &Sheet, k: usize) -> Vec<u8> {
+/// Some lines, about as many as a run of depth `k` takes; at times the last has no newline. A
+/// trace-only run is blocked more often, most of all at nodes that may stop and at depth `k`.
+fn typed_lines(rng: &mut Rng, sheet: &Sheet, k: usize, traces: bool) -> Vec<u8> {
     let mut typed = Vec::new();
-    let mut node = 0;
+    let (mut node, mut depth) = (0, 0);
     for _ in 0..rng.below(k + 3) + usize::from(rng.one_in(2)) * k {
         let known: Vec<u8> = (0..sheet.e)
             .filter(|&event| after(sheet, node, event).is_some())
@@ -135,14 +138,21 @@ fn typed_lines(rng: &mut Rng, sheet: &Sheet, k: usize) -> Vec<u8> {
             _ if rng.one_in(12) => rng.below(sheet.e.into()) as u8,
             _ => rng.pick(&known),
         };
+        let blocks = match traces {
+            false => 1,
+            true if depth >= k => 16,
+            true if sheet.row(node).may_stop() => 8,
+            true => 3,
+        };
         let line = match rng.below(24) {
-            0 => "blocked".to_string(),
-            1 => wrong_line(rng),
-            2 => format!("event 0{event}"),
+            0 => wrong_line(rng),
+            1 => format!("event 0{event}"),
+            place if place < 2 + blocks => "blocked".to_string(),
             _ => format!("event {event}"),
         };
         if line.starts_with("event") {
             node = after(sheet, node, event).unwrap_or(node);
+            depth += 1;
         }
         typed.extend_from_slice(line.as_bytes());
         if rng.one_in(8) {

@@ -1,13 +1,13 @@
 //! Openings and reports: whole runs of random sheets against random devices, of both
 //! kinds, with refused reports in between, and records and reports of any content.
 
-use model::numbers::{open_numbers, report_of, step_numbers, stepped, Record, Stepped};
+use model::numbers::{open_numbers, report_of, said, step_numbers, stepped, Record, Said, Stepped};
 use model::planted::probes::{found_with, ProbeFault};
-use model::planted::runs::{open_with, step_with, RunFault};
+use model::planted::runs::{open_with, step_numbers_with, RunFault};
 use model::probes::probes;
 use model::random::{deep_pair, mixed_sheet, pair, random_record, random_sheet, Rng};
 use model::sheet::{after, Sheet};
-use model::tests::{Report, MAX_TEST};
+use model::tests::{Answer, Report, MAX_TEST};
 use model::verdict::device_reports;
 
 use super::{bad_sheet, catch, flag, names, shown_sheet};
@@ -18,7 +18,15 @@ use crate::play::Part;
 const OPEN: &str = "open, 0 opened or the refusal";
 const STEP: &str = "report, 0 answered or the refusal";
 const RUNS: &str = "runs ended, 2 stray, 3 refused, 4 passed by an event, 5 passed by blocking";
-const TRACES: &str = "trace-only runs ended, 2 stray, 4 passed by an event, 5 passed by blocking";
+const TRACES: &str = "trace-only runs ended, 2 stray, 4 passed by an event, 5 passed by blocking, \
+    6 inconclusive";
+const BLOCKED: &str =
+    "trace-only, blocked, 0 with k 0, 1 at another depth k, 2 at depth k - 1, 3 at a lower one";
+const EARLY: &str = "inconclusive, 0 at depth 0 of a node that may not stop, 1 deeper, \
+    2 at depth 0 of one that may stop, 3 deeper";
+const BYTES: &str = "inconclusive, the flag of trace-only is 1 (1), 2 to 127 (2), higher (3)";
+const LATER: &str = "reports after an inconclusive ending, 0 an event, 1 blocked";
+const OTHERS: &str = "not trace-only, blocked below depth k, 3 refused, 4 passed";
 const DEEP: &str =
     "runs of 0 (0), 1 to 9 (1), 10 to 99 (2), 100 and more (3) events before the end";
 const ORDER: &str = "offers of a probe, 0 of a list that ascends by number, 1 of another, \
@@ -38,7 +46,12 @@ fn findings() -> Findings {
         (OPEN, vec![0, 3, 5, 6, 7, 8, 14, 18]),
         (STEP, vec![0, 3, 5, 6, 7, 8, 9, 15, 16, 17, 18]),
         (RUNS, vec![2, 3, 4, 5]),
-        (TRACES, vec![2, 4, 5]),
+        (TRACES, vec![2, 4, 5, 6]),
+        (BLOCKED, vec![0, 1, 2, 3]),
+        (EARLY, vec![0, 1, 2, 3]),
+        (BYTES, vec![1, 2, 3]),
+        (LATER, vec![0, 1]),
+        (OTHERS, vec![3, 4]),
         (DEEP, vec![0, 1, 2, 3]),
         (ORDER, vec![0, 1, 2]),
         (FLAGS, vec![0, 1, 2]),
@@ -46,15 +59,19 @@ fn findings() -> Findings {
     Findings::new(groups, names(RunFault::ALL))
 }
 
-/// A whole run, some records and reports of any content, sheets of any content, flags of every
-/// byte, and an opening and a report that show the order of the probes.
+/// A whole run, a short one that is trace-only, some records and reports of any content, sheets of
+/// any content, flags of every byte, "blocked" at depth k and below it, and an opening and a report
+/// that show the order of the probes.
 fn round(rng: &mut Rng, round: u64, findings: &mut Findings) {
     let (reference, device) = if rng.one_in(6) {
         deep_pair(rng)
     } else {
         pair(rng)
     };
-    play(rng, findings, &reference, &device);
+    let (k, trace_only) = (any_number(rng).min(MAX_TEST), rng.one_in(3));
+    play(rng, findings, (&reference, &device), k, trace_only);
+    let k = rng.below(4) as u16;
+    play(rng, findings, (&reference, &device), k, true);
     let sheet = random_sheet(rng);
     for _ in 0..3 {
         let record = any_record(rng, &sheet);
@@ -72,6 +89,7 @@ fn round(rng: &mut Rng, round: u64, findings: &mut Findings) {
     let k = rng.pick(&[MAX_TEST, MAX_TEST + 1, MAX_TEST + 2, 65_535, 0, 1]);
     try_open(findings, &sheet, k, h, traces);
     try_flags(rng, round, findings, &sheet);
+    try_blocked(rng, round, findings, &sheet);
     let sheet = mixed_sheet(rng);
     try_open(findings, &sheet, 0, h, 0);
     let record = any_record(rng, &sheet);
@@ -96,6 +114,50 @@ fn try_flags(rng: &mut Rng, round: u64, findings: &mut Findings, sheet: &Sheet) 
         let code = any_code(rng, sheet);
         try_step(findings, sheet, &record, code);
     }
+}
+
+/// "Blocked" on a trace-only record at depth k or below it, a report after that, and "blocked" on
+/// the same record that is not trace-only: 255 rounds have every byte as the flag.
+fn try_blocked(rng: &mut Rng, round: u64, findings: &mut Findings, sheet: &Sheet) {
+    let k: u16 = rng.pick(&[0, 1, 2, 5, MAX_TEST]);
+    let depth = match rng.below(4) {
+        0 => 0,
+        1 => k,
+        2 => k.saturating_sub(1),
+        _ => rng.below(usize::from(k) + 1) as u16,
+    };
+    let record = Record {
+        k,
+        h: rng.word(),
+        traces: (round % 255) as u8 + 1,
+        ended: 0,
+        node: rng.below(sheet.n.into()) as u8,
+        depth,
+    };
+    let code = code_of(rng, Report::Blocked);
+    let answered = try_step(findings, sheet, &record, code);
+    try_after(rng, findings, sheet, &answered);
+    let record = Record {
+        traces: 0,
+        ..record
+    };
+    let code = code_of(rng, Report::Blocked);
+    try_step(findings, sheet, &record, code);
+}
+
+/// A report after an ending.
+fn try_after(rng: &mut Rng, findings: &mut Findings, sheet: &Sheet, answered: &Stepped) {
+    let code = any_code(rng, sheet);
+    try_step(findings, sheet, &answered.run, code);
+    if is_inconclusive(&answered.answer) {
+        let blocked = report_of(code) == Report::Blocked;
+        findings.count(LATER, u64::from(blocked));
+    }
+}
+
+/// Whether an answer is the inconclusive ending.
+fn is_inconclusive(answer: &Said) -> bool {
+    *answer == said(Answer::Inconclusive)
 }
 
 /// A test number, at times too high.
@@ -135,14 +197,18 @@ fn any_code(rng: &mut Rng, sheet: &Sheet) -> u16 {
 
 /// A whole run: opened by the library, with the reports that the device can give, chosen
 /// at random, and with refused ones in between, until it has ended and once after that.
-fn play(rng: &mut Rng, findings: &mut Findings, reference: &Sheet, device: &Sheet) {
-    let k = any_number(rng).min(MAX_TEST);
+fn play(
+    rng: &mut Rng,
+    findings: &mut Findings,
+    (reference, device): (&Sheet, &Sheet),
+    k: u16,
+    trace_only: bool,
+) {
     let h = if rng.one_in(2) {
         rng.word()
     } else {
         rng.below(40) as u16
     };
-    let trace_only = rng.one_in(3);
     let traces = flag(rng, trace_only);
     let opened = try_open(findings, reference, k, h, traces);
     let (mut record, mut offer, mut at) = (opened.run, opened.answer.value, 0u8);
@@ -163,8 +229,7 @@ fn play(rng: &mut Rng, findings: &mut Findings, reference: &Sheet, device: &Shee
             },
             (kind, _) => {
                 count_ending(findings, trace_only, u64::from(kind), report, count);
-                let code = any_code(rng, reference);
-                try_step(findings, reference, &record, code);
+                try_after(rng, findings, reference, &answered);
                 return;
             }
         }
@@ -183,7 +248,7 @@ fn refuse_between(rng: &mut Rng, findings: &mut Findings, reference: &Sheet, rec
 }
 
 /// One of the reports that the device can give. Strays and blocks come late, so that runs
-/// go deep.
+/// go deep; at depth k of a trace-only run blocks come often.
 fn next_report(
     rng: &mut Rng,
     reference: &Sheet,
@@ -199,6 +264,10 @@ fn next_report(
     if reports.iter().any(on) && record.depth < record.k && !rng.one_in(30) {
         reports.retain(on);
     }
+    let last = record.traces != 0 && record.depth == record.k;
+    if last && reports.contains(&Report::Blocked) && rng.one_in(2) {
+        return Some(Report::Blocked);
+    }
     if reports.is_empty() {
         return None;
     }
@@ -213,9 +282,10 @@ fn code_of(rng: &mut Rng, report: Report) -> u16 {
     }
 }
 
-/// Counts how a run ended, and after how many reports.
+/// Counts how a run ended, and after how many reports. From "passed by blocking" on a class has one
+/// more than the number of its ending.
 fn count_ending(findings: &mut Findings, trace_only: bool, kind: u64, report: Report, count: u64) {
-    let by_block = kind == 4 && report == Report::Blocked;
+    let by_block = kind >= 4 && report == Report::Blocked;
     let group = if trace_only { TRACES } else { RUNS };
     findings.count(group, kind + u64::from(by_block));
     findings.count(DEEP, digits(count));
@@ -228,6 +298,35 @@ fn digits(count: u64) -> u64 {
         1..=9 => 1,
         10..=99 => 2,
         _ => 3,
+    }
+}
+
+/// Counts a report of "blocked" that is answered: at which depth, and what an inconclusive ending
+/// has of flag and node.
+fn count_blocked(findings: &mut Findings, sheet: &Sheet, record: &Record, answer: &Said) {
+    let below = record.k - record.depth;
+    if record.traces == 0 {
+        if below > 0 {
+            findings.count(OTHERS, answer.kind.into());
+        }
+        return;
+    }
+    let class = match below {
+        0 => u64::from(record.k > 0),
+        1 => 2,
+        _ => 3,
+    };
+    findings.count(BLOCKED, class);
+    if is_inconclusive(answer) {
+        let stops = sheet.row(record.node).may_stop();
+        let deeper = record.depth > 0;
+        findings.count(EARLY, 2 * u64::from(stops) + u64::from(deeper));
+        let byte = match record.traces {
+            1 => 1,
+            2..=127 => 2,
+            _ => 3,
+        };
+        findings.count(BYTES, byte);
     }
 }
 
@@ -287,12 +386,14 @@ fn try_step(findings: &mut Findings, sheet: &Sheet, record: &Record, code: u16) 
     });
     findings.count(STEP, u64::from(model.answer.refusal));
     count_offer(findings, sheet, &model);
+    if report_of(code) == Report::Blocked && model.answer.refusal == 0 {
+        count_blocked(findings, sheet, record, &model.answer);
+    }
     for number in [record.traces, record.ended] {
         findings.count(FLAGS, u64::from(number.min(2)));
     }
     catch(findings, RunFault::ALL, |fault| {
-        let other = step_with(fault, sheet, &record.run(), report_of(code));
-        stepped(record, other) != ours
+        step_numbers_with(fault, sheet, record, code) != ours
     });
     ours
 }

@@ -11,11 +11,14 @@ use super::{after, printed, refusals, target};
 use crate::findings::Findings;
 use crate::play::Part;
 
-const LINES: &str = "live, 0 passed, 1 stray, 2 refused, 3 input ended, 4 test refused";
+const LINES: &str =
+    "live, 0 passed, 1 stray, 2 refused, 3 input ended, 4 test refused, 5 inconclusive";
 const REPORTS: &str = "live, runs with a report refused";
 const REFUSALS: &str = "live, the refusals of the reference";
 const VERSION: &str = "live, by the version of the reference";
 const ORDER: &str = "live, 0 every offer as with a list by number, 1 some offer otherwise";
+const BLOCKED: &str = "live, trace-only runs blocked, 0 with k 0, 1 at another depth k, \
+    2 below it at a node that may stop, 3 below it at another";
 const DEPTH: &str = "live, accepted reports 0 (0), 1 to 9 (1), 10 and more (2)";
 
 pub const PART: Part = Part {
@@ -28,12 +31,13 @@ pub const PART: Part = Part {
 
 fn findings() -> Findings {
     let groups = vec![
-        (LINES, (0..=4).collect()),
+        (LINES, (0..=5).collect()),
         (REPORTS, vec![15, 17]),
         (REFUSALS, refusals()),
         (VERSION, vec![1, 2]),
         (DEPTH, vec![0, 1, 2]),
         (ORDER, vec![0, 1]),
+        (BLOCKED, vec![0, 1, 2, 3]),
     ];
     Findings::new(groups, names(LiveFault::ALL))
 }
@@ -77,6 +81,7 @@ fn count(findings: &mut Findings, call: &Call, text: &str) {
         "run failed refused",
         "input ended",
         "test refused 14",
+        "run inconclusive",
     ];
     let last = text.lines().last().unwrap_or("");
     if let Some(class) = ends.iter().position(|end| last.starts_with(end)) {
@@ -98,4 +103,18 @@ fn count(findings: &mut Findings, call: &Call, text: &str) {
         let by_number = output_with(LiveFault::ByNumber, call);
         findings.count(ORDER, u64::from(by_number != text));
     }
+    if let Some(class) = blocked_class(call, text) {
+        findings.count(BLOCKED, class);
+    }
+}
+
+/// Where a trace-only run was blocked: found by the faults that show there and nowhere else.
+fn blocked_class(call: &Call, text: &str) -> Option<u64> {
+    let shows = |fault| output_with(fault, call) != text;
+    if text.ends_with("run inconclusive\n") {
+        let stops = shows(LiveFault::InconclusiveUnlessStops);
+        return Some(3 - u64::from(stops));
+    }
+    let at_k = shows(LiveFault::InconclusiveAtK);
+    at_k.then(|| u64::from(!shows(LiveFault::InconclusiveAtZero)))
 }
