@@ -97,7 +97,8 @@ fn listing(sheet: Sheet) -> Case {
 }
 
 /// An opening and reports that offer the last probe of such a node: the opening of test 0,
-/// an event that leads to depth k, by value and in place, and "blocked" at depth k.
+/// an event that leads to depth k, by value and in place, and "blocked" at depth k. Beside them
+/// "blocked" below depth k in a trace-only run, which is inconclusive.
 fn reports(sheet: Sheet) -> Vec<Case> {
     let h = same::list(&sheet, 31, 4_096) - 1;
     same::open(&sheet, 0, h, 0);
@@ -115,8 +116,14 @@ fn reports(sheet: Sheet) -> Vec<Case> {
         depth: MAX_TEST,
         ..before
     };
+    let early = Record {
+        traces: 1,
+        ..before
+    };
     same::step(&sheet, &before, 0);
     same::step(&sheet, &last, 256);
+    same::step(&sheet, &early, 256);
+    assert_eq!(edge::step(&sheet, &early, 256).answer.kind, 5);
     vec![
         Case {
             call: "open",
@@ -126,6 +133,13 @@ fn reports(sheet: Sheet) -> Vec<Case> {
         },
         stepping("an event to depth 1023", sheet, tables.clone(), before, 0),
         stepping("blocked at depth 1023", sheet, tables.clone(), last, 256),
+        stepping(
+            "blocked at depth 1022, trace-only",
+            sheet,
+            tables.clone(),
+            early,
+            256,
+        ),
         in_place("an event to depth 1023", sheet, tables, before, 0),
     ]
 }

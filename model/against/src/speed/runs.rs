@@ -166,7 +166,9 @@ pub fn report(run: &mut Record, tables: &Tables, code: u16) -> Said {
         return on_event(run, tables, code);
     }
     run.ended = 1;
-    if run.traces != 0 || tables.may_stop(run.node as usize) {
+    if run.traces != 0 {
+        said(0, 4 + u8::from(run.depth < run.k), 0)
+    } else if tables.may_stop(run.node as usize) {
         said(0, 4, 0)
     } else {
         said(0, 3, offer(tables, run))

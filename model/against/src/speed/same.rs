@@ -136,6 +136,11 @@ fn one_sheet(rng: &mut Rng, sheet: &Sheet) {
     let run = random_record(rng, sheet);
     let record = Record::ZERO.after(&run);
     step(sheet, &record, rng.pick(&[0, 1, 2, 3, 11, 12, 255, 256]));
+    let traces = Record {
+        traces: 1,
+        ..record
+    };
+    step(sheet, &traces, 256);
 }
 
 /// The calls on two sheets.
