@@ -55,7 +55,7 @@ fn the_samples() {
             }
         }
     }
-    assert!(texts >= 68, "{texts}");
+    assert!(texts >= 75, "{texts}");
 }
 
 #[test]

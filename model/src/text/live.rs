@@ -119,6 +119,7 @@ fn last_line(ending: Answer) -> String {
         Answer::Stray(event) => format!("run failed stray {event}\n"),
         Answer::Refused(set) => format!("run failed refused {}\n", set_words(set)),
         Answer::Inconclusive => "run inconclusive\n".to_string(),
-        _ => "run passed\n".to_string(),
+        Answer::Passed => "run passed\n".to_string(),
+        Answer::Going(_) | Answer::Denied(_) => unreachable!("no ending"),
     }
 }
