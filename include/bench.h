@@ -32,7 +32,7 @@ extern "C" {
  * arguments or of what a call answers; a new call alone does not change it. Before it was counted verdicts and
  * comparisons had other kinds; in 1 sheets had no codes; in 2 probes were ordered by number alone, which h and what is
  * named at a refusal followed, and the stack of some calls was less; in 3 a trace-only run that was blocked passed at
- * every depth, and no run was inconclusive. It is not the version of a sheet's bytes. */
+ * every depth. It is not the version of a sheet's bytes. */
 #define BENCH_VERSION 4
 
 /* The most events, nodes and sets of a node, and a successor place that has no successor. */

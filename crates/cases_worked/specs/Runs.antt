@@ -89,7 +89,7 @@ example-fails = (
   ),
 )
 
--- both sheets of the next cases are accepted, and each has one node and one event
+-- the two sheets of the next cases are accepted, and have equally many events
 loop-accepted : sheetFault (sheet mustLoop) ≡ 0
 unfolding sheet mustLoop stopped readSheet answer bytesFault headFault lengthField layoutFault nextAt startOf succOf setsOf rowAt rowOf sheetOf graphFault rangesOk countOk countsOk successorsOk rowSuccessorsOk successorOk setsOk rowSetsOk setOk ascends noneInside blank unusedOk blanksOk reachedOk sheetFault successor acceptance acceptances initials mayStop step bit has inside meets setOf nearer leads all any upTo codesFault nodesAt codeOf codesOk codeNew codesBlank
 loop-accepted = refl

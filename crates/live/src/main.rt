@@ -1,4 +1,4 @@
-// The program `live`, a live run of test k at the bench (01, "Test k and a live run"):
+// The program `live`, a live run of test k at the bench (01, "Test k and a live run"; 02, K4):
 //   live REF K H [traces]
 // REF names a file with the reference's bytes, of which no more than 4,096 are kept; later bytes count as absent. K and
 // H are numbers in base ten, and `traces` makes the run trace-only. Other counts of words are refused with 14 before

@@ -1,5 +1,5 @@
-// What `live` prints: at an opening, at the answer to a report, and where a run has not ended; and the set that stands
-// offered.
+// What `live` prints: at an opening, at the answer to a report, and where a run has not ended; the set that stands
+// offered, and whether the run goes on.
 ghost use mathlib.Core.Path.{_≡_};
 ghost use mathlib.Core.List.{_++_};
 ghost use Rattle.text_spec.specs.Adds.{Adds, Holds};

@@ -1,4 +1,5 @@
--- The lines that `live` prints, as the codes of their characters. Each ends with one newline.
+-- The lines that `live` prints, as the codes of their characters, each of which ends with one newline; and what follows
+-- the answer to a report: the set that stands offered, and whether the run goes on.
 use mathlib.Core.Bool.{Bool, true, false, cond}
 use mathlib.Core.List.{List, [], _++_}
 use Prim.Native.Nat.{ℕ}
@@ -49,25 +50,6 @@ answerLines x Passed = ascii "run passed\n"
 answerLines x Inconclusive = ascii "run inconclusive\n"
 answerLines x (Denied m) = reportRefusedLine m ++ offerLine x
 
--- the set that stands offered after an answer, where x stood offered before it: another one only if the run goes on
-unfoldable pub nextOffer : ℕ → Answer → ℕ
-nextOffer x (Going y) = y
-nextOffer x (Stray i) = x
-nextOffer x (Refused y) = x
-nextOffer x Passed = x
-nextOffer x Inconclusive = x
-nextOffer x (Denied m) = x
-
--- whether the run goes on after the answer to a report: with the next offer, or with the same one after a refused
--- report; after an ending no line is read
-unfoldable pub goesOn : Answer → Bool
-goesOn (Going x) = true
-goesOn (Stray i) = false
-goesOn (Refused x) = false
-goesOn Passed = false
-goesOn Inconclusive = false
-goesOn (Denied m) = true
-
 -- what the opening of a test prints on a reference of n nodes and e events: the first line and the first offer, or the
 -- refusal; an opening has no other answer
 unfoldable pub testLines : Asked → ℕ → ℕ → Answer → List ℕ
@@ -85,3 +67,24 @@ openingLines asked n e fault a = cond (eqb fault 0) (testLines asked n e a) (num
 -- what is printed where the run has not ended: the lines were too many, or the input ended
 unfoldable pub endedLine : Bool → List ℕ
 endedLine many = cond many (ascii "lines ended\n") (ascii "input ended\n")
+
+-- ---- after an answer
+
+-- the set that stands offered after an answer, where x stood offered before it: another one only if the run goes on
+unfoldable pub nextOffer : ℕ → Answer → ℕ
+nextOffer x (Going y) = y
+nextOffer x (Stray i) = x
+nextOffer x (Refused y) = x
+nextOffer x Passed = x
+nextOffer x Inconclusive = x
+nextOffer x (Denied m) = x
+
+-- whether the run goes on after the answer to a report: with the next offer, or with the same one after a refused
+-- report; not after an ending
+unfoldable pub goesOn : Answer → Bool
+goesOn (Going x) = true
+goesOn (Stray i) = false
+goesOn (Refused x) = false
+goesOn Passed = false
+goesOn Inconclusive = false
+goesOn (Denied m) = true

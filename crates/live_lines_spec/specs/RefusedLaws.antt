@@ -21,7 +21,7 @@ use Rattle.tests_spec.specs.declared.Report.the-variants.{Event, Blocked}
 use Rattle.tests_spec.specs.declared.Answer.the-variants.{Denied}
 use Rattle.tests_spec.specs.Runs.{offerOf, openFault, openOf, reportFault, movedBy, stepOf}
 use Rattle.tests_spec.specs.Reports.{Beyond, NotOffered, WrongRecord, Fitting, Started, Taken, denies, moves, strays, refuses, passes, halts}
-use Rattle.tests_spec.specs.RunLaws.{open-0, report-0, report-15, report-17, answer-of, run-of, taken}
+use Rattle.tests_spec.specs.RunLaws.{open-0, blocked-taken, event-taken, report-15, report-17, answer-of, run-of, taken}
 use Rattle.tests_spec.specs.RunRecords.{opening-starts, step-refused}
 use Rattle.live_lines_spec.specs.Answers.{offerLine, reportWords, reportRefusedLine, answerLines}
 use Rattle.live_lines_spec.specs.EndingLaws.{Ends}
@@ -97,7 +97,7 @@ module _ (s : Sheet) (r : Run) (x : Report) (fit : Fitting s r) where
               let o : bit (offerOf s r) i ≢ 1 = eqb-false (bit (offerOf s r) i) 1 d in
               let q : m ≡ 17 = sym (w .0) ∙ report-17 s r (Event i) .1 ((fit, λ g. omega arith), o) in
               inr (o, rw (e ∙ ap Denied q))
-          pick (inl l) (inl d) = absurd (w .1 (sym (w .0) ∙ report-0 s r (Event i) .1 ((fit, λ g. omega arith), λ o. o (eqb-true (bit (offerOf s r) i) 1 d))))
+          pick (inl l) (inl d) = absurd (w .1 (sym (w .0) ∙ event-taken s r i .1 (fit, l, eqb-true (bit (offerOf s r) i) 1 d)))
       given Blocked e =
           let w = step-refused s r Blocked m .0 e in
-          absurd (w .1 (sym (w .0) ∙ report-0 s r Blocked .1 ((fit, λ g. g), λ g. g)))
+          absurd (w .1 (sym (w .0) ∙ blocked-taken s r .1 fit))

@@ -1,5 +1,5 @@
-// The answer to one report on a run (01, "Test k and a live run"): the refusals of a record, and an event or "blocked"
-// at a node of a sheet that is not refused.
+// The answer to one report on a run (01, "Test k and a live run"; 02, K4): the refusals of a record, and an event or
+// "blocked" at a node of a sheet that is not refused.
 ghost use mathlib.Core.Path.{_≡_};
 ghost use Prim.Native.Nat.{_≤_, _<_};
 ghost use Rattle.sheet_spec.specs.Refusals.{sheetFault};
@@ -104,8 +104,8 @@ pub(crate) fn on_event(rows: [Row; 32], n: usize, e: usize, run: Run, event: u8)
     }
 }
 
-// The answer to "blocked": in a trace-only run inconclusive below depth k, and passed at depth k; in any other passed if
-// the node may stop, else failed as refused. The sheet of the rows and the record are not refused.
+// The answer to "blocked": in a trace-only run inconclusive below depth k, passed at depth k; in any other passed if the
+// node may stop, else failed as refused. The sheet of the rows and the record are not refused.
 pub(crate) fn on_blocked(rows: [Row; 32], n: usize, e: usize, run: Run) -> Stepped
     requires { ⌜ (sheetFault (sheetWith rows e n) ≡ 0) × (recordFault n run ≡ 0) ⌝ }
     ensures { λ r. ⌜ r ≡ stepOf (sheetWith rows e n) run Blocked ⌝ }

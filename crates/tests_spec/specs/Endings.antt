@@ -12,76 +12,38 @@ use Rattle.sheet_spec.specs.Refusals.{sheetFault}
 use Rattle.tests_spec.specs.declared.Run.{Run}
 use Rattle.tests_spec.specs.declared.Report.{Report}
 use Rattle.tests_spec.specs.declared.Report.the-variants.{Blocked}
-use Rattle.tests_spec.specs.declared.Answer.{Answer}
 use Rattle.tests_spec.specs.declared.Answer.the-variants.{Going, Stray, Refused, Passed, Inconclusive, Denied}
 use Rattle.tests_spec.specs.Flags.{flag}
 use Rattle.tests_spec.specs.Runs.{answered, reportFault, stepOf}
-use Rattle.tests_spec.specs.Numbers.{said}
+use Rattle.tests_spec.specs.Numbers.{said, said-once}
 use Rattle.tests_spec.specs.Reports.{Straying, Refusing, Passing, Marked}
 use Rattle.tests_spec.specs.RunLaws.{kind-same}
 use Rattle.tests_spec.specs.RunRecords.{ending-marks, ending-16}
-use Rattle.tests_spec.specs.NumberLaws.{kind-2, kind-3, kind-4, kind-5}
-
--- the answers of the kinds 2 to 5
-stray-kind : (a : Answer) → said a .kind ≡ 2 → (i : ℕ) × (a ≡ Stray i)
-unfolding said
-stray-kind (Going y) e = absurd (omega (arith, e))
-stray-kind (Stray i) e = (i, refl)
-stray-kind (Refused y) e = absurd (omega (arith, e))
-stray-kind Passed e = absurd (omega (arith, e))
-stray-kind Inconclusive e = absurd (omega (arith, e))
-stray-kind (Denied m) e = absurd (omega (arith, e))
-
-refused-kind : (a : Answer) → said a .kind ≡ 3 → (X : ℕ) × (a ≡ Refused X)
-unfolding said
-refused-kind (Going y) e = absurd (omega (arith, e))
-refused-kind (Stray i) e = absurd (omega (arith, e))
-refused-kind (Refused y) e = (y, refl)
-refused-kind Passed e = absurd (omega (arith, e))
-refused-kind Inconclusive e = absurd (omega (arith, e))
-refused-kind (Denied m) e = absurd (omega (arith, e))
-
-passed-kind : (a : Answer) → said a .kind ≡ 4 → a ≡ Passed
-unfolding said
-passed-kind (Going y) e = absurd (omega (arith, e))
-passed-kind (Stray i) e = absurd (omega (arith, e))
-passed-kind (Refused y) e = absurd (omega (arith, e))
-passed-kind Passed e = refl
-passed-kind Inconclusive e = absurd (omega (arith, e))
-passed-kind (Denied m) e = absurd (omega (arith, e))
-
-inconclusive-kind : (a : Answer) → said a .kind ≡ 5 → a ≡ Inconclusive
-unfolding said
-inconclusive-kind (Going y) e = absurd (omega (arith, e))
-inconclusive-kind (Stray i) e = absurd (omega (arith, e))
-inconclusive-kind (Refused y) e = absurd (omega (arith, e))
-inconclusive-kind Passed e = absurd (omega (arith, e))
-inconclusive-kind Inconclusive e = refl
-inconclusive-kind (Denied m) e = absurd (omega (arith, e))
+use Rattle.tests_spec.specs.NumberLaws.{kind-2, kind-3, kind-4, kind-5, stray-parts, refusing-said, passing-said, halting-said}
 
 module _ (s : Sheet) (r : Run) (x : Report) where
   -- a run has failed as stray exactly by an event outside the initials that is not refused
   pub strayed-means : ((i : ℕ) × (stepOf s r x .answer ≡ Stray i)) ↔ ((reportFault s r x ≡ 0) × Straying s r x)
   unfolding said
-  strayed-means = (λ w. kind-2 s r x .0 (kind-same (w .1)), λ w. stray-kind (stepOf s r x .answer) (kind-2 s r x .1 w))
+  strayed-means = (λ w. kind-2 s r x .0 (kind-same (w .1)), λ w. let p = stray-parts s r x (w .0) (w .1) in (p .0, said-once _ (Stray (p .0)) (p .1)))
 
   -- a run has failed as refused exactly by "blocked", not refused, in a run that is not trace-only, where the node may
   -- not stop
   pub refused-means : ((X : ℕ) × (stepOf s r x .answer ≡ Refused X)) ↔ ((reportFault s r x ≡ 0) × Refusing s r x)
   unfolding said
-  refused-means = (λ w. kind-3 s r x .0 (kind-same (w .1)), λ w. refused-kind (stepOf s r x .answer) (kind-3 s r x .1 w))
+  refused-means = (λ w. kind-3 s r x .0 (kind-same (w .1)), λ w. (_, said-once _ (Refused _) (refusing-said s r x (w .0) (w .1))))
 
   -- a run has passed exactly by a report that is not refused and is an event inside the initials at depth k, or
   -- blocked, trace-only at depth k or not trace-only where the node may stop
   pub passed-means : (stepOf s r x .answer ≡ Passed) ↔ ((reportFault s r x ≡ 0) × Passing s r x)
   unfolding said
-  passed-means = (λ e. kind-4 s r x .0 (kind-same e), λ w. passed-kind (stepOf s r x .answer) (kind-4 s r x .1 w))
+  passed-means = (λ e. kind-4 s r x .0 (kind-same e), λ w. said-once _ Passed (passing-said s r x (w .0) (w .1)))
 
   -- a run is inconclusive exactly by a report that is not refused and is "blocked", if the run is trace-only and its
   -- depth is below its k (`Halting`)
   pub inconclusive-means : (stepOf s r x .answer ≡ Inconclusive) ↔ ((reportFault s r x ≡ 0) × ((x ≡ Blocked) × (flag (r .«trace_only») ≡ true) × (r .depth < r .k)))
   unfolding said
-  inconclusive-means = (λ e. kind-5 s r x .0 (kind-same e), λ w. inconclusive-kind (stepOf s r x .answer) (kind-5 s r x .1 w))
+  inconclusive-means = (λ e. kind-5 s r x .0 (kind-same e), λ w. said-once _ Inconclusive (halting-said s r x (w .0) (w .1)))
 
   -- an inconclusive answer is neither a refusal nor goes on
   inconclusive-ends : stepOf s r x .answer ≡ Inconclusive → ((m : ℕ) → stepOf s r x .answer ≢ Denied m) × ((X : ℕ) → stepOf s r x .answer ≢ Going X)

@@ -58,7 +58,7 @@ module _ (s : Sheet) (r : Run) where
   stray-said i z n = rw (stray-step s r i z n)
 
   -- any report that is an event outside the initials is of kind 2
-  stray-parts : (x : Report) → reportFault s r x ≡ 0 → Straying s r x → (i : ℕ) × (said (stepOf s r x .answer) ≡ record { refusal = 0; kind = 2; value = i })
+  pub stray-parts : (x : Report) → reportFault s r x ≡ 0 → Straying s r x → (i : ℕ) × (said (stepOf s r x .answer) ≡ record { refusal = 0; kind = 2; value = i })
   unfolding Straying
   stray-parts (Event i) z n = (i, stray-said i z n)
   stray-parts Blocked z n = absurd n

@@ -184,6 +184,28 @@ module _ (s : Sheet) (r : Run) (x : Report) where
   unfolding stepOf
   step-answers z = rw (eq-eqb (reportFault s r x) 0 z)
 
+-- "blocked" is always a report: it is not refused exactly if the sheet is accepted, the run has not ended, and the
+-- record fits the sheet; neither its depth nor what is offered plays a part
+pub blocked-taken : (s : Sheet) (r : Run) → (reportFault s r Blocked ≡ 0) ↔ Fitting s r
+unfolding Beyond NotOffered
+blocked-taken s r = (λ z. report-0 s r Blocked .0 z .0 .0, λ w. report-0 s r Blocked .1 ((w, λ x. x), λ x. x))
+
+-- an event is not refused exactly if so, and it is one of the sheet's and offered
+pub event-taken : (s : Sheet) (r : Run) (i : ℕ) → (reportFault s r (Event i) ≡ 0) ↔ (Fitting s r × (i < s .e) × (bit (offerOf s r) i ≡ 1))
+unfolding Beyond NotOffered
+event-taken s r i = (
+  λ z. let w = report-0 s r (Event i) .0 z in (w .0 .0, below (w .0 .1) (lt-or-ge i (s .e)), offered (w .1) (dec (eqb (bit (offerOf s r) i) 1))),
+  λ w. report-0 s r (Event i) .1 ((w .0, λ g. omega (arith, w .1)), λ o. o (w .2)),
+)
+  where
+    below : ¬ (s .e ≤ i) → (i < s .e) ⊎ (s .e ≤ i) → i < s .e
+    below n (inl l) = l
+    below n (inr l) = absurd (n l)
+
+    offered : ¬ (bit (offerOf s r) i ≢ 1) → (eqb (bit (offerOf s r) i) 1 ≡ true) ⊎ (eqb (bit (offerOf s r) i) 1 ≡ false) → bit (offerOf s r) i ≡ 1
+    offered n (inl t) = eqb-true _ 1 t
+    offered n (inr t) = absurd (n (eqb-false _ 1 t))
+
 -- where a report is not refused, the sheet is accepted and the run has not ended
 pub unrefused : (s : Sheet) (r : Run) (x : Report) → reportFault s r x ≡ 0 → (sheetFault s ≡ 0) × (¬ (flag (r .ended) ≡ true))
 unrefused s r x z = report-0 s r x .0 z .0 .0 .0
@@ -226,12 +248,12 @@ module _ (s : Sheet) (r : Run) where
   unfolding answerOf
   blocked-at-k z t l = step-answers s r Blocked z ∙ rw (t, le-ltb (r .depth) (r .k) l)
 
-  -- blocked in a run with refusals where the node may stop: the run has passed
+  -- blocked in a run that is not trace-only where the node may stop: the run has passed
   pub blocked-stops : reportFault s r Blocked ≡ 0 → flag (r .«trace_only») ≡ false → mayStop (row s (r .node)) ≡ true → stepOf s r Blocked ≡ answered Passed (endedRun r)
   unfolding answerOf
   blocked-stops z t m = step-answers s r Blocked z ∙ rw (t, m)
 
-  -- blocked in a run with refusals where the node may not stop: ended, failed as refused, with the set offered
+  -- blocked in a run that is not trace-only where the node may not stop: ended, failed as refused, with the set offered
   pub blocked-refused : reportFault s r Blocked ≡ 0 → flag (r .«trace_only») ≡ false → mayStop (row s (r .node)) ≡ false
       → stepOf s r Blocked ≡ answered (Refused (offerOf s r)) (endedRun r)
   unfolding answerOf

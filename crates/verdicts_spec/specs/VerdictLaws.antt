@@ -39,8 +39,8 @@ use Rattle.tests_spec.specs.Numbers.{said}
 use Rattle.verdicts_spec.specs.Numbers.{judged}
 use Rattle.tests_spec.specs.Offers.{offer-all, offer-below, offer-at, offer-outside}
 use Rattle.verdicts_spec.specs.Blocks.{stop-blocks, all-blocked, block-refusal, refusal-block}
-use Rattle.tests_spec.specs.RunLaws.{open-0, open-going, report-0, answer-of, run-of, kind-same, value-same, stray-step, moving-step, blocked-refused, taken}
-use Rattle.tests_spec.specs.Reports.{Beyond, NotOffered, WrongRecord, Taken, denies, moves, strays, refuses, passes, halts}
+use Rattle.tests_spec.specs.RunLaws.{open-0, open-going, blocked-taken, event-taken, answer-of, run-of, kind-same, value-same, stray-step, moving-step, blocked-refused, taken}
+use Rattle.tests_spec.specs.Reports.{WrongRecord, Taken, denies, moves, strays, refuses, passes, halts}
 use Rattle.verdicts_spec.specs.FaultyPairs.{StopsAt, FailsOnward, fails-next}
 
 -- The refusals of a verdict.
@@ -170,12 +170,10 @@ module _ (P Q : Sheet) (accP : sheetFault P ≡ 0) (accQ : sheetFault Q ≡ 0) (
   fits h n x a l (inr (inr f)) = omega arith
 
   takes-event : (h n x i : ℕ) → n < P .n → x ≤ k → i < P .e → bit (offerOf P (live h n x)) i ≡ 1 → reportFault P (live h n x) (Event i) ≡ 0
-  unfolding Beyond NotOffered
-  takes-event h n x i a l c b = report-0 P (live h n x) (Event i) .1 ((((accP, not-ended), fits h n x a l), λ z. omega arith), λ z. z b)
+  takes-event h n x i a l c b = event-taken P (live h n x) i .1 (((accP, not-ended), fits h n x a l), c, b)
 
   takes-blocked : (h n x : ℕ) → n < P .n → x ≤ k → reportFault P (live h n x) Blocked ≡ 0
-  unfolding Beyond NotOffered
-  takes-blocked h n x a l = report-0 P (live h n x) Blocked .1 ((((accP, not-ended), fits h n x a l), λ z. z), λ z. z)
+  takes-blocked h n x a l = blocked-taken P (live h n x) .1 ((accP, not-ended), fits h n x a l)
 
   -- a device that blocks where the reference may not stop: with none to go a refusal, with some to go a stop
   blocked-fails : (h left n x m : ℕ) → x + left ≡ k → n < P .n → m < Q .n → traceOnly ≡ false → mayStop (row P n) ≡ false
