@@ -522,7 +522,7 @@ rowsOf02 =
       running exampleReference 5 0 true (Event 0 ∷ Event 1 ∷ Event 0 ∷ Event 1 ∷ Event 0 ∷ Blocked ∷ []),
       0 ∷ 1 ∷ 3 ∷ 0 ∷ 1 ∷ 3 ∷ 0 ∷ 1 ∷ 3 ∷ 0 ∷ 1 ∷ 3 ∷ 0 ∷ 1 ∷ 3 ∷ 0 ∷ 1 ∷ 3 ∷ 0 ∷ 4 ∷ 0 ∷ 5 ∷ 0 ∷ 1 ∷ 1 ∷ 1 ∷ 5 ∷ [],
     )
-    -- 02, K4: in a run with refusals blocked at depth 4 of test 5 has failed, as before
+    -- 02, K4: in a run that is not trace-only blocked at depth 4 of test 5 has failed, as before
     ∷ (
       running exampleReference 5 0 false (Event 0 ∷ Event 1 ∷ Event 0 ∷ Event 1 ∷ Blocked ∷ []),
       0 ∷ 1 ∷ 3 ∷ 0 ∷ 1 ∷ 3 ∷ 0 ∷ 1 ∷ 3 ∷ 0 ∷ 1 ∷ 3 ∷ 0 ∷ 1 ∷ 3 ∷ 0 ∷ 3 ∷ 3 ∷ 5 ∷ 0 ∷ 0 ∷ 1 ∷ 0 ∷ 4 ∷ [],
@@ -530,8 +530,8 @@ rowsOf02 =
     -- 02, K4: test 0 has nothing below depth k: blocked passes, where the node may stop and where it may not
     ∷ (running mayLoop 0 0 true (Blocked ∷ []), 0 ∷ 1 ∷ 1 ∷ 0 ∷ 4 ∷ 0 ∷ 0 ∷ 0 ∷ 1 ∷ 1 ∷ 0 ∷ 0 ∷ [])
     ∷ (running mustLoop 0 0 true (Blocked ∷ []), 0 ∷ 1 ∷ 1 ∷ 0 ∷ 4 ∷ 0 ∷ 0 ∷ 0 ∷ 1 ∷ 1 ∷ 0 ∷ 0 ∷ [])
-    -- 02, K4: in test 1 both are inconclusive at depth 0, and so is a node without initials; at depth 1 they pass; with
-    -- refusals the node that may stop passes at depth 0, as before
+    -- 02, K4: in test 1 both are inconclusive at depth 0, and so is a node without initials; at depth 1 they pass; not
+    -- trace-only the node that may stop passes at depth 0, as before
     ∷ (running mayLoop 1 0 true (Blocked ∷ []), 0 ∷ 1 ∷ 1 ∷ 0 ∷ 5 ∷ 0 ∷ 1 ∷ 0 ∷ 1 ∷ 1 ∷ 0 ∷ 0 ∷ [])
     ∷ (running mustLoop 1 0 true (Blocked ∷ []), 0 ∷ 1 ∷ 1 ∷ 0 ∷ 5 ∷ 0 ∷ 1 ∷ 0 ∷ 1 ∷ 1 ∷ 0 ∷ 0 ∷ [])
     ∷ (running stopped 1 0 true (Blocked ∷ []), 0 ∷ 1 ∷ 1 ∷ 0 ∷ 5 ∷ 0 ∷ 1 ∷ 0 ∷ 1 ∷ 1 ∷ 0 ∷ 0 ∷ [])
@@ -541,7 +541,7 @@ rowsOf02 =
     -- 02, K4: the last test, at its start: inconclusive
     ∷ (running mustLoop 1023 0 true (Blocked ∷ []), 0 ∷ 1 ∷ 1 ∷ 0 ∷ 5 ∷ 0 ∷ 1023 ∷ 0 ∷ 1 ∷ 1 ∷ 0 ∷ 0 ∷ [])
     -- 02, K4: a device that stops at once trace-refines one that must loop, and meets no failure in a trace-only test;
-    -- with refusals it fails each test
+    -- each other test it fails
     ∷ (comparing mustLoop stopped true, lists (0 ∷ 21 ∷ 0 ∷ 1 ∷ 0 ∷ 0 ∷ 0 ∷ []) [] 2)
     ∷ (verdict mustLoop stopped 0 true, 0 ∷ 11 ∷ [])
     ∷ (verdict mustLoop stopped 1 true, 0 ∷ 11 ∷ [])

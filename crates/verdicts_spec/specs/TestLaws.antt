@@ -170,8 +170,8 @@ module _ (P Q : Sheet) (accP : sheetFault P ≡ 0) (accQ : sheetFault Q ≡ 0) (
         go (inl l) = (l, distance-fails l, nearer-passes)
         go (inr l) = absurd (n (refines-distance op oq same traceOnly .1 l))
 
-    -- where the device refines the reference, no run of a test ends failed, whatever the test's number; with traces
-    -- alone its runs may be inconclusive (02, K4)
+    -- where the device refines the reference, no run of any test, k up to 1,023, ends failed; with traces alone its runs
+    -- may be inconclusive (02, K4)
     pub refining-unfailed : RefinesIn traceOnly P Q → (k : ℕ) → k ≤ 1023 → ¬ FailsTest traceOnly P Q k
     refining-unfailed r k l f = clash (fails-means P Q accP accQ same traceOnly k l .1 f) (refining-false r k)
 
