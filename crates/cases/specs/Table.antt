@@ -511,11 +511,11 @@ rowsOf02 =
     ∷ (verdict (accepting (5 ∷ 6 ∷ [])) (accepting (3 ∷ 4 ∷ [])) 0 false, 0 ∷ 12 ∷ [])
     ∷ (verdict (accepting (5 ∷ 6 ∷ [])) (accepting (4 ∷ [])) 0 false, 0 ∷ 12 ∷ [])
     ∷ (verdict (accepting (5 ∷ 6 ∷ [])) (accepting (5 ∷ 6 ∷ [])) 0 false, 0 ∷ 11 ∷ [])
-    -- 02, K4: a trace-only run blocked at depth 4 of test 5 is inconclusive; it is marked as ended, its node and depth
-    -- stay, and every later report is refused with 16
+    -- 02, K4: a trace-only run blocked at depth 4 of test 5 is inconclusive; it is marked as ended, its node, its depth
+    -- and all else stay, and every later report is refused with 16
     ∷ (
-      running exampleReference 5 0 true (Event 0 ∷ Event 1 ∷ Event 0 ∷ Event 1 ∷ Blocked ∷ Blocked ∷ Event 0 ∷ []),
-      0 ∷ 1 ∷ 3 ∷ 0 ∷ 1 ∷ 3 ∷ 0 ∷ 1 ∷ 3 ∷ 0 ∷ 1 ∷ 3 ∷ 0 ∷ 1 ∷ 3 ∷ 0 ∷ 5 ∷ 0 ∷ 16 ∷ 0 ∷ 0 ∷ 16 ∷ 0 ∷ 0 ∷ 5 ∷ 0 ∷ 1 ∷ 1 ∷ 0 ∷ 4 ∷ [],
+      running exampleReference 5 1 true (Event 0 ∷ Event 1 ∷ Event 0 ∷ Event 1 ∷ Blocked ∷ Blocked ∷ Event 0 ∷ []),
+      0 ∷ 1 ∷ 3 ∷ 0 ∷ 1 ∷ 3 ∷ 0 ∷ 1 ∷ 3 ∷ 0 ∷ 1 ∷ 3 ∷ 0 ∷ 1 ∷ 3 ∷ 0 ∷ 5 ∷ 0 ∷ 16 ∷ 0 ∷ 0 ∷ 16 ∷ 0 ∷ 0 ∷ 5 ∷ 1 ∷ 1 ∷ 1 ∷ 0 ∷ 4 ∷ [],
     )
     -- 02, K4: at depth 5 of test 5 it passes
     ∷ (
@@ -539,7 +539,7 @@ rowsOf02 =
     ∷ (running mustLoop 1 0 true (Event 0 ∷ Blocked ∷ []), 0 ∷ 1 ∷ 1 ∷ 0 ∷ 1 ∷ 1 ∷ 0 ∷ 4 ∷ 0 ∷ 1 ∷ 0 ∷ 1 ∷ 1 ∷ 0 ∷ 1 ∷ [])
     ∷ (running mayLoop 1 0 false (Blocked ∷ []), 0 ∷ 1 ∷ 1 ∷ 0 ∷ 4 ∷ 0 ∷ 1 ∷ 0 ∷ 0 ∷ 1 ∷ 0 ∷ 0 ∷ [])
     -- 02, K4: the last test, at its start: inconclusive
-    ∷ (running mustLoop 1023 0 true (Blocked ∷ []), 0 ∷ 1 ∷ 1 ∷ 0 ∷ 5 ∷ 0 ∷ 1023 ∷ 0 ∷ 1 ∷ 1 ∷ 0 ∷ 0 ∷ [])
+    ∷ (running mustLoop 1023 7 true (Blocked ∷ []), 0 ∷ 1 ∷ 1 ∷ 0 ∷ 5 ∷ 0 ∷ 1023 ∷ 7 ∷ 1 ∷ 1 ∷ 0 ∷ 0 ∷ [])
     -- 02, K4: a device that stops at once trace-refines one that must loop, and meets no failure in a trace-only test;
     -- each other test it fails
     ∷ (comparing mustLoop stopped true, lists (0 ∷ 21 ∷ 0 ∷ 1 ∷ 0 ∷ 0 ∷ 0 ∷ []) [] 2)
