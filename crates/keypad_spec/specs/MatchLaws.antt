@@ -1,7 +1,7 @@
 -- Nothing to believe: laws. Which rules match a code, bit by bit, and how many: the test of a rule, the count, the
 -- smallest bad code and the two lowest rules, in words.
 use mathlib.Core.Path.{_≡_, refl, sym, ap, _∙_}
-use mathlib.Core.Logic.{_⊎_, inl, inr, _≢_, _↔_}
+use mathlib.Core.Logic.{_⊎_, inl, inr, _≢_, _↔_, Iff·rfl}
 use mathlib.Core.Bool.{Bool, true, false, not, _&&_}
 use mathlib.Core.List.{List}
 use Prim.Native.Nat.{ℕ, _+_, _≤_, _<_}
@@ -57,6 +57,59 @@ module _ (b : List ℕ) (c i : ℕ) where
   pub from-before : (k : ℕ) → i ≤ k → k < matchFrom b c i → matches b c k ≡ false
   from-before k l h = not-i (λ t. omega (arith, from-le k l t, h))
 
+-- how many rules match a code, by the two lowest that do
+module _ (b : List ℕ) (c : ℕ) where
+  -- rule i is one of the table's, and the test of it passes
+  abbrev Passes : ℕ → Type 0
+  Passes i = (i < ruleCount b) × (matches b c i ≡ true)
+
+  passes-counted : (L : ℕ) → (matchCount b c ≡ L) ↔ Counted Passes L
+  unfolding matchCount
+  passes-counted L = count-means (matches b c) (ruleCount b) L (λ i l. Iff·rfl)
+
+  -- none, where there is no lowest
+  pub no-lowest : ruleCount b ≤ lowest b c → matchCount b c ≡ 0
+  no-lowest h = passes-counted 0 .1 (counted-none 0 (λ i x. clash (x .1) (from-before b c 0 i (omega arith) (omega (arith, h, x .0)))))
+
+  -- some, where there is a lowest
+  pub has-lowest : lowest b c < ruleCount b → matchCount b c ≢ 0
+  has-lowest h e = absurd (omega (arith, counted-some (passes-counted 0 .0 e) .1 (lowest b c, (h, from-at b c 0 h .1))))
+
+  -- just one, where there is a lowest and no next lowest
+  pub no-second : lowest b c < ruleCount b → ruleCount b ≤ second b c → matchCount b c ≡ 1
+  no-second h k = passes-counted 1 .1 (counted-one (lowest b c) (h, from-at b c 0 h .1) (λ i x. only i x (lt-or-ge i (lowest b c)) (lt-or-ge (lowest b c) i)))
+    where
+      only : (i : ℕ) → Passes i → (i < lowest b c) ⊎ (lowest b c ≤ i) → (lowest b c < i) ⊎ (i ≤ lowest b c) → lowest b c ≡ i
+      only i x (inl u) v = absurd (clash (x .1) (from-before b c 0 i (omega arith) u))
+      only i x (inr u) (inl v) = absurd (clash (x .1) (from-before b c (lowest b c + 1) i (omega (arith, v)) (omega (arith, k, x .0))))
+      only i x (inr u) (inr v) = omega (arith, u, v)
+
+  -- not just one, where there is a next lowest
+  pub has-second : second b c < ruleCount b → matchCount b c ≢ 1
+  has-second h e = go (passes-counted 1 .0 e)
+    where
+      go : Counted Passes 1 → ⊥
+      go (T, l) =
+          let q = from-at b c (lowest b c + 1) h in
+          let k : lowest b c < ruleCount b = omega (arith, q .0, h) in
+          let x = l .every (lowest b c) (k, from-at b c 0 k .1) in
+          let y = l .every (second b c) (h, q .1) in
+          let u : x .0 ≡ y .0 = omega (arith, x .1, y .1) in
+          let z : lowest b c ≡ second b c = sym (x .2) ∙ ap T u ∙ y .2 in
+          omega (arith, z, q .0)
+
+  -- where more than one rule matches, there are a lowest and a next lowest
+  pub two-lowest : 2 ≤ matchCount b c → (lowest b c < ruleCount b) × (second b c < ruleCount b)
+  two-lowest h = let k = low (lt-or-ge (lowest b c) (ruleCount b)) in (k, high k (lt-or-ge (second b c) (ruleCount b)))
+    where
+      low : (lowest b c < ruleCount b) ⊎ (ruleCount b ≤ lowest b c) → lowest b c < ruleCount b
+      low (inl l) = l
+      low (inr l) = absurd (omega (arith, h, no-lowest l))
+
+      high : lowest b c < ruleCount b → (second b c < ruleCount b) ⊎ (ruleCount b ≤ second b c) → second b c < ruleCount b
+      high k (inl l) = l
+      high k (inr l) = absurd (omega (arith, h, no-second k l))
+
 -- the values of a table have no bit outside their masks
 module _ (b : List ℕ) (ok : ¬ ValueFault b) where
   within : (i : ℕ) → i < ruleCount b → Within (value b i) (mask b i)
@@ -91,25 +144,6 @@ module _ (b : List ℕ) (ok : ¬ ValueFault b) where
   -- the count is 0 exactly if no rule matches
   pub none-means : (c : ℕ) → (matchCount b c ≡ 0) ↔ ((i : ℕ) → i < ruleCount b → ¬ Matches b c i)
   none-means c = (λ e i l m. absurd (omega (arith, counted-some (count-matches c 0 .0 e) .1 (i, (l, m)))), λ h. count-matches c 0 .1 (counted-none 0 (λ i x. h i (x .0) (x .1))))
-
-  -- where more than one rule matches, there are a lowest and a next lowest
-  pub two-lowest : (c : ℕ) → 2 ≤ matchCount b c → (lowest b c < ruleCount b) × (second b c < ruleCount b)
-  two-lowest c h = go (count-matches c (matchCount b c) .0 refl)
-    where
-      go : Counted (λ i. (i < ruleCount b) × Matches b c i) (matchCount b c) → (lowest b c < ruleCount b) × (second b c < ruleCount b)
-      go (T, l) =
-          let x = l .holds 0 (omega (arith, h)) in
-          let y = l .holds 1 (omega (arith, h)) in
-          let p = rule-matches c (T 0) (x .0) .1 (x .1) in
-          let q = rule-matches c (T 1) (y .0) .1 (y .1) in
-          let u = from-le b c 0 (T 0) (omega arith) p in
-          let v = from-le b c 0 (T 1) (omega arith) q in
-          (omega (arith, u, x .0), pick p q u v (x .0) (y .0) (l .differ 0 1 (omega arith) (omega (arith, h))) (lt-or-ge (lowest b c) (T 0)))
-        where
-          pick : matches b c (T 0) ≡ true → matches b c (T 1) ≡ true → lowest b c ≤ T 0 → lowest b c ≤ T 1 → T 0 < ruleCount b → T 1 < ruleCount b → T 0 ≢ T 1
-              → (lowest b c < T 0) ⊎ (T 0 ≤ lowest b c) → second b c < ruleCount b
-          pick p q u v m n d (inl k) = omega (arith, from-le b c (lowest b c + 1) (T 0) (omega (arith, k)) p, m)
-          pick p q u v m n d (inr k) = omega (arith, from-le b c (lowest b c + 1) (T 1) (omega (arith, k, u, v, d)) q, n)
 
   -- each code before the smallest bad one is matched by just one rule, and that one is not
   pub bad-before : (c : ℕ) → c < badCode b → JustOne b c

@@ -23,7 +23,6 @@ use Rattle.keypad_spec.specs.Meaning.{PartRule, SizeFault, ValueFault, E
 module _ (b : List ℕ) where
   -- the bytes of every rule stand before the end
   pub rule-inside : (i : ℕ) → i < ruleCount b → 3 * i + 2 < length b
-  unfolding ruleCount
   rule-inside i l = omega arith
 
   -- bytes are left over exactly if the length is no multiple of 3
@@ -69,7 +68,6 @@ module _ (b : List ℕ) where
 
   -- bytes that have no fault of 21 are three for each of 1 to 64 rules, and no other bytes are
   pub whole-rules : (¬ SizeFault b) ↔ ((1 ≤ ruleCount b) × (ruleCount b ≤ 64) × (length b ≡ 3 * ruleCount b))
-  unfolding ruleCount
   whole-rules = (to, from)
     where
       to : (¬ SizeFault b) → (1 ≤ ruleCount b) × (ruleCount b ≤ 64) × (length b ≡ 3 * ruleCount b)

@@ -12,7 +12,7 @@ use Rattle.keypad_spec.specs.declared.Keypad.{Keypad}
 use Rattle.keypad_spec.specs.declared.Keypad.the-variants.{Good, Gap, Overlap}
 
 -- how many rules there are: each has three bytes, a mask, a value and an event
-unfoldable pub ruleCount : List ℕ → ℕ
+abbrev pub ruleCount : List ℕ → ℕ
 ruleCount b = length b / 3
 
 -- the mask of rule i

@@ -40,7 +40,7 @@ module _ (b : List ℕ) (ok : ¬ ValueFault b) where
   overlap-at : badCode b < 256 → matchCount b (badCode b) ≢ 0 → OverlapAt b (badCode b) (lowest b (badCode b)) (second b (badCode b))
   overlap-at l n =
       let c : ℕ = badCode b in
-      let w = two-lowest b ok c (omega (arith, n, bad-at b ok l)) in
+      let w = two-lowest b c (omega (arith, n, bad-at b ok l)) in
       let p = from-at b c 0 (w .0) in
       let q = from-at b c (lowest b c + 1) (w .1) in
       record {
