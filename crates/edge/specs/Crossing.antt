@@ -5,7 +5,8 @@ use Rattle.tests_spec.specs.declared.Stepped.{Stepped}
 use Rattle.tests_spec.specs.Numbers.{Said, said}
 use Rattle.verdicts_spec.specs.Numbers.{Judgement, Suited}
 use Rattle.comparison_spec.specs.Numbers.{Compared}
-use Rattle.edge.specs.Flat.{listedFlat, saidFlat, steppedFlat, judgedFlat, suitedFlat, comparedFlat}
+use Rattle.keypad_spec.specs.Numbers.{Keyed, Looked}
+use Rattle.edge.specs.Flat.{listedFlat, saidFlat, steppedFlat, judgedFlat, suitedFlat, comparedFlat, keyedFlat, lookedFlat}
 
 -- a probe list's answer: two numbers
 pub listed-crosses : (refusal count : ℕ) → (listedFlat (refusal, count) .refusal ≡ refusal) × (listedFlat (refusal, count) .count ≡ count)
@@ -36,3 +37,15 @@ pub compared-crosses : (a : Compared)
     × (comparedFlat a .event ≡ a .event) × (comparedFlat a .probe ≡ a .probe) × (comparedFlat a .acceptance ≡ a .acceptance)
 unfolding comparedFlat
 compared-crosses a = (refl, refl, refl, refl, refl, refl, refl)
+
+-- a check of a keypad's table: five numbers; a lookup in it: six
+pub keyed-crosses : (a : Keyed)
+    → (keyedFlat a .refusal ≡ a .refusal) × (keyedFlat a .kind ≡ a .kind) × (keyedFlat a .code ≡ a .code) × (keyedFlat a .first ≡ a .first) × (keyedFlat a .second ≡ a .second)
+unfolding keyedFlat
+keyed-crosses a = (refl, refl, refl, refl, refl)
+
+pub looked-crosses : (a : Looked)
+    → (lookedFlat a .refusal ≡ a .refusal) × (lookedFlat a .kind ≡ a .kind) × (lookedFlat a .event ≡ a .event) × (lookedFlat a .code ≡ a .code)
+    × (lookedFlat a .first ≡ a .first) × (lookedFlat a .second ≡ a .second)
+unfolding lookedFlat
+looked-crosses a = (refl, refl, refl, refl, refl, refl)

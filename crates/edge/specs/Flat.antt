@@ -1,6 +1,6 @@
--- What crosses the edge for a probe list, a report, an answer, a verdict, all verdicts and a comparison: numbers alone.
--- Every number of a report has a reading, and so has every byte of a flag (`flag` of tests_spec), so that every content
--- of what is handed over is answered.
+-- What crosses the edge for a probe list, a report, an answer, a verdict, all verdicts, a comparison, and a check and a
+-- lookup of a keypad's table: numbers alone. Every number of a report has a reading, and so has every byte of a flag
+-- (`flag` of tests_spec), so that every content of what is handed over is answered.
 use mathlib.Core.Path.{_≡_}
 use mathlib.Core.Bool.{cond}
 use Prim.Native.Nat.{ℕ, _≤_, _<_}
@@ -12,12 +12,15 @@ use Rattle.tests_spec.specs.declared.Stepped.{Stepped}
 use Rattle.tests_spec.specs.Numbers.{Said, said}
 use Rattle.verdicts_spec.specs.Numbers.{Judgement, Suited}
 use Rattle.comparison_spec.specs.Numbers.{Compared}
+use Rattle.keypad_spec.specs.Numbers.{Keyed, Looked}
 use Rattle.edge.specs.declared.BenchListed.{BenchListed}
 use Rattle.edge.specs.declared.BenchSaid.{BenchSaid}
 use Rattle.edge.specs.declared.BenchStepped.{BenchStepped}
 use Rattle.edge.specs.declared.BenchJudged.{BenchJudged}
 use Rattle.edge.specs.declared.BenchSuited.{BenchSuited}
 use Rattle.edge.specs.declared.BenchCompared.{BenchCompared}
+use Rattle.edge.specs.declared.BenchKeypad.{BenchKeypad}
+use Rattle.edge.specs.declared.BenchFound.{BenchFound}
 
 -- the numbers of a probe list's answer
 unfoldable pub listedFlat : ℕ × ℕ → BenchListed
@@ -47,6 +50,14 @@ suitedFlat a = record { refusal = a .refusal; count = a .count }
 unfoldable pub comparedFlat : Compared → BenchCompared
 comparedFlat a =
     record { refusal = a .refusal; kind = a .kind; d = a .d; cleared = a .cleared; event = a .event; probe = a .probe; acceptance = a .acceptance }
+
+-- the numbers of the answer of a check of a keypad's table
+unfoldable pub keyedFlat : Keyed → BenchKeypad
+keyedFlat a = record { refusal = a .refusal; kind = a .kind; code = a .code; first = a .first; second = a .second }
+
+-- the numbers of the answer of a lookup in a keypad's table
+unfoldable pub lookedFlat : Looked → BenchFound
+lookedFlat a = record { refusal = a .refusal; kind = a .kind; event = a .event; code = a .code; first = a .first; second = a .second }
 
 -- a number below 256 is the report of that event
 pub report-event : (x : ℕ) → x < 256 → reportFlat x ≡ Event x

@@ -17,8 +17,13 @@ ghost use Rattle.comparison_spec.specs.declared.Outcome.the-variants.{Denied};
 ghost use Rattle.comparison_spec.specs.Comparison.{outcomeOf, traceAfter, workAfter};
 ghost use Rattle.comparison_spec.specs.Numbers.{compared};
 ghost use Rattle.scripts_spec.specs.Scripts.{scriptsOf};
+ghost use Rattle.keypad_spec.specs.Calls.{keypadOf, foundOf};
+ghost use Rattle.keypad_spec.specs.Numbers.{keyed, looked};
 ghost use Rattle.edge.specs.Flat.{reportFlat, listedFlat, saidFlat, steppedFlat, judgedFlat, suitedFlat, comparedFlat};
+ghost use Rattle.edge.specs.Flat.{keyedFlat, lookedFlat};
 use comparison_spec::Outcome;
+use keypad_spec::Found;
+use keypad_spec::Keypad;
 use probes_spec::Listed;
 use scripts_spec::Scripts;
 use sheet_spec::ReadSheet;
@@ -369,4 +374,124 @@ pub extern "C" fn bench_count(reference: Sheet, device: Sheet, length: u16) -> S
     ensures { λ r. ⌜ r ≡ scriptsOf reference device length ⌝ }
 {
     scripts::count(reference, device, length)
+}
+
+// ---- keypads
+
+// The answer of a check of a keypad's table in numbers: the refusal, 0 for none; the kind; the smallest bad code; the
+// two lowest rules that match it.
+#[repr(C)]
+pub struct BenchKeypad {
+    pub refusal: u8,
+    pub kind: u8,
+    pub code: u8,
+    pub first: u8,
+    pub second: u8,
+}
+
+// The numbers of a check's answer.
+fn keyed_flat(a: Keypad) -> BenchKeypad
+    ensures { λ r. ⌜ r ≡ keyedFlat (keyed a) ⌝ }
+{
+    match a {
+        Keypad::Good => BenchKeypad {
+            refusal: 0,
+            kind: 31,
+            code: 0,
+            first: 0,
+            second: 0,
+        },
+        Keypad::Gap(c) => BenchKeypad {
+            refusal: 0,
+            kind: 32,
+            code: c,
+            first: 0,
+            second: 0,
+        },
+        Keypad::Overlap(c, i, k) => BenchKeypad {
+            refusal: 0,
+            kind: 33,
+            code: c,
+            first: i,
+            second: k,
+        },
+        Keypad::Denied(m) => BenchKeypad {
+            refusal: m,
+            kind: 0,
+            code: 0,
+            first: 0,
+            second: 0,
+        },
+    }
+}
+
+// Whether just one rule of a keypad's table matches each code: good, or the smallest bad code with its gap or overlap;
+// or the number of the refusal.
+#[no_mangle]
+pub extern "C" fn bench_keypad(sheet: Sheet, table: &[u8]) -> BenchKeypad
+    ensures { λ r. ⌜ r ≡ keyedFlat (keyed (keypadOf sheet (now (table .entry)))) ⌝ }
+{
+    let told = keypad::check(sheet, table);
+    keyed_flat(told)
+}
+
+// The answer of a lookup in a keypad's table in numbers: those of a check, and the event.
+#[repr(C)]
+pub struct BenchFound {
+    pub refusal: u8,
+    pub kind: u8,
+    pub event: u8,
+    pub code: u8,
+    pub first: u8,
+    pub second: u8,
+}
+
+// The numbers of a lookup's answer.
+fn looked_flat(a: Found) -> BenchFound
+    ensures { λ r. ⌜ r ≡ lookedFlat (looked a) ⌝ }
+{
+    match a {
+        Found::Event(e) => BenchFound {
+            refusal: 0,
+            kind: 34,
+            event: e,
+            code: 0,
+            first: 0,
+            second: 0,
+        },
+        Found::Gap(c) => BenchFound {
+            refusal: 0,
+            kind: 32,
+            event: 0,
+            code: c,
+            first: 0,
+            second: 0,
+        },
+        Found::Overlap(c, i, k) => BenchFound {
+            refusal: 0,
+            kind: 33,
+            event: 0,
+            code: c,
+            first: i,
+            second: k,
+        },
+        Found::Denied(m) => BenchFound {
+            refusal: m,
+            kind: 0,
+            event: 0,
+            code: 0,
+            first: 0,
+            second: 0,
+        },
+    }
+}
+
+// The event that a good table turns the code into; or the gap, the overlap or the refusal that a check of the table
+// answers.
+#[no_mangle]
+pub extern "C" fn bench_find(sheet: Sheet, table: &[u8], code: u8) -> BenchFound
+    ensures { λ r. ⌜ r ≡ lookedFlat (looked (foundOf sheet (now (table .entry)) code)) ⌝ }
+{
+    let found = keypad::find(sheet, table, code);
+    looked_flat(found)
 }
