@@ -30,7 +30,7 @@ fn length_field(input: &[u8]) -> usize
 }
 
 // Where the first sheet of an input ends.
-fn first_end(input: &[u8]) -> usize
+pub fn first_end(input: &[u8]) -> usize
     ensures { λ r. ⌜ (r ≡ firstEnd (now (input .entry))) × (r ≤ length (now (input .entry))) ⌝ }
 {
     if input.len() < 4 {
