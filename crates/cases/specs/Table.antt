@@ -1,6 +1,6 @@
 -- Nothing to believe: 01's cases (P) as one table, to be read beside 01 and in its order: each row is a call or a whole
 -- run, beside it stand the numbers that it answers, and one equation has them all. Comments that begin with 01 have the
--- words of its case. The rows that are for a request of 02 name it (K1, K2, K3, K4, K5, K7). Sheets come as bytes,
+-- words of its case. The rows that are for a request of 02 name it (K1 to K7). Sheets come as bytes,
 -- through the definition of reading. The rows compute through the definitions that the contracts cite, the probe lists
 -- among them.
 use mathlib.Core.Path.{_≡_, refl, sym, ap₂, _∙_}
@@ -49,6 +49,9 @@ use Rattle.comparison_spec.specs.Comparison.{pairCount, nearest, nearestTrace, 
 use Rattle.comparison_spec.specs.Numbers.{Compared, compared}
 use Rattle.scripts_spec.specs.declared.Scripts.{Scripts}
 use Rattle.scripts_spec.specs.Scripts.{beginning, countFrom, countOf, scriptsFault, scriptsOf}
+use Rattle.keypad_spec.specs.Tables.{matches, matchCount, badCode, matchFrom, badAnswer, tableAnswer}
+use Rattle.keypad_spec.specs.Calls.{sizeOk, valuesOk, eventsOk, tableFault, keypadFault, keypadOf, foundFrom, foundOf}
+use Rattle.keypad_spec.specs.Numbers.{Keyed, keyed, Looked, looked}
 use Rattle.sheet_spec.specs.Examples.{exampleReference, exampleDevice, codedReference, codedDevice, onlyZero, onlyOne, mayLoop, mustLoop, stopped, sheet}
 
 -- a row of the table
@@ -76,6 +79,10 @@ pub data Case : Type 0 where
   pairing : List ℕ → List ℕ → List ℕ → List ℕ → Case
   -- the scripts of so many events for a reference and a device (02, K2)
   counting : List ℕ → List ℕ → ℕ → Case
+  -- a check of a keypad's table with a sheet (02, K6)
+  keying : List ℕ → List ℕ → Case
+  -- a lookup of a code in a keypad's table with a sheet (02, K6)
+  looking : List ℕ → List ℕ → ℕ → Case
 
 -- sets below 256 as bytes, two for each
 unfoldable pub setBytes : List ℕ → List ℕ
@@ -152,6 +159,18 @@ pairNumbers P Q = compareFault P Q [] [] ∷ verdictFault P Q 1024 ∷ suiteFaul
 unfoldable pub scriptsNumbers : Scripts → List ℕ
 scriptsNumbers a = a .refusal ∷ a .walked ∷ a .device ∷ a .reference ∷ []
 
+-- the numbers of a check of a keypad's table: the refusal, the kind, the code and the two rules
+unfoldable pub keyedNumbers : Keyed → List ℕ
+keyedNumbers a = a .refusal ∷ a .kind ∷ a .code ∷ a .first ∷ a .second ∷ []
+
+-- the numbers of a lookup in it: the refusal, the kind, the event, the code and the two rules
+unfoldable pub lookedNumbers : Looked → List ℕ
+lookedNumbers a = a .refusal ∷ a .kind ∷ a .event ∷ a .code ∷ a .first ∷ a .second ∷ []
+
+-- the first n of the 64 rules that each match four codes: mask 252, values 0, 4, 8 and so on, event 1
+unfoldable pub rules : ℕ → List ℕ
+rules n = joined (λ i. 252 ∷ 4 * i ∷ 1 ∷ []) n
+
 -- what a row answers
 unfoldable pub numbersOf : Case → List ℕ
 numbersOf (reading b) = readNumbers (readSheet b)
@@ -165,6 +184,8 @@ numbersOf (lending P Q words places) =
 numbersOf (checking b codes) = sheetFault (keptWith b codes) ∷ []
 numbersOf (pairing P codes Q others) = pairNumbers (keptWith P codes) (keptWith Q others)
 numbersOf (counting P Q L) = scriptsNumbers (scriptsOf (sheet P) (sheet Q) L)
+numbersOf (keying b table) = keyedNumbers (keyed (keypadOf (sheet b) table))
+numbersOf (looking b table c) = lookedNumbers (looked (foundOf (sheet b) table c))
 
 -- the numbers of a kept node with these successors and these sets: unused successors are 255, unused sets 0, then C
 unfoldable pub keptNode : List ℕ → List ℕ → List ℕ
@@ -550,15 +571,69 @@ rowsOf02 =
     ∷ (verdict mustLoop stopped 1 false, 0 ∷ 12 ∷ [])
     ∷ []
 
+-- the rows of keypads
+unfoldable pub rowsOfKeypads : List (Case × List ℕ)
+rowsOfKeypads =
+    -- 02, K6: one rule that matches every code, with E 1; two that share the codes, with E 2: good
+    (keying mayLoop (0 ∷ 0 ∷ 0 ∷ []), 0 ∷ 31 ∷ 0 ∷ 0 ∷ 0 ∷ [])
+    ∷ (keying exampleReference (128 ∷ 0 ∷ 0 ∷ 128 ∷ 128 ∷ 1 ∷ []), 0 ∷ 31 ∷ 0 ∷ 0 ∷ 0 ∷ [])
+    -- 02, K6: the smallest code that no rule matches is a gap: 128, with one rule and with three
+    ∷ (keying exampleReference (128 ∷ 0 ∷ 0 ∷ []), 0 ∷ 32 ∷ 128 ∷ 0 ∷ 0 ∷ [])
+    ∷ (keying exampleReference (192 ∷ 0 ∷ 0 ∷ 192 ∷ 64 ∷ 1 ∷ 192 ∷ 192 ∷ 0 ∷ []), 0 ∷ 32 ∷ 128 ∷ 0 ∷ 0 ∷ [])
+    -- 02, K6: the smallest code that more than one rule matches is an overlap, with the two lowest rules that match it
+    ∷ (keying exampleReference (128 ∷ 0 ∷ 0 ∷ 0 ∷ 0 ∷ 1 ∷ []), 0 ∷ 33 ∷ 0 ∷ 0 ∷ 1 ∷ [])
+    ∷ (keying exampleReference (1 ∷ 0 ∷ 0 ∷ 1 ∷ 1 ∷ 1 ∷ 3 ∷ 2 ∷ 1 ∷ []), 0 ∷ 33 ∷ 2 ∷ 0 ∷ 2 ∷ [])
+    ∷ (keying exampleReference (255 ∷ 7 ∷ 0 ∷ 0 ∷ 0 ∷ 1 ∷ 15 ∷ 7 ∷ 0 ∷ 255 ∷ 7 ∷ 1 ∷ []), 0 ∷ 33 ∷ 7 ∷ 0 ∷ 1 ∷ [])
+    -- 02, K6: a gap and an overlap in one table: the smaller code is named
+    ∷ (keying exampleReference (128 ∷ 0 ∷ 0 ∷ 192 ∷ 0 ∷ 1 ∷ []), 0 ∷ 33 ∷ 0 ∷ 0 ∷ 1 ∷ [])
+    ∷ (keying exampleReference (128 ∷ 128 ∷ 0 ∷ 192 ∷ 192 ∷ 1 ∷ []), 0 ∷ 32 ∷ 0 ∷ 0 ∷ 0 ∷ [])
+    -- 02, K6: code 255 alone is bad: a gap, an overlap
+    ∷ (keying exampleReference (128 ∷ 0 ∷ 0 ∷ 192 ∷ 128 ∷ 1 ∷ 224 ∷ 192 ∷ 0 ∷ 240 ∷ 224 ∷ 1 ∷ 248 ∷ 240 ∷ 0 ∷ 252 ∷ 248 ∷ 1 ∷ 254 ∷ 252 ∷ 0 ∷ 255 ∷ 254 ∷ 1 ∷ []), 0 ∷ 32 ∷ 255 ∷ 0 ∷ 0 ∷ [])
+    ∷ (keying exampleReference (0 ∷ 0 ∷ 0 ∷ 255 ∷ 255 ∷ 1 ∷ []), 0 ∷ 33 ∷ 255 ∷ 0 ∷ 1 ∷ [])
+    -- 02, K6: 65 rules, none, and a part of one, after 64 too, are refused with 21
+    ∷ (keying exampleReference (rules 65), 21 ∷ 0 ∷ 0 ∷ 0 ∷ 0 ∷ [])
+    ∷ (keying exampleReference [], 21 ∷ 0 ∷ 0 ∷ 0 ∷ 0 ∷ [])
+    ∷ (keying exampleReference (0 ∷ []), 21 ∷ 0 ∷ 0 ∷ 0 ∷ 0 ∷ [])
+    ∷ (keying exampleReference (0 ∷ 0 ∷ []), 21 ∷ 0 ∷ 0 ∷ 0 ∷ 0 ∷ [])
+    ∷ (keying exampleReference (0 ∷ 0 ∷ 0 ∷ 0 ∷ []), 21 ∷ 0 ∷ 0 ∷ 0 ∷ 0 ∷ [])
+    ∷ (keying exampleReference (0 ∷ rules 64), 21 ∷ 0 ∷ 0 ∷ 0 ∷ 0 ∷ [])
+    -- 02, K6: a value with a bit outside its mask is refused with 22, an event that is not below E with 23, after 22 in any
+    -- rule; 21 comes before both
+    ∷ (keying exampleReference (128 ∷ 1 ∷ 0 ∷ []), 22 ∷ 0 ∷ 0 ∷ 0 ∷ 0 ∷ [])
+    ∷ (keying exampleReference (128 ∷ 128 ∷ 9 ∷ []), 23 ∷ 0 ∷ 0 ∷ 0 ∷ 0 ∷ [])
+    ∷ (keying exampleReference (0 ∷ 0 ∷ 2 ∷ []), 23 ∷ 0 ∷ 0 ∷ 0 ∷ 0 ∷ [])
+    ∷ (keying exampleReference (0 ∷ 0 ∷ 1 ∷ []), 0 ∷ 31 ∷ 0 ∷ 0 ∷ 0 ∷ [])
+    ∷ (keying exampleReference (0 ∷ 0 ∷ 9 ∷ 128 ∷ 1 ∷ 0 ∷ []), 22 ∷ 0 ∷ 0 ∷ 0 ∷ 0 ∷ [])
+    ∷ (keying exampleReference (0 ∷ 1 ∷ 9 ∷ 0 ∷ []), 21 ∷ 0 ∷ 0 ∷ 0 ∷ 0 ∷ [])
+    -- 02, K6: the sheet's own refusal comes first: that of a refused reading, all 0, is 3
+    ∷ (keying [] [], 3 ∷ 0 ∷ 0 ∷ 0 ∷ 0 ∷ [])
+    ∷ (looking [] (0 ∷ 0 ∷ 0 ∷ []) 0, 3 ∷ 0 ∷ 0 ∷ 0 ∷ 0 ∷ 0 ∷ [])
+    -- 02, K6: a good table turns a code into its event
+    ∷ (looking exampleReference (128 ∷ 0 ∷ 0 ∷ 128 ∷ 128 ∷ 1 ∷ []) 0, 0 ∷ 34 ∷ 0 ∷ 0 ∷ 0 ∷ 0 ∷ [])
+    ∷ (looking exampleReference (128 ∷ 0 ∷ 0 ∷ 128 ∷ 128 ∷ 1 ∷ []) 127, 0 ∷ 34 ∷ 0 ∷ 0 ∷ 0 ∷ 0 ∷ [])
+    ∷ (looking exampleReference (128 ∷ 0 ∷ 0 ∷ 128 ∷ 128 ∷ 1 ∷ []) 128, 0 ∷ 34 ∷ 1 ∷ 0 ∷ 0 ∷ 0 ∷ [])
+    ∷ (looking exampleReference (128 ∷ 0 ∷ 0 ∷ 128 ∷ 128 ∷ 1 ∷ []) 255, 0 ∷ 34 ∷ 1 ∷ 0 ∷ 0 ∷ 0 ∷ [])
+    -- 02, K6: a lookup in a bad one returns that same gap or overlap, whatever code is asked
+    ∷ (looking exampleReference (128 ∷ 0 ∷ 0 ∷ []) 200, 0 ∷ 32 ∷ 0 ∷ 128 ∷ 0 ∷ 0 ∷ [])
+    ∷ (looking exampleReference (128 ∷ 0 ∷ 0 ∷ []) 5, 0 ∷ 32 ∷ 0 ∷ 128 ∷ 0 ∷ 0 ∷ [])
+    ∷ (looking exampleReference (1 ∷ 0 ∷ 0 ∷ 1 ∷ 1 ∷ 1 ∷ 3 ∷ 2 ∷ 1 ∷ []) 2, 0 ∷ 33 ∷ 0 ∷ 2 ∷ 0 ∷ 2 ∷ [])
+    ∷ (looking exampleReference (1 ∷ 0 ∷ 0 ∷ 1 ∷ 1 ∷ 1 ∷ 3 ∷ 2 ∷ 1 ∷ []) 1, 0 ∷ 33 ∷ 0 ∷ 2 ∷ 0 ∷ 2 ∷ [])
+    ∷ (looking exampleReference (128 ∷ 1 ∷ 0 ∷ []) 5, 22 ∷ 0 ∷ 0 ∷ 0 ∷ 0 ∷ 0 ∷ [])
+    ∷ []
+
 -- the whole table
 unfoldable pub table : List (Case × List ℕ)
-table = rowsOf01 ++ rowsOf02
+table = rowsOf01 ++ (rowsOf02 ++ rowsOfKeypads)
 
 -- each of some rows answers the numbers beside it
 abbrev pub Hold : List (Case × List ℕ) → Type 0
 Hold rows = map (λ (c : Case × List ℕ). numbersOf (c .0)) rows ≡ map (λ (c : Case × List ℕ). c .1) rows
 
--- the two parts compute one after the other, which takes less memory than the whole
+-- rows that hold, and others that do, hold together
+holds-both : {rows others : List (Case × List ℕ)} → Hold rows → Hold others → Hold (rows ++ others)
+holds-both {rows} {others} p q = map-append _ rows others ∙ ap₂ _++_ p q ∙ sym (map-append _ rows others)
+
+-- the parts compute one after the other, which takes less memory than the whole
 rows-01 : Hold rowsOf01
 unfolding setBytes looping accepting deviceWith keptWith pairNumbers testCount suiteFault codedReference codedDevice rowNumbers listNumbers filled keptNode nodeNumbers kept unread nodeProbes listFault listedNumbers listedOf listAfter numbersOf rowsOf01 lists lent workAfter readNumbers numbers judgedNumbers recordNumbers answersOf comparedNumbers work trace sheet exampleReference exampleDevice onlyZero onlyOne mayLoop mustLoop stopped readSheet answer bytesFault headFault lengthField layoutFault nextAt startOf succOf setsOf rowAt rowOf sheetOf graphFault rangesOk countOk countsOk successorsOk rowSuccessorsOk successorOk setsOk rowSetsOk setOk ascends noneInside blank unusedOk blanksOk reachedOk sheetFault successor acceptance acceptances initials mayStop step bit has inside meets insert setOf walk nearer leads meetsIn distance later choice leastFrom leastTrace cleared code pairNext product onCodes pairDistance pairTrace pairCleared all any first count upTo hits isProbe gather select joined size probesOf probes missing orNext firstMissing firstMissed strays hasStray firstStray covers hasRefusal violates violating allEvents outside probesAt chosen flag flagOf offerOf newRun recordOk openFault openOf endedRun eventFault reportFault movedBy answerOf stepOf failsFrom verdictFault verdictOf nearest said judged pairCount nearestTrace clearedOf lastRow refusalNamed named comparisonOf compareFault outcomeOf traceAfter compared codesFault nodesAt codeOf codesOk codeNew codesBlank sharedFault codesAgree scriptsNumbers sum beginning countFrom countOf scriptsFault scriptsOf
 rows-01 = refl
@@ -567,7 +642,11 @@ rows-02 : Hold rowsOf02
 unfolding setBytes looping accepting deviceWith keptWith pairNumbers testCount suiteFault codedReference codedDevice rowNumbers listNumbers filled keptNode nodeNumbers kept unread nodeProbes listFault listedNumbers listedOf listAfter numbersOf rowsOf02 lists lent workAfter readNumbers numbers judgedNumbers recordNumbers answersOf comparedNumbers work trace sheet exampleReference exampleDevice onlyZero onlyOne mayLoop mustLoop stopped readSheet answer bytesFault headFault lengthField layoutFault nextAt startOf succOf setsOf rowAt rowOf sheetOf graphFault rangesOk countOk countsOk successorsOk rowSuccessorsOk successorOk setsOk rowSetsOk setOk ascends noneInside blank unusedOk blanksOk reachedOk sheetFault successor acceptance acceptances initials mayStop step bit has inside meets insert setOf walk nearer leads meetsIn distance later choice leastFrom leastTrace cleared code pairNext product onCodes pairDistance pairTrace pairCleared all any first count upTo hits isProbe gather select joined size probesOf probes missing orNext firstMissing firstMissed strays hasStray firstStray covers hasRefusal violates violating allEvents outside probesAt chosen flag flagOf offerOf newRun recordOk openFault openOf endedRun eventFault reportFault movedBy answerOf stepOf failsFrom verdictFault verdictOf nearest said judged pairCount nearestTrace clearedOf lastRow refusalNamed named comparisonOf compareFault outcomeOf traceAfter compared codesFault nodesAt codeOf codesOk codeNew codesBlank sharedFault codesAgree scriptsNumbers sum beginning countFrom countOf scriptsFault scriptsOf
 rows-02 = refl
 
+rows-keypads : Hold rowsOfKeypads
+unfolding numbersOf rowsOfKeypads sheet exampleReference mayLoop readSheet answer bytesFault headFault lengthField layoutFault nextAt startOf succOf setsOf rowAt rowOf sheetOf graphFault rangesOk countOk countsOk successorsOk rowSuccessorsOk successorOk setsOk rowSetsOk setOk ascends noneInside blank unusedOk blanksOk reachedOk sheetFault successor acceptance acceptances initials mayStop step bit has inside meets setOf nearer leads all any first count upTo joined codesFault nodesAt codeOf codesOk codeNew codesBlank keyedNumbers lookedNumbers rules keyed looked foundOf foundFrom keypadOf keypadFault tableFault sizeOk valuesOk eventsOk tableAnswer badAnswer badCode matchCount matchFrom matches
+rows-keypads = refl
+
 -- every row answers what 01 and 02 say
 pub cases-hold : Hold table
 unfolding table
-cases-hold = map-append _ rowsOf01 rowsOf02 ∙ ap₂ _++_ rows-01 rows-02 ∙ sym (map-append _ rowsOf01 rowsOf02)
+cases-hold = holds-both rows-01 (holds-both rows-02 rows-keypads)

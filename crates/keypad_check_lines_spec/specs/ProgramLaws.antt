@@ -203,14 +203,16 @@ module _ (input : List ℕ) (s : Sheet) (b : List ℕ) (w : WithTable input s b)
   says-21 = (λ e. keypad-21 s b .0 (says-refused 21 .0 e .1) .1, λ f. says-refused 21 .1 ((λ z. omega (arith, z)), keypad-21 s b .1 (w .sheet-accepted .1, f)))
 
   pub says-22 : (keypadText Nothing input ≡ afterSheet s (refusedText 22)) ↔ ((¬ SizeFault b) × ValueFault b)
-  says-22 =
-      (λ e. let x = keypad-22 s b .0 (says-refused 22 .0 e .1) in (x .0 .1, x .1),
-      λ f. says-refused 22 .1 ((λ z. omega (arith, z)), keypad-22 s b .1 ((w .sheet-accepted .1, f .0), f .1)))
+  says-22 = (
+    λ e. let x = keypad-22 s b .0 (says-refused 22 .0 e .1) in (x .0 .1, x .1),
+    λ f. says-refused 22 .1 ((λ z. omega (arith, z)), keypad-22 s b .1 ((w .sheet-accepted .1, f .0), f .1)),
+  )
 
   pub says-23 : (keypadText Nothing input ≡ afterSheet s (refusedText 23)) ↔ ((¬ SizeFault b) × (¬ ValueFault b) × EventFault (s .e) b)
-  says-23 =
-      (λ e. let x = keypad-23 s b .0 (says-refused 23 .0 e .1) in (x .0 .0 .1, x .0 .1, x .1),
-      λ f. says-refused 23 .1 ((λ z. omega (arith, z)), keypad-23 s b .1 (((w .sheet-accepted .1, f .0), f .1), f .2)))
+  says-23 = (
+    λ e. let x = keypad-23 s b .0 (says-refused 23 .0 e .1) in (x .0 .0 .1, x .0 .1, x .1),
+    λ f. says-refused 23 .1 ((λ z. omega (arith, z)), keypad-23 s b .1 (((w .sheet-accepted .1, f .0), f .1), f .2)),
+  )
 
   -- with a code, a table that is not good gets the same text as without
   pub says-same : (c : ℕ) → keypadOf s b ≢ Good → keypadText (Code c) input ≡ keypadText Nothing input
@@ -251,13 +253,16 @@ sheet-exactly input y = (to, λ x. ap (λ (a : ReadSheet). a .refusal) (sheet-is
 
     to : sheetRead input .refusal ≡ 0 → (s : Sheet) × (b : List ℕ) × WithTable input s b
     to h =
-        let x = accepted-exactly (firstSheet cut) (below-take 256 (firstEnd cut) cut (omega arith) (below-take 256 4096 input (omega arith) y)) .0 (sym (read-refusal (firstSheet cut)) ∙ h) in
-        (x .0, secondSheet cut ++ drop 4096 input, record {
-          sheet-accepted = (x .1, x .2);
-          sheet-bytes = firstSheet cut;
-          of-sheet = x .3;
-          bytes = sym (take-append-drop 4096 input) ∙ ap (λ (l : List ℕ). l ++ drop 4096 input) (sym (split-whole cut)) ∙ append-assoc (firstSheet cut) (secondSheet cut) (drop 4096 input);
-        })
+        let x = accepted-exactly (firstSheet cut) (below-take 256 (firstEnd cut) cut (omega arith) (below-take 256 4096 input (omega arith) y)) .0 (sym (read-refusal (firstSheet cut)) ∙ h) in (
+          x .0,
+          secondSheet cut ++ drop 4096 input,
+          record {
+            sheet-accepted = (x .1, x .2);
+            sheet-bytes = firstSheet cut;
+            of-sheet = x .3;
+            bytes = sym (take-append-drop 4096 input) ∙ ap (λ (l : List ℕ). l ++ drop 4096 input) (sym (split-whole cut)) ∙ append-assoc (firstSheet cut) (secondSheet cut) (drop 4096 input);
+          },
+        )
 
 -- every text without wrong use begins with an `s`
 text-begins : (input : List ℕ) (asked : AskedCode) → asked ≢ Wrong → getD (keypadText asked input) 0 0 ≡ 115
