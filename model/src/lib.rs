@@ -1,4 +1,4 @@
-//! A plain model of the dialogue bench: sheets, probes, tests, comparisons and scripts.
+//! A plain model of the dialogue bench: sheets, probes, tests, comparisons, scripts and keypads.
 //!
 //! Everything here follows the written definitions as directly as possible.
 //! Speed is given up wherever it would need a cleverer argument.
@@ -6,6 +6,7 @@
 pub mod comparison;
 pub mod examples;
 pub mod faults;
+pub mod keypad;
 pub mod numbers;
 pub mod planted;
 pub mod probes;

@@ -2,6 +2,7 @@
 //! of C.
 
 use crate::comparison::{compare_into, Named, Outcome};
+use crate::keypad::{self, Bad, Checked, Looked};
 use crate::probes::fill;
 use crate::scripts::{count, Counts};
 use crate::sheet::Sheet;
@@ -18,6 +19,14 @@ pub const REFINES: u8 = 21;
 pub const STRAY: u8 = 22;
 /// The number of a comparison that names a refusal.
 pub const REFUSAL: u8 = 23;
+/// The number of a rule table that is good.
+pub const GOOD: u8 = 31;
+/// The number of a rule table with a gap.
+pub const GAP: u8 = 32;
+/// The number of a rule table with an overlap.
+pub const OVERLAP: u8 = 33;
+/// The number of a lookup that gives an event.
+pub const EVENT: u8 = 34;
 
 /// The answer of a probe list: the refusal, 0 for none, and how many probes there are.
 #[repr(C)]
@@ -43,6 +52,30 @@ pub struct Scripts {
     pub walked: u64,
     pub device: u64,
     pub reference: u64,
+}
+
+/// The answer on a rule table: the refusal, 0 for none; which case it is, 0 for a refusal; the bad
+/// code and, of an overlap, two rules.
+#[repr(C)]
+#[derive(Clone, Copy, PartialEq, Eq, Debug)]
+pub struct Keypad {
+    pub refusal: u8,
+    pub kind: u8,
+    pub code: u8,
+    pub first: u8,
+    pub second: u8,
+}
+
+/// The answer to a lookup: as on a rule table, and the event.
+#[repr(C)]
+#[derive(Clone, Copy, PartialEq, Eq, Debug)]
+pub struct Found {
+    pub refusal: u8,
+    pub kind: u8,
+    pub event: u8,
+    pub code: u8,
+    pub first: u8,
+    pub second: u8,
 }
 
 /// An answer to an opening or a report: the refusal, 0 for none; which case it is, 0 for a
@@ -240,6 +273,77 @@ pub fn counted(answer: Result<Counts, u8>) -> Scripts {
     }
 }
 
+/// The numbers of what is wrong with a rule table.
+fn bad(bad: Bad) -> Keypad {
+    let (kind, code, first, second) = match bad {
+        Bad::Gap { code } => (GAP, code, 0, 0),
+        Bad::Overlap {
+            code,
+            first,
+            second,
+        } => (OVERLAP, code, first, second),
+    };
+    Keypad {
+        refusal: 0,
+        kind,
+        code,
+        first,
+        second,
+    }
+}
+
+/// The numbers of an answer on a rule table.
+pub fn checked(answer: Result<Checked, u8>) -> Keypad {
+    let zero = Keypad {
+        refusal: 0,
+        kind: 0,
+        code: 0,
+        first: 0,
+        second: 0,
+    };
+    match answer {
+        Ok(Checked::Good) => Keypad { kind: GOOD, ..zero },
+        Ok(Checked::Bad(what)) => bad(what),
+        Err(refusal) => Keypad { refusal, ..zero },
+    }
+}
+
+/// The numbers of an answer to a lookup.
+pub fn looked(answer: Result<Looked, u8>) -> Found {
+    let zero = Found {
+        refusal: 0,
+        kind: 0,
+        event: 0,
+        code: 0,
+        first: 0,
+        second: 0,
+    };
+    match answer {
+        Ok(Looked::Event(event)) => Found {
+            kind: EVENT,
+            event,
+            ..zero
+        },
+        Ok(Looked::Bad(what)) => {
+            let Keypad {
+                kind,
+                code,
+                first,
+                second,
+                ..
+            } = bad(what);
+            Found {
+                kind,
+                code,
+                first,
+                second,
+                ..zero
+            }
+        }
+        Err(refusal) => Found { refusal, ..zero },
+    }
+}
+
 /// The probe call in numbers.
 pub fn list_numbers(sheet: &Sheet, node: u8, lent: &mut [u16]) -> Listed {
     listed(fill(sheet, node, lent))
@@ -274,4 +378,14 @@ pub fn compare_numbers(
 /// The count of scripts in numbers.
 pub fn count_numbers(reference: &Sheet, device: &Sheet, length: u16) -> Scripts {
     counted(count(reference, device, length))
+}
+
+/// The check of a rule table in numbers.
+pub fn keypad_numbers(sheet: &Sheet, table: &[u8]) -> Keypad {
+    checked(keypad::check(sheet, table))
+}
+
+/// The lookup in numbers.
+pub fn find_numbers(sheet: &Sheet, table: &[u8], code: u8) -> Found {
+    looked(keypad::find(sheet, table, code))
 }

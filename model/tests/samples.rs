@@ -3,13 +3,13 @@
 use std::fs::{read, read_dir, read_to_string};
 use std::path::{Path, PathBuf};
 
-use model::text::script_counts::Call;
-use model::text::{compare, probe_list, script_counts, show, suite};
+use model::text::{compare, keypad_check, probe_list, script_counts, show, suite};
 
-/// The lengths for which a sheet has counts of scripts beside it, as its files name them.
-fn lengths(sheet: &Path) -> Vec<String> {
-    let stem = sheet.with_extension("scripts_").display().to_string();
-    let folder = files(sheet.parent().expect("a folder"), "");
+/// How the names of the texts beside a file go on after its own name and some letters: a length of
+/// scripts, or nothing or `_` and a code of a keypad.
+fn beside(file: &Path, letters: &str) -> Vec<String> {
+    let stem = file.with_extension(letters).display().to_string();
+    let folder = files(file.parent().expect("a folder"), "");
     let names = folder.iter().map(|file| file.display().to_string());
     names
         .filter_map(|name| name.strip_prefix(&stem).map(String::from))
@@ -25,6 +25,65 @@ fn files(folder: &Path, end: &str) -> Vec<PathBuf> {
     files
 }
 
+/// A text is what stands beside a file under another ending.
+fn held(file: &Path, end: &str, text: String) {
+    let beside = file.with_extension(end);
+    let expected = read_to_string(&beside).expect("a text");
+    assert_eq!(text, expected, "{}", beside.display());
+}
+
+/// The texts of a sheet: of it alone, and of it as a device of the reference. How many there are.
+fn sheet_texts(reference: &[u8], file: &Path) -> usize {
+    let bytes = read(file).expect("a sheet");
+    held(file, "show", show::output(&bytes));
+    held(file, "probes", probe_list::output(&bytes));
+    if bytes == reference {
+        return 2;
+    }
+    let input = [reference, &bytes[..]].concat();
+    held(file, "compare", compare::output(&input));
+    held(file, "suite", suite::output(&input));
+    let lengths = beside(file, "scripts_");
+    for length in &lengths {
+        let call = script_counts::Call {
+            input: input.clone(),
+            words: vec![length.clone()],
+        };
+        held(
+            file,
+            &format!("scripts_{length}"),
+            script_counts::output(&call),
+        );
+    }
+    4 + lengths.len()
+}
+
+/// The texts of a rule table on the reference: without a code in NAME.keypad, with the code N in
+/// NAME.keypad_N. How many there are; a table has one at least.
+fn table_texts(reference: &[u8], file: &Path) -> usize {
+    let bytes = read(file).expect("a table");
+    let ends = beside(file, "keypad");
+    assert!(!ends.is_empty(), "{} has no text", file.display());
+    for end in &ends {
+        let words = match end.strip_prefix('_') {
+            Some(code) => vec![code.to_string()],
+            None => Vec::new(),
+        };
+        let call = keypad_check::Call {
+            input: [reference, &bytes[..]].concat(),
+            words,
+        };
+        held(file, &format!("keypad{end}"), keypad_check::output(&call));
+    }
+    ends.len()
+}
+
+/// Whether a file is a text of a rule table.
+fn is_keypad(file: &Path) -> bool {
+    let end = file.extension().map(|end| end.to_string_lossy());
+    end.is_some_and(|end| end.starts_with("keypad"))
+}
+
 #[test]
 fn the_samples() {
     let samples = Path::new(env!("CARGO_MANIFEST_DIR")).join("../samples");
@@ -32,28 +91,18 @@ fn the_samples() {
     for folder in files(&samples, "") {
         let reference = read(folder.join("reference.sheet")).expect("a reference");
         for file in files(&folder, ".sheet") {
-            let bytes = read(&file).expect("a sheet");
-            let mut held = |end: &str, text: String| {
-                let beside = file.with_extension(end);
-                let expected = read_to_string(&beside).expect("a text");
-                assert_eq!(text, expected, "{}", beside.display());
-                texts += 1;
-            };
-            held("show", show::output(&bytes));
-            held("probes", probe_list::output(&bytes));
-            if bytes != reference {
-                let input = [&reference[..], &bytes[..]].concat();
-                held("compare", compare::output(&input));
-                held("suite", suite::output(&input));
-                for length in lengths(&file) {
-                    let call = Call {
-                        input: input.clone(),
-                        words: vec![length.clone()],
-                    };
-                    held(&format!("scripts_{length}"), script_counts::output(&call));
-                }
-            }
+            texts += sheet_texts(&reference, &file);
         }
+        let tables = files(&folder, ".table");
+        let held: usize = tables
+            .iter()
+            .map(|file| table_texts(&reference, file))
+            .sum();
+        let there = files(&folder, "")
+            .into_iter()
+            .filter(|file| is_keypad(file));
+        assert_eq!(held, there.count(), "a text without its table");
+        texts += held;
     }
     assert!(texts >= 75, "{texts}");
 }
@@ -92,4 +141,15 @@ test 3 passes
 tests 4 run 4 all pass
 ";
     assert_eq!(suite::output(&both), judged);
+    let halves = [&sheet[..], &[128, 0, 0, 128, 128, 1]].concat();
+    let looked = "sheet 2 nodes 2 events
+table 2 rules
+good
+code 200 event 1
+";
+    let call = keypad_check::Call {
+        input: halves,
+        words: vec!["200".to_string()],
+    };
+    assert_eq!(keypad_check::output(&call), looked);
 }

@@ -1,6 +1,7 @@
 //! The whole outputs of the programs.
 
 pub mod compare;
+pub mod keypad_check;
 pub mod live;
 pub mod probe_list;
 pub mod script_counts;
@@ -58,8 +59,13 @@ fn sheet_lines(
             let nodes = (0..sheet.n).map(|node| rest(&sheet, node));
             head_line("sheet", &sheet) + &codes(&sheet) + &nodes.collect::<String>()
         }
-        Err(number) => format!("sheet refused {number} {}\n", meaning(number)),
+        Err(number) => sheet_refused(number),
     }
+}
+
+/// The line of a refused sheet, with what the number means.
+fn sheet_refused(number: u8) -> String {
+    format!("sheet refused {number} {}\n", meaning(number))
 }
 
 /// A number of one to five digits up to 65,535.
