@@ -1,10 +1,11 @@
-//! A small deterministic generator, and random sheets, codes, bytes, lists, runs, scripts and
-//! pairs.
+//! A small deterministic generator, and random sheets, codes, bytes, lists, runs, scripts, pairs and
+//! rule tables.
 
 mod codes;
 mod damage;
 mod input;
 mod kept;
+mod keypads;
 mod lists;
 mod pairs;
 mod raw;
@@ -15,6 +16,10 @@ pub use codes::{random_codes, recoded, spelled};
 pub use damage::{damaged, damaged_twice, long_bytes, noise_bytes, AIMS_READ};
 pub use input::{live_call, program_input, sheet_input};
 pub use kept::{kept, kept_noise, kept_twice, AIMS_KEPT};
+pub use keypads::{
+    any_rules, asked_code, bad_rules, changed_rules, good_rules, keypad_call, refused_rules,
+    rule_count, rule_table, wrong_length,
+};
 pub use lists::{length_around, work_length};
 pub use pairs::{deep_pair, device_of, full_pair, pair, refusing_pair, small_pair};
 pub use raw::{
