@@ -1,18 +1,25 @@
 //! The variants in which faults are planted answer as the plain model does where no fault
 //! is planted, and each fault of a probe list, of a run, of a verdict, of all verdicts, of a
-//! comparison, of a count of scripts and of a text shows on some input. The random comparison with
-//! the library looks for the faults of every call.
+//! comparison, of a count of scripts, of a rule table and of a text shows on some input. The random
+//! comparison with the library looks for the faults of every call.
 
 use model::comparison::{compare_into, Outcome, MAX_WORDS};
 use model::examples::program_pair;
-use model::numbers::{count_numbers, judged, listed, step_numbers, Record, Suited};
+use model::keypad::{self, table_of};
+use model::numbers::{
+    count_numbers, find_numbers, judged, keypad_numbers, listed, step_numbers, Record, Suited,
+};
 use model::planted::comparisons::{compare_with, CompareFault};
+use model::planted::keypads::{
+    check_with, find_numbers_with, find_with, keypad_numbers_with, KeypadFault,
+};
 use model::planted::probes::{fill_with, ProbeFault};
 use model::planted::runs::{open_with, step_numbers_with, step_with, RunFault};
 use model::planted::scripts::{count_with, ScriptFault};
 use model::planted::suites::{suite_with, SuiteFault};
 use model::planted::text;
 use model::planted::text::compare::TextFault;
+use model::planted::text::keypad_check::KeypadTextFault;
 use model::planted::text::live::LiveFault;
 use model::planted::text::probe_list::ProbeTextFault;
 use model::planted::text::script_counts::ScriptTextFault;
@@ -23,7 +30,7 @@ use model::probes::{fill, list};
 use model::random::*;
 use model::sheet::{check, Sheet};
 use model::tests::{open, step, Report, Run};
-use model::text::{compare, live, probe_list, script_counts, show, suite};
+use model::text::{compare, keypad_check, live, probe_list, script_counts, show, suite};
 use model::verdict::{verdict, verdicts};
 
 #[test]
@@ -250,6 +257,61 @@ fn every_fault_of_a_count_of_scripts_shows() {
     assert_eq!(hidden, []);
 }
 
+/// A sheet, at times one that is refused, a table of each kind in turn and a code.
+fn asked_table(rng: &mut Rng, round: u64) -> (Sheet, Vec<u8>, u8) {
+    let sheet = match round % 7 {
+        0 => kept_twice(rng),
+        _ => random_sheet(rng),
+    };
+    let e = sheet.e.clamp(1, 12);
+    let table = match round % 5 {
+        0 => table_of(&refused_rules(rng, e, round / 5)),
+        1 => wrong_length(rng, e, round / 5),
+        2 => table_of(&bad_rules(rng, e, round / 5)),
+        _ => rule_table(rng, e),
+    };
+    let code = asked_code(rng, &table);
+    (sheet, table, code)
+}
+
+#[test]
+fn no_fault_in_keypads() {
+    let mut rng = Rng::new(127);
+    for round in 0..2_000 {
+        let (sheet, table, code) = asked_table(&mut rng, round);
+        let none = KeypadFault::None;
+        let plain = keypad::check(&sheet, &table);
+        assert_eq!(plain, check_with(none, &sheet, &table));
+        let plain = keypad_numbers(&sheet, &table);
+        assert_eq!(plain, keypad_numbers_with(none, &sheet, &table));
+        let plain = keypad::find(&sheet, &table, code);
+        assert_eq!(plain, find_with(none, &sheet, &table, code));
+        let plain = find_numbers(&sheet, &table, code);
+        assert_eq!(plain, find_numbers_with(none, &sheet, &table, code));
+    }
+}
+
+/// Each fault shows in a lookup; in a check too, if it can.
+#[test]
+fn every_fault_of_a_rule_table_shows() {
+    let mut rng = Rng::new(128);
+    let in_check = KeypadFault::ALL.iter().filter(|fault| fault.in_check());
+    let mut hidden: Vec<KeypadFault> = in_check.copied().collect();
+    let mut hidden_lookups = KeypadFault::ALL.to_vec();
+    for round in 0..3_000 {
+        let (sheet, table, code) = asked_table(&mut rng, round);
+        let played = |fault| keypad_numbers_with(fault, &sheet, &table);
+        let plain = played(KeypadFault::None);
+        hidden.retain(|&fault| played(fault) == plain);
+        let others = KeypadFault::ALL.iter().filter(|fault| !fault.in_check());
+        assert!(others.copied().all(|fault| played(fault) == plain));
+        let played = |fault| find_numbers_with(fault, &sheet, &table, code);
+        let plain = played(KeypadFault::None);
+        hidden_lookups.retain(|&fault| played(fault) == plain);
+    }
+    assert_eq!((hidden, hidden_lookups), (vec![], vec![]));
+}
+
 #[test]
 fn every_fault_of_a_verdict_shows() {
     let mut rng = Rng::new(94);
@@ -394,6 +456,20 @@ fn every_fault_of_the_text_of_scripts_shows() {
         let planted = text::script_counts::output_with(ScriptTextFault::None, &call);
         assert_eq!(plain, planted);
         hidden.retain(|&fault| text::script_counts::output_with(fault, &call) == plain);
+    }
+    assert_eq!(hidden, []);
+}
+
+#[test]
+fn every_fault_of_the_text_of_keypads_shows() {
+    let mut rng = Rng::new(129);
+    let mut hidden = KeypadTextFault::ALL.to_vec();
+    for round in 0..3_000 {
+        let call = keypad_call(&mut rng, round);
+        let plain = keypad_check::output(&call);
+        let planted = text::keypad_check::output_with(KeypadTextFault::None, &call);
+        assert_eq!(plain, planted);
+        hidden.retain(|&fault| text::keypad_check::output_with(fault, &call) == plain);
     }
     assert_eq!(hidden, []);
 }

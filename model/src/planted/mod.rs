@@ -1,8 +1,9 @@
-//! One-fault variants of the calls on probes, runs, verdicts, comparisons and scripts, and of
-//! the texts. With the fault `None` each of them answers as the plain model does.
+//! One-fault variants of the calls on probes, runs, verdicts, comparisons, scripts and keypads, and
+//! of the texts. With the fault `None` each of them answers as the plain model does.
 
 mod codes;
 pub mod comparisons;
+pub mod keypads;
 pub mod probes;
 pub mod runs;
 pub mod scripts;

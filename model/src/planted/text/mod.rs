@@ -1,6 +1,7 @@
 //! The texts of the programs with a fault planted.
 
 pub mod compare;
+pub mod keypad_check;
 pub mod live;
 pub mod probe_list;
 pub mod script_counts;
