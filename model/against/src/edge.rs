@@ -3,7 +3,9 @@
 use std::mem::{offset_of, size_of};
 
 use model::faults::ReadAnswer;
-use model::numbers::{Compared, Judged, Listed, Record, Said, Scripts, Stepped, Suited};
+use model::numbers::{
+    Compared, Found, Judged, Keypad, Listed, Record, Said, Scripts, Stepped, Suited,
+};
 use model::sheet::{Row, Sheet};
 
 /// What reading answers, in the layout of C.
@@ -37,6 +39,12 @@ const _: () = assert!(offset_of!(Compared, event) == 6 && offset_of!(Compared, p
 const _: () = assert!(offset_of!(Compared, acceptance) == 10);
 const _: () = assert!(size_of::<Scripts>() == 32 && offset_of!(Scripts, walked) == 8);
 const _: () = assert!(offset_of!(Scripts, device) == 16 && offset_of!(Scripts, reference) == 24);
+const _: () = assert!(size_of::<Keypad>() == 5 && offset_of!(Keypad, kind) == 1);
+const _: () = assert!(offset_of!(Keypad, code) == 2 && offset_of!(Keypad, first) == 3);
+const _: () = assert!(offset_of!(Keypad, second) == 4);
+const _: () = assert!(size_of::<Found>() == 6 && offset_of!(Found, kind) == 1);
+const _: () = assert!(offset_of!(Found, event) == 2 && offset_of!(Found, code) == 3);
+const _: () = assert!(offset_of!(Found, first) == 4 && offset_of!(Found, second) == 5);
 
 extern "C" {
     fn bench_read(bytes: *const u8, length: usize) -> ReadSheet;
@@ -63,6 +71,8 @@ extern "C" {
         places: usize,
     ) -> Compared;
     fn bench_count(reference: Sheet, device: Sheet, length: u16) -> Scripts;
+    fn bench_keypad(sheet: Sheet, table: *const u8, length: usize) -> Keypad;
+    fn bench_find(sheet: Sheet, table: *const u8, length: usize, code: u8) -> Found;
 }
 
 /// Reads a sheet: 0 and the kept sheet, or the refusal and zeros.
@@ -143,4 +153,16 @@ pub fn compare(
 pub fn count(reference: &Sheet, device: &Sheet, length: u16) -> Scripts {
     // Sound: everything is handed over by value.
     unsafe { bench_count(*reference, *device, length) }
+}
+
+/// Checks a rule table.
+pub fn keypad(sheet: &Sheet, table: &[u8]) -> Keypad {
+    // Sound: the slice is lent for the call, and the library is proved to read inside it.
+    unsafe { bench_keypad(*sheet, table.as_ptr(), table.len()) }
+}
+
+/// Looks a code up in a rule table.
+pub fn find(sheet: &Sheet, table: &[u8], code: u8) -> Found {
+    // Sound: the slice is lent for the call, and the library is proved to read inside it.
+    unsafe { bench_find(*sheet, table.as_ptr(), table.len(), code) }
 }

@@ -1,6 +1,7 @@
 //! The parts of the comparison, each with its inputs, its classes and its faults.
 
 mod comparisons;
+mod keypads;
 mod probes;
 mod runs;
 mod scripts;
@@ -18,7 +19,7 @@ use crate::findings::Findings;
 use crate::play::Part;
 
 /// Every part, in the order in which they are played.
-pub static ALL: [Part; 13] = [
+pub static ALL: [Part; 15] = [
     sheets::PART,
     probes::PART,
     runs::PART,
@@ -26,12 +27,14 @@ pub static ALL: [Part; 13] = [
     suites::PART,
     comparisons::PART,
     scripts::PART,
+    keypads::PART,
     texts::compare::PART,
     texts::suite::PART,
     texts::show::PART,
     texts::probe_list::PART,
     texts::live::PART,
     texts::script_counts::PART,
+    texts::keypad_check::PART,
 ];
 
 /// 01's mistakes that a good bench hand makes: the name under which each is planted, in every

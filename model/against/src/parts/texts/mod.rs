@@ -2,6 +2,7 @@
 //! pipe, some of them in pieces.
 
 pub mod compare;
+pub mod keypad_check;
 pub mod live;
 pub mod probe_list;
 pub mod script_counts;
@@ -57,17 +58,37 @@ fn target() -> PathBuf {
 
 /// What a program writes for some words and an input, which comes in two pieces if asked for.
 fn printed(program: &str, words: &[String], input: &[u8], pieces: bool) -> String {
-    match written(program, words, input, pieces) {
-        Ok(text) => text,
+    match written(program, words, input, pieces, Stdio::inherit()) {
+        Ok((text, _)) => text,
         Err(error) => format!("no output: {error}"),
     }
 }
 
-fn written(program: &str, words: &[String], input: &[u8], pieces: bool) -> std::io::Result<String> {
+/// The same, and what it says on standard error.
+fn printed_and_said(
+    program: &str,
+    words: &[String],
+    input: &[u8],
+    pieces: bool,
+) -> (String, String) {
+    match written(program, words, input, pieces, Stdio::piped()) {
+        Ok(both) => both,
+        Err(error) => (format!("no output: {error}"), String::new()),
+    }
+}
+
+fn written(
+    program: &str,
+    words: &[String],
+    input: &[u8],
+    pieces: bool,
+    errors: Stdio,
+) -> std::io::Result<(String, String)> {
     let mut child = Command::new(target().join("bin").join(program))
         .args(words)
         .stdin(Stdio::piped())
         .stdout(Stdio::piped())
+        .stderr(errors)
         .spawn()?;
     if let Some(mut pipe) = child.stdin.take() {
         let middle = if pieces { input.len() / 2 } else { 0 };
@@ -78,14 +99,17 @@ fn written(program: &str, words: &[String], input: &[u8], pieces: bool) -> std::
         // A program may stop reading before the end, so that the rest may fail.
         let _ = first.and_then(|()| pipe.write_all(&input[middle..]));
     }
-    let mut text = String::new();
+    let (mut text, mut said) = (String::new(), String::new());
     if let Some(mut pipe) = child.stdout.take() {
         pipe.read_to_string(&mut text)?;
     }
+    // What is said there is short, so that the program never waits for it to be read.
+    if let Some(mut pipe) = child.stderr.take() {
+        pipe.read_to_string(&mut said)?;
+    }
     let status = child.wait()?;
-    Ok(if status.success() {
-        text
-    } else {
-        format!("{text}{status}")
-    })
+    if !status.success() {
+        text += &status.to_string();
+    }
+    Ok((text, said))
 }
