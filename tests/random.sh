@@ -1,7 +1,9 @@
 #!/bin/sh
 # The model against the proved library, and against the programs, on random inputs.
 #
-#     tests/random.sh [SEED [COUNT [FIRST]]]
+#     tests/random.sh [PART] [SEED [COUNT [FIRST]]]
+#
+# With a PART only the parts whose names begin with it are played.
 set -eu
 cd "$(dirname "$0")/.."
 . tests/shared
