@@ -4,14 +4,15 @@
 use std::hint::black_box;
 
 use model::comparison::{MAX_WORDS, WORDS_A_PAIR};
-use model::numbers::{Record, REFUSAL, STRAY};
+use model::keypad::{MAX_RULES, RULE_BYTES};
+use model::numbers::{Record, EVENT, GOOD, OVERLAP, REFUSAL, STRAY};
 use model::scripts::MAX_SCRIPT;
 use model::sheet::{encode, Sheet, MAX_BYTES};
 use model::tests::MAX_TEST;
 
-use super::inputs::{crowded, dense, longest, refusing, spread};
+use super::inputs::{crowded, dense, fours, last_bad, longest, refusing, spread};
 use super::tables::Tables;
-use super::{pairs, runs, same, scripts, tables};
+use super::{keypads, pairs, runs, same, scripts, tables};
 use crate::edge;
 
 /// One side of a case: a call whose answer nobody needs.
@@ -55,6 +56,8 @@ pub fn worst() -> Vec<Case> {
     cases.push(naming());
     cases.push(counting("all there", spread(false)));
     cases.push(counting("a quarter missing", spread(true)));
+    cases.extend(rule_table("good", sheet, fours()));
+    cases.extend(rule_table("bad at 255", sheet, last_bad()));
     cases
 }
 
@@ -245,6 +248,37 @@ fn counting(case: &str, (reference, device): (Sheet, Sheet)) -> Case {
         ours: used(move || edge::count(black_box(&reference), &device, MAX_SCRIPT)),
         plain: used(move || scripts::count(black_box(&mine), &theirs, MAX_SCRIPT)),
     }
+}
+
+/// The check of a table of 64 rules on the largest sheet, and the lookup of code 255.
+fn rule_table(case: &str, sheet: Sheet, table: Vec<u8>) -> Vec<Case> {
+    let answer = same::keypad(&sheet, &table);
+    let found = same::find(&sheet, &table, 255);
+    assert_eq!(table.len(), RULE_BYTES * MAX_RULES);
+    match answer.kind {
+        GOOD => assert_eq!((found.kind, found.event), (EVENT, table[table.len() - 1])),
+        _ => assert_eq!(
+            (answer.kind, answer.code, answer.second),
+            (OVERLAP, 255, 63)
+        ),
+    }
+    let tables = Tables::of(&sheet);
+    let (again, copy, other, copied) =
+        (tables.clone(), table.clone(), table.clone(), table.clone());
+    vec![
+        Case {
+            call: "keypad",
+            case: format!("{MAX_RULES} rules, {case}"),
+            ours: used(move || edge::keypad(black_box(&sheet), black_box(&table))),
+            plain: used(move || keypads::keypad(black_box(&tables), black_box(&copy))),
+        },
+        Case {
+            call: "find",
+            case: format!("255 in {MAX_RULES} rules, {case}"),
+            ours: used(move || edge::find(black_box(&sheet), black_box(&other), 255)),
+            plain: used(move || keypads::find(black_box(&again), black_box(&copied), 255)),
+        },
+    ]
 }
 
 /// The growth over p q: for each of some sizes the pairs, the comparison and the verdict on

@@ -1,5 +1,6 @@
 //! The worst case of each call.
 
+use model::keypad::{table_of, Rule, MAX_RULES};
 use model::random::Rng;
 use model::sheet::{Sheet, MAX_EVENTS, MAX_NODES, MAX_SETS, NO_NODE};
 
@@ -117,4 +118,23 @@ pub fn longest(n: u8) -> (Sheet, Sheet) {
     let mine: Vec<_> = (0..n).map(mine).collect();
     let theirs: Vec<_> = (0..n).map(theirs).collect();
     (Sheet::build(2, &mine), Sheet::build(2, &theirs))
+}
+
+/// The rules of mask 252 and values 0, 4 and so on, which is a good table of 64 rules: every code is
+/// compared with all of them, and code 255 is found by the last.
+pub fn fours() -> Vec<u8> {
+    let rule = |i: usize| Rule {
+        mask: 252,
+        value: (4 * i) as u8,
+        event: (i % MAX_EVENTS) as u8,
+    };
+    let rules: Vec<Rule> = (0..MAX_RULES).map(rule).collect();
+    table_of(&rules)
+}
+
+/// The same with the first two rules as one, and a rule of code 255 alone at the end: the only bad
+/// code is the last, and it is so by the last two rules.
+pub fn last_bad() -> Vec<u8> {
+    let first = [248, 0, 0];
+    [&first, &fours()[6..], &[255, 255, 0]].concat()
 }

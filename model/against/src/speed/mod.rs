@@ -1,13 +1,15 @@
 //! The speed of the proved library beside plain Rust.
 //!
-//! `tables`, `runs`, `pairs` and `scripts` are the calls of the library as plain Rust over flat tables:
-//! the same inputs, every check and the same answers, written for speed, but without a
+//! `tables`, `runs`, `pairs`, `scripts` and `keypads` are the calls of the library as plain Rust over
+//! flat tables: the same inputs, every check and the same answers, written for speed, but without a
 //! cleverer method: each set of events is tried once, in the order of the probe list, each layer
-//! of a verdict is made from the one before it, a loop is left at the first hit. `inputs` has the
-//! worst case of each call, `same` holds both sides together, `timing` measures them.
+//! of a verdict is made from the one before it, a loop is left at the first hit, the rules of a
+//! keypad at the second. `inputs` has the worst case of each call, `same` holds both sides together,
+//! `timing` measures them.
 
 pub mod cases;
 pub mod inputs;
+pub mod keypads;
 pub mod pairs;
 pub mod runs;
 pub mod same;

@@ -2,15 +2,16 @@
 //! list must be equal. A difference ends the program.
 
 use model::comparison::WORDS_A_PAIR;
-use model::numbers::{Compared, Record, Scripts};
+use model::numbers::{Compared, Found, Keypad, Record, Scripts};
 use model::random::{
-    damaged, deep_pair, kept, kept_twice, mixed_sheet, pair, random_record, random_sheet, recoded,
-    refusing_pair, script_length, spelled, Rng, AIMS_KEPT, AIMS_READ,
+    asked_code, damaged, deep_pair, kept, kept_twice, mixed_sheet, pair, random_record,
+    random_sheet, recoded, refusing_pair, rule_table, script_length, spelled, Rng, AIMS_KEPT,
+    AIMS_READ,
 };
 use model::sheet::Sheet;
 
 use super::tables::Tables;
-use super::{pairs, runs, scripts, tables};
+use super::{keypads, pairs, runs, scripts, tables};
 use crate::edge;
 
 /// One reading.
@@ -98,6 +99,20 @@ pub fn count(reference: &Sheet, device: &Sheet, length: u16) -> Scripts {
     ours
 }
 
+/// One check of a rule table.
+pub fn keypad(sheet: &Sheet, table: &[u8]) -> Keypad {
+    let ours = edge::keypad(sheet, table);
+    assert_eq!(ours, keypads::keypad(&Tables::of(sheet), table));
+    ours
+}
+
+/// One lookup.
+pub fn find(sheet: &Sheet, table: &[u8], code: u8) -> Found {
+    let ours = edge::find(sheet, table, code);
+    assert_eq!(ours, keypads::find(&Tables::of(sheet), table, code));
+    ours
+}
+
 /// Some random inputs of every call, refused ones among them.
 pub fn random(rounds: usize) {
     let mut rng = Rng::new(1);
@@ -141,6 +156,9 @@ fn one_sheet(rng: &mut Rng, sheet: &Sheet) {
         ..record
     };
     step(sheet, &traces, 256);
+    let table = rule_table(rng, sheet.e.clamp(1, 12));
+    keypad(sheet, &table);
+    find(sheet, &table, asked_code(rng, &table));
 }
 
 /// The calls on two sheets.
