@@ -630,8 +630,8 @@ abbrev pub Hold : List (Case × List ℕ) → Type 0
 Hold rows = map (λ (c : Case × List ℕ). numbersOf (c .0)) rows ≡ map (λ (c : Case × List ℕ). c .1) rows
 
 -- rows that hold, and others that do, hold together
-holds-both : {rows others : List (Case × List ℕ)} → Hold rows → Hold others → Hold (rows ++ others)
-holds-both {rows} {others} p q = map-append _ rows others ∙ ap₂ _++_ p q ∙ sym (map-append _ rows others)
+holds-both : (rows others : List (Case × List ℕ)) → Hold rows → Hold others → Hold (rows ++ others)
+holds-both rows others p q = map-append _ rows others ∙ ap₂ _++_ p q ∙ sym (map-append _ rows others)
 
 -- the parts compute one after the other, which takes less memory than the whole
 rows-01 : Hold rowsOf01
@@ -649,4 +649,4 @@ rows-keypads = refl
 -- every row answers what 01 and 02 say
 pub cases-hold : Hold table
 unfolding table
-cases-hold = holds-both rows-01 (holds-both rows-02 rows-keypads)
+cases-hold = holds-both rowsOf01 (rowsOf02 ++ rowsOfKeypads) rows-01 (holds-both rowsOf02 rowsOfKeypads rows-02 rows-keypads)
