@@ -4,5 +4,6 @@ pub mod Numbers
 pub mod Meaning
 pub mod MatchLaws
 pub mod RefusalLaws
+pub mod RuleLaws
 pub mod TellLaws
 pub mod CallLaws

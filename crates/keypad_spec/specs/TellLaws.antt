@@ -44,7 +44,7 @@ module _ (b : List ℕ) (ok : ¬ ValueFault b) where
       let p = from-at b c 0 (w .0) in
       let q = from-at b c (lowest b c + 1) (w .1) in
       record {
-        is-code = l;
+        is-code = omega (arith, l);
         lower = omega (arith, q .0);
         is-rule = w .1;
         one = rule-matches b ok c (lowest b c) (w .0) .0 (p .1);
@@ -67,7 +67,7 @@ module _ (b : List ℕ) (ok : ¬ ValueFault b) where
       go (inr l) d = rw (told-good b l) (λ c k. bad-before b ok c (omega (arith, l, k)))
       go (inl l) (yes e) =
           rw (told-bad b l, told-gap b (badCode b) e)
-          (record { is-code = l; none = none-means b ok (badCode b) .0 e; smallest = bad-before b ok })
+          (record { is-code = omega (arith, l); none = none-means b ok (badCode b) .0 e; smallest = bad-before b ok })
       go (inl l) (no n) = rw (told-bad b l, told-overlap b (badCode b) n) (overlap-at l n)
 
 -- ---- nothing else is told
