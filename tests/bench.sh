@@ -5,7 +5,7 @@
 set -u
 cd "$(dirname "$0")/.." || exit 1
 . tests/shared
-for name in compare suite show probe_list live script_counts; do built "$name"; done
+for name in compare suite show probe_list live script_counts keypad_check; do built "$name"; done
 begins
 root=$PWD
 example=samples/example
@@ -71,6 +71,68 @@ ends_with 2 'scripts refused by a word' ./bench scripts $example/reference.sheet
 ends_with 2 'scripts, reference refused' ./bench scripts "$scratch/version" $example/device.sheet 3
 ends_with 2 'scripts, reference refused by its length' ./bench scripts "$scratch/empty" $example/device.sheet 3
 ends_with 2 'scripts, device refused' ./bench scripts $example/reference.sheet "$scratch/version" 3
+# a keypad's table on the example's reference, which has two events
+bytes 80 00 00 80 80 01 > "$scratch/good"
+bytes 80 00 00 > "$scratch/gap"
+bytes 80 00 00 00 00 01 > "$scratch/overlap"
+bytes 80 00 00 80 80 > "$scratch/part"
+bytes 80 01 00 > "$scratch/outside"
+bytes 80 80 09 > "$scratch/above"
+# keypad_says STATUS SHEET TABLE CODES LINE..: `keypad` on these files, with each of the codes in turn (`none`: with no
+# code), ends with this status, prints these lines and says nothing on standard error
+keypad_says() {
+    status=$1
+    sheet=$2
+    table=$3
+    asked=$4
+    shift 4
+    for code in $asked; do
+        word=$code
+        [ "$code" != none ] || word=
+        ends_with "$status" "keypad $sheet $table $word" ./bench keypad "$sheet" "$table" $word
+        [ ! -s "$scratch/said" ] || fails "keypad $sheet $table $word: standard error has a line"
+        held "keypad $sheet $table $word: its lines" "$@"
+    done
+}
+head='sheet 2 nodes 2 events'
+keypad_says 0 "$scratch/reference" "$scratch/good" none "$head" 'table 2 rules' good
+keypad_says 0 "$scratch/reference" "$scratch/good" '200 0200 00200' "$head" 'table 2 rules' good 'code 200 event 1'
+keypad_says 0 "$scratch/reference" "$scratch/good" '0 00000' "$head" 'table 2 rules' good 'code 0 event 0'
+keypad_says 1 "$scratch/reference" "$scratch/gap" 'none 5 128 200' "$head" 'table 1 rules' 'gap 128'
+keypad_says 1 "$scratch/reference" "$scratch/overlap" 'none 0 200' "$head" 'table 2 rules' 'overlap 0 by 0 and 1'
+keypad_says 2 "$scratch/reference" "$scratch/empty" 'none 5' "$head" 'table refused 21'
+keypad_says 2 "$scratch/reference" "$scratch/part" 'none 5' "$head" 'table refused 21'
+keypad_says 2 "$scratch/reference" "$scratch/outside" 'none 5' "$head" 'table refused 22'
+keypad_says 2 "$scratch/reference" "$scratch/above" 'none 5' "$head" 'table refused 23'
+# a file of which most is never read by the program, and nothing is said of that
+head -c 1000000 /dev/zero > "$scratch/large"
+keypad_says 2 "$scratch/reference" "$scratch/large" 'none 5' "$head" 'table refused 21'
+ends_with 2 'a large device' ./bench compare $example/reference.sheet "$scratch/large"
+[ ! -s "$scratch/said" ] || fails 'a large device: standard error has a line'
+held 'a large device' 'reference 2 nodes 2 events' 'device refused 1'
+keypad_says 2 "$scratch/version" "$scratch/good" 'none 5' 'sheet refused 2 version is neither 1 nor 2'
+keypad_says 2 "$scratch/version" "$scratch/empty" none 'sheet refused 2 version is neither 1 nor 2'
+# a sheet whose length is wrong is refused, also where its bytes and the table's could be split elsewhere: a cut sheet
+# that the table goes on with, and a sheet that is followed by a table of its own
+head -c 13 "$scratch/reference" > "$scratch/cut"
+{ tail -c +14 "$scratch/reference"; cat "$scratch/good"; } > "$scratch/goes_on"
+cat "$scratch/reference" "$scratch/gap" > "$scratch/followed"
+bytes 80 80 01 > "$scratch/other_half"
+wrong_length='sheet refused 1 too short or its length field is wrong'
+keypad_says 2 "$scratch/empty" "$scratch/good" 'none 5' "$wrong_length"
+keypad_says 2 "$scratch/empty" "$scratch/empty" none "$wrong_length"
+keypad_says 2 "$scratch/cut" "$scratch/good" 'none 5' "$wrong_length"
+keypad_says 2 "$scratch/cut" "$scratch/goes_on" 'none 5' "$wrong_length"
+keypad_says 2 "$scratch/followed" "$scratch/other_half" 'none 5' "$wrong_length"
+keypad_says 2 "$scratch/followed" "$scratch/empty" 'none 5' "$wrong_length"
+# a word that is no code: nothing is printed, whatever the files are
+for code in 256 65536 000005 -1 x '' ' 5' '1 2' none; do
+    for sheet in reference version cut; do
+        ends_with 2 "keypad, the code '$code', $sheet" ./bench keypad "$scratch/$sheet" "$scratch/good" "$code"
+        told "keypad, the code '$code', $sheet" 'keypad_check: it takes one code at most, a number of 0 to 255'
+        [ ! -s "$scratch/printed" ] || fails "keypad, the code '$code', $sheet: it printed a line"
+    done
+done
 for name in show probe_list; do
     ends_with 0 "$name, shown" ./bench "$name" $example/reference.sheet
     ends_with 2 "$name, refused" ./bench "$name" "$scratch/version"
@@ -125,6 +187,26 @@ wrong_words $example/reference.sheet $example/device.sheet
 wrong_words $example/reference.sheet $example/device.sheet 3 3
 ends_with 2 'scripts, no such file' ./bench scripts $example/reference.sheet "$scratch/nowhere" 3
 told 'scripts, no such file' "there is no file $scratch/nowhere"
+keypad_words() { # WORD..: keypad is not so called
+    ends_with 2 "keypad $*" ./bench keypad "$@"
+    told "keypad $*" 'keypad takes two files, and may end with a code, 0 to 255: ./bench keypad SHEET TABLE [CODE]'
+    [ ! -s "$scratch/printed" ] || fails "keypad $*: it printed a line"
+}
+keypad_words
+keypad_words "$scratch/reference"
+keypad_words "$scratch/reference" "$scratch/good" 5 5
+keypad_words "$scratch/reference" "$scratch/good" 5 ''
+# no_file NAME WORDS SHEET TABLE: one of the two is no file, and these words say which
+no_file() {
+    ends_with 2 "keypad, $1" ./bench keypad "$3" "$4"
+    told "keypad, $1" "$2"
+    [ ! -s "$scratch/printed" ] || fails "keypad, $1: it printed a line"
+}
+no_file 'no such sheet' "there is no file $scratch/nowhere" "$scratch/nowhere" "$scratch/good"
+no_file 'no such table' "there is no file $scratch/nowhere" "$scratch/reference" "$scratch/nowhere"
+no_file 'a folder for the sheet' "$scratch is not a file" "$scratch" "$scratch/good"
+no_file 'a folder for the table' "$scratch is not a file" "$scratch/reference" "$scratch"
+no_file 'an empty word for the table' 'there is no file ' "$scratch/reference" ''
 ends_with 0 'build, where all is built' ./bench build
 held 'build, where all is built' "built $(pwd -P)/target/bin"
 
@@ -184,15 +266,22 @@ told 'a reader that went away' 'the output could not be written'
 ends_with 2 'help to a full device' sh -c './bench help > /dev/full'
 # the programs themselves tell it too; their own status is always 0
 cat $example/reference.sheet $example/device.sheet > "$scratch/pair"
-for program in compare suite show probe_list script_counts; do
+cat "$scratch/reference" "$scratch/good" > "$scratch/keyed"
+for program in compare suite show probe_list script_counts keypad_check; do
     input=$scratch/pair
     word=
     case $program in
         show | probe_list) input=$example/reference.sheet ;;
         script_counts) word=3 ;;
+        keypad_check) input=$scratch/keyed ;;
     esac
     ends_with 0 "$program itself" sh -c "target/bin/$program $word < '$input' > /dev/full"
     told "$program itself" "$program: the output could not be written"
+done
+for code in '' 200; do
+    ends_with 2 "keypad $code to a full device" \
+        sh -c "./bench keypad '$scratch/reference' '$scratch/good' $code > /dev/full"
+    told "keypad $code to a full device" 'the output could not be written'
 done
 ends_with 2 'a live run to a full device' \
     sh -c './bench live "$1" 1 0 < "$2" > /dev/full' sh "$scratch/reference" "$scratch/passes"
@@ -227,6 +316,32 @@ for length in 3 00016 '' '1 2' '*'; do
         "$scratch/copy/bench" scripts $example/reference.sheet $example/device.sheet "$length"
     held "the length '$length'" "ends early 1 ($length)"
 done
+# a table of which nothing is told, and one that is good but whose event is missing
+stand_in keypad_check 'printf "sheet 2 nodes 2 events\ntable 2 rules\n"'
+ends_with 2 'a table without its last line' "$scratch/copy/bench" keypad "$scratch/reference" "$scratch/good"
+stand_in keypad_check 'printf "sheet 2 nodes 2 events\ntable 2 rules\ngood\n"'
+ends_with 0 'a good table' "$scratch/copy/bench" keypad "$scratch/reference" "$scratch/good"
+ends_with 2 'a good table without the event' "$scratch/copy/bench" keypad "$scratch/reference" "$scratch/good" 5
+stand_in keypad_check 'printf "table 2 rules\ngood\ncode 5 event 0"'
+ends_with 2 'an event that is not whole' "$scratch/copy/bench" keypad "$scratch/reference" "$scratch/good" 5
+stand_in keypad_check 'printf "table 2 rules\ngood\ncode 5 event 0\n"; exit 3'
+ends_with 2 'a lookup that ends badly' "$scratch/copy/bench" keypad "$scratch/reference" "$scratch/good" 5
+# the code is handed over as it was given, as one word, and no word without one
+stand_in keypad_check 'printf "%s\n" "gap $# ($*)"'
+for code in 3 00016 '' '1 2' '*'; do
+    ends_with 1 "the code '$code'" "$scratch/copy/bench" keypad "$scratch/reference" "$scratch/good" "$code"
+    held "the code '$code'" "gap 1 ($code)"
+done
+ends_with 1 'no code' "$scratch/copy/bench" keypad "$scratch/reference" "$scratch/good"
+held 'no code' 'gap 0 ()'
+# the bytes of both files are handed over, and none where the sheet's length is wrong
+stand_in keypad_check 'printf "gap %s\n" "$(od -An -v -tx1 | tr -d " \n")"'
+ends_with 1 'both files' "$scratch/copy/bench" keypad "$scratch/may_loop" "$scratch/good"
+held 'both files' 'gap 0000000701010100010000800000808001'
+ends_with 1 'an empty table' "$scratch/copy/bench" keypad "$scratch/may_loop" "$scratch/empty"
+held 'an empty table' 'gap 0000000701010100010000'
+ends_with 1 'a sheet whose length is wrong' "$scratch/copy/bench" keypad "$scratch/cut" "$scratch/good"
+held 'a sheet whose length is wrong' 'gap '
 stand_in show 'echo "sheet 1 nodes 1 events"; kill -KILL $$'
 ends_with 2 'a program that is killed' "$scratch/copy/bench" show $example/reference.sheet
 stand_in show ':'
@@ -420,6 +535,8 @@ for tool in sh cat dirname readlink rm mkdir find head ps awk sed grep mktemp to
 done
 ends_with 2 'a missing tool' env PATH="$scratch/few" ./bench compare $example/reference.sheet $example/device.sheet
 told 'a missing tool' 'the command od is missing'
+ends_with 2 'a missing tool, keypad' env PATH="$scratch/few" ./bench keypad "$scratch/reference" "$scratch/good"
+told 'a missing tool, keypad' 'the command od is missing'
 ends_with 2 'no toolchain' env PATH=/usr/bin:/bin "$scratch/copy/bench" show $example/reference.sheet
 told 'no toolchain' 'the Rattle toolchain (the command rt) is not on the PATH'
 cp target/bin/show "$scratch/copy/target/bin/"
