@@ -1,7 +1,7 @@
-/* The dialogue bench: sheets, probes, tests, comparisons and counts of scripts. The functions are those of the proved
- * library libedge.a, which `rt staticlib edge` writes below target/staticlib. It is for Linux on x86-64 and needs
- * nothing but the C library, of which it calls memcpy and memset alone: it takes no memory but the stack and what it is
- * lent.
+/* The dialogue bench: sheets, probes, tests, comparisons, counts of scripts and tables of keypads. The functions are
+ * those of the proved library libedge.a, which `rt staticlib edge` writes below target/staticlib. It is for Linux on
+ * x86-64 and needs nothing but the C library, of which it calls memcpy and memset alone: it takes no memory but the
+ * stack and what it is lent.
  *
  * An event is a number below E, a node a number below N. The catalogue code of an event says what the event is. A set
  * of events is a 16-bit number in which event i adds 2 to the power i. Every content of what is lent or handed over is
@@ -15,8 +15,9 @@
  *
  * The stack that a call needs, measured on worst cases and rounded up, in bytes, with the copies of the sheets that are
  * handed over: bench_check and bench_read 9,000; bench_list 19,000; bench_judge and bench_judge_all 22,000; bench_open
- * 23,000; bench_step and bench_report 24,000; bench_compare 36,000; bench_count 62,000. The compiled library has no
- * recursion, so no call needs more for larger sheets, longer traces or longer scripts.
+ * 23,000; bench_step and bench_report 24,000; bench_compare 36,000; bench_count 62,000; bench_keypad and bench_find
+ * (not yet measured). The compiled library has no recursion, so no call needs more for larger sheets, longer traces,
+ * longer scripts or longer tables.
  */
 #ifndef BENCH_H
 #define BENCH_H
@@ -80,7 +81,10 @@ enum {
     BENCH_BAD_EVENT = 15,    /* an event that is not below E */
     BENCH_ENDED = 16,        /* the run has ended */
     BENCH_NOT_OFFERED = 17,  /* an event that is not offered */
-    BENCH_LONG_SCRIPT = 20   /* a length of scripts above 16 */
+    BENCH_LONG_SCRIPT = 20,  /* a length of scripts above 16 */
+    BENCH_BAD_TABLE = 21,    /* a keypad's table of no rule, of more than 64, or that ends inside one */
+    BENCH_BAD_VALUE = 22,    /* a rule of the table has a value with a bit outside its mask */
+    BENCH_RULE_EVENT = 23    /* a rule of the table has an event that is not below E */
 };
 
 /* What is kept of one node: its successor on each event, 255 for none; its minimal acceptances, strictly ascending; how
@@ -144,8 +148,8 @@ struct bench_run {
 };
 
 /* The kind of an answer that is a refusal, whichever call gives it; `refusal` has the number. Every other kind
- * belongs to one sort of call: 1 to 10 to runs, 11 to 20 to verdicts, 21 to 30 to comparisons. Later calls take the
- * next tens. */
+ * belongs to one sort of call: 1 to 10 to runs, 11 to 20 to verdicts, 21 to 30 to comparisons, 31 to 40 to keypads.
+ * Later calls take the next tens. */
 enum { BENCH_DENIED = 0 };
 
 /* The kinds of an answer to an opening or a report. A trace-only run that is blocked at a depth below its k is
@@ -271,6 +275,54 @@ struct bench_scripts {
  * one script, without an event, which both walk. */
 struct bench_scripts bench_count(struct bench_sheet reference, struct bench_sheet device, uint16_t length);
 
+/* The most rules of a keypad's table, and their bytes. */
+enum { BENCH_RULES = 64, BENCH_TABLE_BYTES = 192 };
+
+/* The kinds of an answer on a keypad's table. A code is bad if no rule matches it, or more than one; the gap or overlap
+ * is that of the smallest bad code. */
+enum {
+    BENCH_GOOD = 31,    /* of bench_keypad: just one rule matches each code */
+    BENCH_GAP = 32,     /* no rule matches `code` */
+    BENCH_OVERLAP = 33, /* more than one rule matches `code`; the two lowest of these are `first` and `second` */
+    BENCH_FOUND = 34    /* of bench_find: the table is good, and `event` is that of the code that was asked for */
+};
+
+/* What a check of a keypad's table answers: the refusal, 0 for none; the kind; the smallest bad code; the two lowest
+ * rules that match it, the lower first, counted from 0. Parts that a kind has not are 0. The struct and the call have
+ * one name; so C++ too must name it with the word `struct`. */
+struct bench_keypad {
+    uint8_t refusal;
+    uint8_t kind;
+    uint8_t code;
+    uint8_t first;
+    uint8_t second;
+};
+
+/* Checks a keypad's table, which says for each code of 0 to 255 that the keypad may send which event of the sheet it
+ * is. A rule is three bytes: a mask, a value and an event; it matches a code if the bits of the code that are in the
+ * mask equal the value, (code & mask) == value. Handed over: a copy of the sheet. Lent: `length` bytes from `table` on,
+ * which may be any: the rules, back to back. Answered: BENCH_GOOD, or BENCH_GAP or BENCH_OVERLAP with the smallest bad
+ * code; or the refusal (the sheet's; 21; 22; 23, each looked for in the whole table). */
+struct bench_keypad bench_keypad(struct bench_sheet sheet, const uint8_t *table, size_t length);
+
+/* What a lookup answers: the refusal, 0 for none; the kind; the event of the code that was asked for; and, as above,
+ * the smallest bad code, which need not be the code that was asked for, and the two lowest rules that match it. Parts
+ * that a kind has not are 0. */
+struct bench_found {
+    uint8_t refusal;
+    uint8_t kind;
+    uint8_t event;
+    uint8_t code;
+    uint8_t first;
+    uint8_t second;
+};
+
+/* Turns a code into its event. Handed over: a copy of the sheet, and the code. Lent: a table, as to bench_keypad.
+ * Answered: BENCH_FOUND, if the table is good, with the event of the rule that matches the code; else the gap, the
+ * overlap or the refusal that bench_keypad answers, whatever the code is, also if just one rule matches it. Nothing is
+ * kept from an earlier check, so a lookup costs a check of the whole table. */
+struct bench_found bench_find(struct bench_sheet sheet, const uint8_t *table, size_t length, uint8_t code);
+
 /* The places of each struct, on which the library and its callers agree, held where the compiler can: from C11 and from
  * C++11 on. */
 #if defined(__cplusplus) && __cplusplus >= 201103L
@@ -299,6 +351,12 @@ BENCH_HOLDS(offsetof(struct bench_compared, event) == 6 && offsetof(struct bench
 BENCH_HOLDS(offsetof(struct bench_compared, acceptance) == 10);
 BENCH_HOLDS(sizeof(struct bench_scripts) == 32 && offsetof(struct bench_scripts, walked) == 8);
 BENCH_HOLDS(offsetof(struct bench_scripts, device) == 16 && offsetof(struct bench_scripts, reference) == 24);
+BENCH_HOLDS(sizeof(struct bench_keypad) == 5 && offsetof(struct bench_keypad, kind) == 1);
+BENCH_HOLDS(offsetof(struct bench_keypad, code) == 2 && offsetof(struct bench_keypad, first) == 3);
+BENCH_HOLDS(offsetof(struct bench_keypad, second) == 4);
+BENCH_HOLDS(sizeof(struct bench_found) == 6 && offsetof(struct bench_found, kind) == 1);
+BENCH_HOLDS(offsetof(struct bench_found, event) == 2 && offsetof(struct bench_found, code) == 3);
+BENCH_HOLDS(offsetof(struct bench_found, first) == 4 && offsetof(struct bench_found, second) == 5);
 #undef BENCH_HOLDS
 #endif
 
