@@ -1,7 +1,7 @@
 #!/bin/sh
-# Runs every program on every sample by way of the entry script, and holds what it prints to the file beside the sheet;
-# then the entry script's own words: help, a missing file, a wrong program, a reference whose length is wrong. The rest
-# of its work is in bench.sh.
+# Runs every program on every sample by way of the entry script, and holds what it prints to the file beside the sheet
+# or the table; then the entry script's own words: help, a missing file, a wrong program, a reference whose length is
+# wrong. The rest of its work is in bench.sh.
 set -u
 cd "$(dirname "$0")/.." || exit 1
 . tests/shared
@@ -25,6 +25,20 @@ for folder in samples/*/; do
             same "scripts $text" "$text"
         done
     done
+    # a keypad has tables in place of a live run: what is printed for one stands in NAME.keypad, and with the code N in
+    # NAME.keypad_N
+    if [ "$folder" = samples/keypad/ ]; then
+        for table in "$folder"*.table; do
+            name=${table%.table}
+            ./bench keypad "${folder}reference.sheet" "$table" > "$scratch/printed"
+            same "keypad $table" "$name.keypad"
+            for text in "$name".keypad_*; do
+                ./bench keypad "${folder}reference.sheet" "$table" "${text##*.keypad_}" > "$scratch/printed"
+                same "keypad $text" "$text"
+            done
+        done
+        continue
+    fi
     # shellcheck disable=SC2046
     ./bench live "${folder}reference.sheet" $(cat "${folder}live.words") < "${folder}live.reports" > "$scratch/printed"
     same "live in $folder" "${folder}live.out"
@@ -46,6 +60,7 @@ says() {
 
 reference_file=samples/tray/reference.sheet
 device_file=samples/tray/device.sheet
+table_file=samples/keypad/good.table
 head -c 50 "$reference_file" > "$scratch/cut"
 { cat "$reference_file"; printf x; } > "$scratch/long"
 : > "$scratch/empty"
@@ -58,6 +73,10 @@ says 2 'takes one file' ./bench probe_list
 says 2 'takes two files' ./bench compare "$reference_file"
 says 2 'takes two files and a length' ./bench scripts
 says 2 'takes two files and a length' ./bench scripts "$reference_file" "$device_file"
+says 0 './bench keypad SHEET TABLE [CODE]' ./bench help
+says 2 'takes two files, and may end with a code' ./bench keypad
+says 2 'takes two files, and may end with a code' ./bench keypad "$reference_file"
+says 2 'takes two files, and may end with a code' ./bench keypad "$reference_file" "$table_file" 5 5
 says 2 'takes a file and two numbers' ./bench live
 says 2 'takes a file and two numbers' ./bench live "$reference_file" 1
 # refused_meaning NUMBER MEANING HEX..: both programs refuse these bytes, with the number and its meaning
@@ -109,11 +128,14 @@ cp "$reference_file" "$scratch/-n"
 says 0 'sheet 6 nodes 8 events' sh -c 'cd "$1" && "$2/bench" show -n' sh "$scratch" "$PWD"
 says 0 'reference 6 nodes 8 events' sh -c 'cd "$1" && "$2/bench" compare -n -n' sh "$scratch" "$PWD"
 says 0 'ends early 134217236' sh -c 'cd "$1" && "$2/bench" scripts -n -n 9' sh "$scratch" "$PWD"
+says 2 'table refused 21' sh -c 'cd "$1" && "$2/bench" keypad -n -n' sh "$scratch" "$PWD"
 for wrong in cut long empty; do
     for program in compare suite; do
         says 2 'reference refused 1' ./bench "$program" "$scratch/$wrong" "$device_file"
         says 2 'device refused 1' ./bench "$program" "$reference_file" "$scratch/$wrong"
     done
+    says 2 'sheet refused 1 too short or its length field is wrong' ./bench keypad "$scratch/$wrong" "$table_file"
+    says 2 'sheet refused 1 too short or its length field is wrong' ./bench keypad "$scratch/$wrong" "$table_file" 5
     says 2 'reference refused 1' ./bench scripts "$scratch/$wrong" "$device_file" 17
     says 2 'device refused 1' ./bench scripts "$reference_file" "$scratch/$wrong" 17
 done
@@ -121,6 +143,9 @@ says 2 'scripts refused 20' ./bench scripts "$reference_file" "$device_file" 17
 says 2 'scripts refused 20' ./bench scripts "$reference_file" "$device_file" L
 says 2 'scripts refused 20' ./bench scripts "$reference_file" "$device_file" ''
 says 2 'scripts refused 20' ./bench scripts "$reference_file" "$device_file" '9 '
+says 2 'table refused 21' ./bench keypad "$reference_file" "$scratch/empty"
+says 2 'it takes one code at most, a number of 0 to 255' ./bench keypad "$reference_file" "$table_file" 256
+says 2 'it takes one code at most, a number of 0 to 255' ./bench keypad "$reference_file" "$table_file" ''
 says 2 'test refused 14' ./bench live "$reference_file" 1024 0
 says 2 'test refused 14' ./bench live "$reference_file" 0 h
 says 2 'test refused 14' ./bench live "$reference_file" 0 0 trace
