@@ -1,5 +1,5 @@
 -- One round of each loop over the rules, and how the answers are picked: one law for each way out.
-use mathlib.Core.Path.{_≡_, refl, sym, _∙_}
+use mathlib.Core.Path.{_≡_, refl, sym, ap, _∙_}
 use mathlib.Core.Logic.{_⊎_, inl, inr, _≢_}
 use mathlib.Core.Bool.{Bool, true, false, not, _&&_}
 use mathlib.Core.List.{List}
@@ -18,13 +18,16 @@ use Rattle.sheet_spec.specs.declared.Sheet.{Sheet}
 use Rattle.sheet_spec.specs.Refusals.{sheetFault}
 use Rattle.keypad_spec.specs.declared.Keypad.{Keypad}
 use Rattle.keypad_spec.specs.declared.Keypad.the-variants.{Good, Gap, Overlap, Denied}
+use Rattle.keypad_spec.specs.declared.Found.{Found}
 use Rattle.keypad_spec.specs.declared.Found.the-variants.{Event, Gap as GapFound, Overlap as OverlapFound, Denied as NotFound}
 use Rattle.keypad_spec.specs.Tables.{ruleCount, mask, value, eventOf, matches, matchCount, badCode, matchFrom, lowest, second, badAnswer, tableAnswer}
 use Rattle.keypad_spec.specs.Calls.{sizeOk, valuesOk, eventsOk, tableFault, keypadFault, keypadOf, foundFrom, foundOf}
+use Rattle.keypad_spec.specs.Numbers.{keyed, looked}
 use Rattle.keypad_spec.specs.MatchLaws.{no-lowest, has-lowest, no-second, has-second}
 use Rattle.keypad_spec.specs.RefusalLaws.{whole-rules, keypad-0}
 use Rattle.keypad_spec.specs.TellLaws.{told-good, told-bad, told-gap, told-overlap}
 use Rattle.keypad_spec.specs.CallLaws.{keypad-denied, keypad-given, find-gap, find-overlap, find-denied}
+use Rattle.keypad_spec.specs.NumberLaws.{keypad-refusal, found-refusal}
 
 -- ---- the refusals
 
@@ -208,3 +211,10 @@ module _ (s : Sheet) (b : List ℕ) (c : ℕ) where
 
   pub finds-denied : {m : ℕ} → Denied m ≡ keypadOf s b → NotFound m ≡ foundOf s b c
   finds-denied p = sym (find-denied s b c _ .1 (sym p))
+
+-- an answer that is the definition's tells the refusal of the call
+pub told : (s : Sheet) (b : List ℕ) {a : Keypad} → a ≡ keypadOf s b → (a ≡ keypadOf s b) × (keyed a .refusal ≡ keypadFault s b)
+told s b e = (e, ap (λ (x : Keypad). keyed x .refusal) e ∙ keypad-refusal s b)
+
+pub told-found : (s : Sheet) (b : List ℕ) (c : ℕ) {f : Found} → f ≡ foundOf s b c → (f ≡ foundOf s b c) × (looked f .refusal ≡ keypadFault s b)
+told-found s b c e = (e, ap (λ (x : Found). looked x .refusal) e ∙ found-refusal s b c)

@@ -5,7 +5,8 @@ ghost use mathlib.Core.Path.{_≡_};
 ghost use Prim.Native.Nat.{_≤_, _<_};
 ghost use lib.Dec.{eqb};
 ghost use Rattle.keypad_spec.specs.Tables.{ruleCount, eventOf, matchCount, badCode, matchFrom, lowest, badAnswer, tableAnswer};
-ghost use Rattle.keypad_spec.specs.Calls.{sizeOk, valuesOk, eventsOk, tableFault, keypadOf, foundOf};
+ghost use Rattle.keypad_spec.specs.Calls.{sizeOk, valuesOk, eventsOk, tableFault, keypadFault, keypadOf, foundOf};
+ghost use Rattle.keypad_spec.specs.Numbers.{keyed, looked};
 use keypad_spec::Found;
 use keypad_spec::Keypad;
 use sheet_spec::Sheet;
@@ -141,7 +142,8 @@ fn table_answer(table: &[u8]) -> Keypad
 // number of the refusal: the sheet's own; 21, no rule, over 64 or a part of one; 22, a value with a bit outside its
 // mask; 23, an event that is not below E.
 pub fn check(sheet: Sheet, table: &[u8]) -> Keypad
-    ensures { λ r. ⌜ r ≡ keypadOf sheet (now (table .entry)) ⌝ }
+    ensures { λ r. ⌜ (r ≡ keypadOf sheet (now (table .entry)))
+        × (keyed r .refusal ≡ keypadFault sheet (now (table .entry))) ⌝ }
 {
     let own = sheet::check(sheet);
     if own != 0 {
@@ -166,7 +168,8 @@ fn event_of(table: &[u8], code: u8) -> u8
 // The event that a good table turns the code into; or the gap, the overlap or the refusal that a check of the table
 // answers, whatever the code is.
 pub fn find(sheet: Sheet, table: &[u8], code: u8) -> Found
-    ensures { λ r. ⌜ r ≡ foundOf sheet (now (table .entry)) code ⌝ }
+    ensures { λ r. ⌜ (r ≡ foundOf sheet (now (table .entry)) code)
+        × (looked r .refusal ≡ keypadFault sheet (now (table .entry))) ⌝ }
 {
     let told = check(sheet, table);
     match told {

@@ -84,7 +84,7 @@ module _ (s : Sheet) (b : List ℕ) (c : ℕ) where
       u (lowest b c) r (rule-matches b ok c (lowest b c) r .0 (from-at b c 0 r .1))
 
   -- what a lookup answers, by what the check answers
-  found-from : {a : Keypad} → keypadOf s b ≡ a → foundOf s b c ≡ foundFrom a (eventOf b (lowest b c))
+  pub found-from : {a : Keypad} → keypadOf s b ≡ a → foundOf s b c ≡ foundFrom a (eventOf b (lowest b c))
   unfolding foundOf
   found-from e = rw e
 

@@ -7,3 +7,4 @@ pub mod RefusalLaws
 pub mod RuleLaws
 pub mod TellLaws
 pub mod CallLaws
+pub mod NumberLaws

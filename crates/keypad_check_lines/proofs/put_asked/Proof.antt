@@ -29,7 +29,7 @@ same-length c = omega arith
 
 returns-2 : tie.Need-returns-2
 unfolding askedLine
-returns-2 c = rw (c .before .before .before .before .before .before .asked .given .1, ← c .before .before .before .before .find .ensures) (c .before .before .put-found .ensures)
+returns-2 c = rw (c .before .before .before .before .before .before .asked .given .1, ← c .before .before .before .before .find .ensures .0) (c .before .before .put-found .ensures)
 
 returns-3 : tie.Need-returns-3
 unfolding askedLine

@@ -19,7 +19,7 @@ same-length c = omega arith
 
 returns : tie.Need-returns
 unfolding tableLines
-returns c = rw (← c .before .before .before .before .before .before .before .before .check .ensures) (adds-then (c .before .before .before .before .before .before .put-told .ensures) (c .before .before .put-asked .ensures))
+returns c = rw (← c .before .before .before .before .before .before .before .before .check .ensures .0) (adds-then (c .before .before .before .before .before .before .put-told .ensures) (c .before .before .put-asked .ensures))
 
 pub put-table-spec : {M : Type 1} → statement M
 put-table-spec =
