@@ -16,8 +16,8 @@
  * The stack that a call needs, measured on worst cases and rounded up, in bytes, with the copies of the sheets that are
  * handed over: bench_check and bench_read 9,000; bench_list 19,000; bench_judge and bench_judge_all 22,000; bench_open
  * 23,000; bench_step and bench_report 24,000; bench_compare 36,000; bench_count 62,000; bench_keypad and bench_find
- * (not yet measured). The compiled library has no recursion, so no call needs more for larger sheets, longer traces,
- * longer scripts or longer tables.
+ * 11,000. The compiled library has no recursion, so no call needs more for larger sheets, longer traces, longer scripts
+ * or longer tables.
  */
 #ifndef BENCH_H
 #define BENCH_H
