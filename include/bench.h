@@ -298,7 +298,7 @@ struct bench_keypad {
     uint8_t second;
 };
 
-/* Checks a keypad's table, which says for each code of 0 to 255 that the keypad may send which event of the sheet it
+/* Checks a keypad's table, which says, for each code of 0 to 255 that the keypad may send, which event of the sheet it
  * is. A rule is three bytes: a mask, a value and an event; it matches a code if the bits of the code that are in the
  * mask equal the value, (code & mask) == value. Handed over: a copy of the sheet. Lent: `length` bytes from `table` on,
  * which may be any: the rules, back to back. Answered: BENCH_GOOD, or BENCH_GAP or BENCH_OVERLAP with the smallest bad

@@ -136,3 +136,20 @@ pub fn bad_at(rules: &[Rule], code: u8) -> Option<Bad> {
 pub fn smallest_bad(rules: &[Rule]) -> Option<Bad> {
     (0..=u8::MAX).find_map(|code| bad_at(rules, code))
 }
+
+/// Whether two rules have no code in common: some bit that both look at differs.
+pub fn apart(one: &Rule, other: &Rule) -> bool {
+    (one.value ^ other.value) & one.mask & other.mask != 0
+}
+
+/// How many codes a rule has whose value is inside its mask.
+pub fn size(rule: &Rule) -> usize {
+    1 << (8 - rule.mask.count_ones())
+}
+
+/// Whether rules whose values are inside their masks make a good table, in a form that looks at no
+/// code: they are apart, and their sizes sum to 256.
+pub fn divides(rules: &[Rule]) -> bool {
+    let pairs = (0..rules.len()).all(|k| (0..k).all(|i| apart(&rules[i], &rules[k])));
+    pairs && rules.iter().map(size).sum::<usize>() == 256
+}

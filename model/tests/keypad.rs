@@ -1,11 +1,11 @@
-//! Rule tables of keypads: the cases of the plan, the edges, the order of refusals, and the answers
+//! Rule tables of keypads: some cases of 02, the edges, the order of refusals, and the answers
 //! held against the definitions written out literally and against another form of them, which looks
 //! at rules and never at codes one by one.
 
 use model::examples::{never_stops, program_pair, PROGRAM_INPUT};
 use model::keypad::{
-    bad_at, check, find, matching, rules_of, smallest_bad, table_of, Bad, Checked, Looked, Rule,
-    MAX_RULES,
+    apart, bad_at, check, divides, find, matching, rules_of, size, smallest_bad, table_of, Bad,
+    Checked, Looked, Rule, MAX_RULES,
 };
 use model::numbers::{find_numbers, keypad_numbers, Found, Keypad};
 use model::random::*;
@@ -60,7 +60,7 @@ fn fours(count: usize) -> Vec<[u8; 3]> {
 }
 
 #[test]
-fn the_cases_of_the_plan() {
+fn some_cases_of_02() {
     assert_eq!(told(&one(), &[[0, 0, 0]]), [0, 31, 0, 0, 0]);
     let two = two();
     assert_eq!(told(&two, &HALVES), [0, 31, 0, 0, 0]);
@@ -268,22 +268,6 @@ fn matches_are_those_of_the_bits() {
         }
     }
     assert_eq!(compared, 6_561 * 256);
-}
-
-/// Whether two rules have no code in common: some bit that both look at differs.
-fn apart(one: &Rule, other: &Rule) -> bool {
-    (one.value ^ other.value) & one.mask & other.mask != 0
-}
-
-/// How many codes a rule has.
-fn size(rule: &Rule) -> usize {
-    1 << (8 - rule.mask.count_ones())
-}
-
-/// The other form of a good table: its rules are apart, and their sizes sum to 256.
-fn divides(rules: &[Rule]) -> bool {
-    let pairs = (0..rules.len()).all(|k| (0..k).all(|i| apart(&rules[i], &rules[k])));
-    pairs && rules.iter().map(size).sum::<usize>() == 256
 }
 
 /// The other form of the smallest overlap: the least of the smallest common codes of two rules that

@@ -580,8 +580,10 @@ rowsOfKeypads =
     -- 02, K6: the smallest code that no rule matches is a gap: 128, with one rule and with three
     ∷ (keying exampleReference (128 ∷ 0 ∷ 0 ∷ []), 0 ∷ 32 ∷ 128 ∷ 0 ∷ 0 ∷ [])
     ∷ (keying exampleReference (192 ∷ 0 ∷ 0 ∷ 192 ∷ 64 ∷ 1 ∷ 192 ∷ 192 ∷ 0 ∷ []), 0 ∷ 32 ∷ 128 ∷ 0 ∷ 0 ∷ [])
-    -- 02, K6: the smallest code that more than one rule matches is an overlap, with the two lowest rules that match it
+    -- 02, K6: the smallest code that more than one rule matches is an overlap, with the two lowest rules that match it,
+    -- also where they have one event
     ∷ (keying exampleReference (128 ∷ 0 ∷ 0 ∷ 0 ∷ 0 ∷ 1 ∷ []), 0 ∷ 33 ∷ 0 ∷ 0 ∷ 1 ∷ [])
+    ∷ (keying exampleReference (0 ∷ 0 ∷ 0 ∷ 0 ∷ 0 ∷ 0 ∷ []), 0 ∷ 33 ∷ 0 ∷ 0 ∷ 1 ∷ [])
     ∷ (keying exampleReference (1 ∷ 0 ∷ 0 ∷ 1 ∷ 1 ∷ 1 ∷ 3 ∷ 2 ∷ 1 ∷ []), 0 ∷ 33 ∷ 2 ∷ 0 ∷ 2 ∷ [])
     ∷ (keying exampleReference (255 ∷ 7 ∷ 0 ∷ 0 ∷ 0 ∷ 1 ∷ 15 ∷ 7 ∷ 0 ∷ 255 ∷ 7 ∷ 1 ∷ []), 0 ∷ 33 ∷ 7 ∷ 0 ∷ 1 ∷ [])
     -- 02, K6: a gap and an overlap in one table: the smaller code is named
@@ -597,8 +599,8 @@ rowsOfKeypads =
     ∷ (keying exampleReference (0 ∷ 0 ∷ []), 21 ∷ 0 ∷ 0 ∷ 0 ∷ 0 ∷ [])
     ∷ (keying exampleReference (0 ∷ 0 ∷ 0 ∷ 0 ∷ []), 21 ∷ 0 ∷ 0 ∷ 0 ∷ 0 ∷ [])
     ∷ (keying exampleReference (0 ∷ rules 64), 21 ∷ 0 ∷ 0 ∷ 0 ∷ 0 ∷ [])
-    -- 02, K6: a value with a bit outside its mask is refused with 22, an event that is not below E with 23, after 22 in any
-    -- rule; 21 comes before both
+    -- 02, K6: a value with a bit outside its mask is refused with 22, an event that is not below E with 23, after 22 in
+    -- any rule; 21 comes before both
     ∷ (keying exampleReference (128 ∷ 1 ∷ 0 ∷ []), 22 ∷ 0 ∷ 0 ∷ 0 ∷ 0 ∷ [])
     ∷ (keying exampleReference (128 ∷ 128 ∷ 9 ∷ []), 23 ∷ 0 ∷ 0 ∷ 0 ∷ 0 ∷ [])
     ∷ (keying exampleReference (0 ∷ 0 ∷ 2 ∷ []), 23 ∷ 0 ∷ 0 ∷ 0 ∷ 0 ∷ [])

@@ -96,7 +96,7 @@ compared-keyed o k = apart 2 3 (omega arith) (compared-ten o) (keyed-ten k)
 pub compared-looked : (o : Outcome) (f : Found) → compared o .kind ≡ looked f .kind → compared o .kind ≡ 0
 compared-looked o f = apart 2 3 (omega arith) (compared-ten o) (looked-ten f)
 
--- ---- a check and a lookup have one kind if both are refused, both name a gap or both an overlap
+-- ---- a check and a lookup have one kind only if both are refused, both name a gap or both an overlap
 
 pub keyed-looked : (k : Keypad) (f : Found) → keyed k .kind ≡ looked f .kind
     → (keyed k .kind ≡ 0)

@@ -1,10 +1,11 @@
 // A keypad's table (02, K6): `check` says whether just one rule matches each code, `find` turns a code into its event.
-// Both take any sheet and any bytes, and answer the number of the refusal, or at a bad table its smallest bad code. A
+// Both take any sheet and any bytes, and answer the number of the refusal, or of a bad table its smallest bad code. A
 // code is looked at rule by rule, and left at the second rule that matches it.
 ghost use mathlib.Core.Path.{_≡_};
 ghost use Prim.Native.Nat.{_≤_, _<_};
 ghost use lib.Dec.{eqb};
-ghost use Rattle.keypad_spec.specs.Tables.{ruleCount, eventOf, matchCount, badCode, matchFrom, lowest, badAnswer, tableAnswer};
+ghost use Rattle.keypad_spec.specs.Tables.{ruleCount, eventOf, matchCount, badCode, matchFrom, lowest};
+ghost use Rattle.keypad_spec.specs.Tables.{badAnswer, tableAnswer};
 ghost use Rattle.keypad_spec.specs.Calls.{sizeOk, valuesOk, eventsOk, tableFault, keypadFault, keypadOf, foundOf};
 ghost use Rattle.keypad_spec.specs.Numbers.{keyed, looked};
 use keypad_spec::Found;
@@ -99,7 +100,7 @@ fn has_one(table: &[u8], code: u8) -> bool
     match_from(table, code, i + 1) >= rules
 }
 
-// The smallest bad code: one that not just one rule matches; 256 where there is none.
+// The smallest bad code: one that no rule matches, or more than one; 256 where there is none.
 fn bad_code(table: &[u8]) -> u16
     ensures { λ r. ⌜ r ≡ badCode (now (table .entry)) ⌝ }
 {
@@ -111,7 +112,8 @@ fn bad_code(table: &[u8]) -> u16
     256
 }
 
-// What is told of a bad code of at most 64 rules: a gap, or an overlap with the two lowest rules that match it.
+// What is told of a bad code of a table of at most 64 rules: a gap, or an overlap with the two lowest rules that match
+// it.
 fn bad_answer(table: &[u8], code: u8) -> Keypad
     requires { ⌜ ruleCount (now table) ≤ 64 ⌝ }
     ensures { λ r. ⌜ r ≡ badAnswer (now (table .entry)) code ⌝ }
@@ -156,7 +158,7 @@ pub fn check(sheet: Sheet, table: &[u8]) -> Keypad
     table_answer(table)
 }
 
-// The event of the rule that matches the code, of which there is one.
+// The event of the lowest rule that matches the code; some rule does.
 fn event_of(table: &[u8], code: u8) -> u8
     requires { ⌜ lowest (now table) code < ruleCount (now table) ⌝ }
     ensures { λ r. ⌜ r ≡ eventOf (now (table .entry)) (lowest (now (table .entry)) code) ⌝ }

@@ -2,8 +2,8 @@
 //   keypad_check [CODE]
 // It reads a sheet and a table, back to back, from standard input, at most 4,096 bytes, and prints the size of the
 // sheet, the size of the table and whether it is good: if it is not, its smallest bad code, with the gap or the
-// overlap. CODE is a number in base ten, 0 to 255; of a good table its event is printed too. A word that is no such
-// number, and more than one word, is wrong use: standard error says so, and nothing is printed.
+// overlap. CODE is a number in base ten of at most five digits, 0 to 255; of a good table its event is printed too. A
+// word that is no such number, and more than one word, is wrong use: standard error says so, and nothing is printed.
 use keypad_check_lines_spec::AskedCode;
 
 // How many words the program was started with, after its own name.

@@ -13,7 +13,7 @@ use Rattle.text_sheet_spec.specs.Head.{headLine}
 use Rattle.text_pair_spec.specs.Split.{firstSheet, secondSheet}
 use Rattle.keypad_check_lines_spec.specs.declared.AskedCode.{AskedCode}
 use Rattle.keypad_check_lines_spec.specs.declared.AskedCode.the-variants.{Nothing, Code, Wrong}
-use Rattle.keypad_check_lines_spec.specs.Program.{codeOf, askedOf, tableLines, readLines, inputLines}
+use Rattle.keypad_check_lines_spec.specs.Program.{wordCode, askedOf, tableLines, readLines, inputLines}
 
 -- ---- the words
 
@@ -28,11 +28,11 @@ module _ (count : ℕ) (word : List ℕ) where
 
   module _ (z : count ≡ 1) {n : ℕ} (e : n ≡ numberIn 5 255 word) where
     pub no-code : 255 < n → Wrong ≡ askedOf count word
-    unfolding askedOf codeOf
+    unfolding askedOf wordCode
     no-code l = rw (z, ← e, lt-leb n 255 l)
 
     pub one-code : n ≤ 255 → Code n ≡ askedOf count word
-    unfolding askedOf codeOf
+    unfolding askedOf wordCode
     one-code l = rw (z, ← e, le-leb n 255 l)
 
 -- ---- the lines of an input

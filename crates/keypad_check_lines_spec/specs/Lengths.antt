@@ -34,7 +34,7 @@ use Rattle.text_pair_spec.specs.Split.{firstSheet, secondSheet}
 use Rattle.keypad_check_lines_spec.specs.declared.AskedCode.{AskedCode}
 use Rattle.keypad_check_lines_spec.specs.declared.AskedCode.the-variants.{Nothing, Code, Wrong}
 use Rattle.keypad_check_lines_spec.specs.Lines.{rulesLine, overlapLine, toldLines}
-use Rattle.keypad_check_lines_spec.specs.Program.{codeOf, askedOf, tableLines, readLines, inputLines, keypadText}
+use Rattle.keypad_check_lines_spec.specs.Program.{wordCode, askedOf, tableLines, readLines, inputLines, keypadText}
 use Rattle.keypad_check_lines_spec.specs.Says.{eventText}
 use Rattle.keypad_check_lines_spec.specs.WordLaws.{asked-none, asked-code, asked-no-code, asked-more, code-means}
 use Rattle.keypad_check_lines_spec.specs.ProgramLaws.{plain-lines, code-plain, event-lines}
@@ -173,19 +173,19 @@ input-length asked h input = go (ℕ-discrete (a .refusal) 0)
 -- every text, whatever the words are, has at most 65 bytes
 pub text-length : (count : ℕ) (word input : List ℕ) → length (keypadText (askedOf count word) input) ≤ 65
 unfolding keypadText
-text-length count word input = go (lt-or-ge 1 count) (lt-or-ge 255 (codeOf word))
+text-length count word input = go (lt-or-ge 1 count) (lt-or-ge 255 (wordCode word))
   where
-    one : (count ≡ 0) ⊎ (count ≡ 1) → (255 < codeOf word) ⊎ (codeOf word ≤ 255) → length (keypadText (askedOf count word) input) ≤ 65
+    one : (count ≡ 0) ⊎ (count ≡ 1) → (255 < wordCode word) ⊎ (wordCode word ≤ 255) → length (keypadText (askedOf count word) input) ≤ 65
     one (inl z) k = rw (z, asked-none word) (input-length Nothing table-length (cutInput input))
     one (inr z) (inl k) = rw (z, asked-no-code word (λ w. omega (arith, k, code-means word .1 w))) (omega arith)
     one (inr z) (inr k) =
         let w = code-means word .0 k in
-        rw (z, asked-code word w) (input-length (Code (valueFrom 0 word)) (λ s b acc. code-length s b acc (valueFrom 0 word) (omega (arith, w .1))) (cutInput input))
+        rw (z, asked-code word (w .0) (w .1)) (input-length (Code (valueFrom 0 word)) (λ s b acc. code-length s b acc (valueFrom 0 word) (omega (arith, w .1))) (cutInput input))
 
     which : (n : ℕ) → n ≤ 1 → (n ≡ 0) ⊎ (n ≡ 1)
     which zero l = inl refl
     which (suc n) l = inr (omega arith)
 
-    go : (1 < count) ⊎ (count ≤ 1) → (255 < codeOf word) ⊎ (codeOf word ≤ 255) → length (keypadText (askedOf count word) input) ≤ 65
+    go : (1 < count) ⊎ (count ≤ 1) → (255 < wordCode word) ⊎ (wordCode word ≤ 255) → length (keypadText (askedOf count word) input) ≤ 65
     go (inl l) k = rw (asked-more word count l) (omega arith)
     go (inr l) k = one (which count l) k

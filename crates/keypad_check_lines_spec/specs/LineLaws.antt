@@ -80,7 +80,7 @@ no-letter n x y e =
 not-refused : (n m : ℕ) (x y : List ℕ) → ascii "table " ++ (decimal n ++ x) ≢ ascii "table refused " ++ (decimal m ++ y)
 not-refused n m x y e = no-letter n x _ (same-rest (ascii "table ") (decimal n ++ x) _ e)
 
--- after the same size, the same follows
+-- after the line of a size, the same follows
 after-size : (n n′ : ℕ) (x y : List ℕ) → ascii "table " ++ (decimal n ++ (ascii " rules\n" ++ x)) ≡ ascii "table " ++ (decimal n′ ++ (ascii " rules\n" ++ y)) → x ≡ y
 after-size n n′ x y e =
     same-rest (ascii "rules\n") x y (after-number 32 (omega arith) n n′ _ _ (same-rest (ascii "table ") (decimal n ++ (ascii " rules\n" ++ x)) _ e) .1)

@@ -18,12 +18,12 @@ use Rattle.keypad_check_lines_spec.specs.declared.AskedCode.the-variants
 use Rattle.keypad_check_lines_spec.specs.Lines.{toldLines, foundLine}
 
 -- the code that a word is: one to five digits, up to 255; every other word counts as 256, which is no code
-unfoldable pub codeOf : List ℕ → ℕ
-codeOf word = numberIn 5 255 word
+unfoldable pub wordCode : List ℕ → ℕ
+wordCode word = numberIn 5 255 word
 
 -- what the program is asked for, by how many words it is started with, and the word where there is one
 unfoldable pub askedOf : ℕ → List ℕ → AskedCode
-askedOf count word = cond (eqb count 0) Nothing (cond (eqb count 1 && leb (codeOf word) 255) (Code (codeOf word)) Wrong)
+askedOf count word = cond (eqb count 0) Nothing (cond (eqb count 1 && leb (wordCode word) 255) (Code (wordCode word)) Wrong)
 
 -- the line of the code that is asked for, if one is
 unfoldable pub askedLine : AskedCode → Sheet → List ℕ → List ℕ

@@ -16,7 +16,7 @@ use Rattle.base.specs.Truth.{lt-or-ge}
 use Rattle.sheet_spec.specs.declared.Sheet.{Sheet}
 use Rattle.sheet_spec.specs.declared.ReadSheet.{ReadSheet}
 use Rattle.sheet_spec.specs.Form.{Bytes}
-use Rattle.sheet_spec.specs.Refusals.{sheetFault}
+use Rattle.sheet_spec.specs.Refusals.{sheetFault, Own}
 use Rattle.sheet_spec.specs.Reading.{readSheet, accepted}
 use Rattle.sheet_spec.specs.AnswerLaws.{read-refusal}
 use Rattle.sheet_spec.specs.Octets.{below-take}
@@ -29,7 +29,7 @@ use Rattle.keypad_spec.specs.Tables.{ruleCount, eventOf}
 use Rattle.keypad_spec.specs.Calls.{keypadFault, keypadOf, foundOf}
 use Rattle.keypad_spec.specs.Numbers.{looked}
 use Rattle.keypad_spec.specs.Meaning.{Matches, GoodTable, GapAt, OverlapAt, SizeFault, ValueFault, EventFault}
-use Rattle.keypad_spec.specs.RefusalLaws.{keypad-21, keypad-22, keypad-23}
+use Rattle.keypad_spec.specs.RefusalLaws.{keypad-sheet, keypad-21, keypad-22, keypad-23, keypad-numbers}
 use Rattle.keypad_spec.specs.CallLaws.{keypad-denied, check-good, check-gap, check-overlap, check-denied, find-event, find-some, find-gap, find-overlap, find-denied}
 use Rattle.text_spec.specs.Lines.{ascii, decimal, numberLine, sheetLine}
 use Rattle.text_spec.specs.Input.{cutInput}
@@ -93,7 +93,7 @@ long-same Wrong s b d h l k = rw (long-table s b h l, long-table s d h k)
 -- ---- the sheet and the table of an input
 
 -- the sheet of an input, as it is read
-abbrev pub sheetRead : List ℕ → ReadSheet
+abbrev sheetRead : List ℕ → ReadSheet
 sheetRead input = readSheet (firstSheet (cutInput input))
 
 -- 1 for wrong use, to tell the cases apart
@@ -122,7 +122,8 @@ module _ (input : List ℕ) where
   text-lines Wrong n = absurd (n refl)
 
   -- a refused sheet: its refusal with its meaning alone, whatever follows it
-  pub says-sheet : (asked : AskedCode) → asked ≢ Wrong → sheetRead input .refusal ≢ 0 → keypadText asked input ≡ refusedSheetLine (sheetRead input .refusal)
+  pub says-sheet : (asked : AskedCode) → asked ≢ Wrong → readSheet (firstSheet (cutInput input)) .refusal ≢ 0
+      → keypadText asked input ≡ refusedSheetLine (readSheet (firstSheet (cutInput input)) .refusal)
   unfolding inputLines readLines
   says-sheet asked n k =
       text-lines asked n ∙ rw (ne-eqb (sheetRead input .refusal) 0 k) (append-nil (headLine (sheetRead input)) ∙ head-refused (sheetRead input) k)
@@ -148,7 +149,7 @@ module _ (input : List ℕ) (s : Sheet) (b : List ℕ) (w : WithTable input s b)
   parts : (firstSheet (cutInput input) ≡ w .sheet-bytes) × (secondSheet (cutInput input) ≡ counted)
   parts = let x = split-accepted (w .sheet-bytes) counted (reads→ (w .sheet-bytes) s spelled .0) in (rw cut-parts (x .0), rw cut-parts (x .1))
 
-  pub sheet-is : sheetRead input ≡ accepted s
+  sheet-is : sheetRead input ≡ accepted s
   sheet-is = rw (parts .0) spelled
 
   -- bytes that are cut off play no part: such a table is refused with 21, cut or not
@@ -198,7 +199,7 @@ module _ (input : List ℕ) (s : Sheet) (b : List ℕ) (w : WithTable input s b)
   pub says-refused : (m : ℕ) → (keypadText Nothing input ≡ afterSheet s (refusedText m)) ↔ ((m ≢ 0) × (keypadFault s b ≡ m))
   says-refused m = rw (← denied-parts (ruleCount b) [] m) (Iff·trans (plain-exactly (Denied m)) (check-denied s b m))
 
-  -- no other table is refused than with 21, 22 or 23, each exactly for its fault
+  -- 21, 22 and 23, each exactly for its fault, in this order
   pub says-21 : (keypadText Nothing input ≡ afterSheet s (refusedText 21)) ↔ SizeFault b
   says-21 = (λ e. keypad-21 s b .0 (says-refused 21 .0 e .1) .1, λ f. says-refused 21 .1 ((λ z. omega (arith, z)), keypad-21 s b .1 (w .sheet-accepted .1, f)))
 
@@ -244,7 +245,7 @@ module _ (input : List ℕ) (s : Sheet) (b : List ℕ) (w : WithTable input s b)
 -- ---- every input
 
 -- the sheet is accepted exactly if the input begins with the bytes of one; the rest is the table
-pub sheet-exactly : (input : List ℕ) → Bytes input → (sheetRead input .refusal ≡ 0) ↔ ((s : Sheet) × (b : List ℕ) × WithTable input s b)
+pub sheet-exactly : (input : List ℕ) → Bytes input → (readSheet (firstSheet (cutInput input)) .refusal ≡ 0) ↔ ((s : Sheet) × (b : List ℕ) × WithTable input s b)
 unfolding cutInput firstSheet
 sheet-exactly input y = (to, λ x. ap (λ (a : ReadSheet). a .refusal) (sheet-is input (x .0) (x .1) (x .2)))
   where
@@ -263,6 +264,18 @@ sheet-exactly input y = (to, λ x. ap (λ (a : ReadSheet). a .refusal) (sheet-is
             bytes = sym (take-append-drop 4096 input) ∙ ap (λ (l : List ℕ). l ++ drop 4096 input) (sym (split-whole cut)) ∙ append-assoc (firstSheet cut) (secondSheet cut) (drop 4096 input);
           },
         )
+
+-- `table refused m` names no other number than 21, 22 and 23
+pub says-only-21-to-23 : (input : List ℕ) (s : Sheet) (b : List ℕ) → WithTable input s b → (m : ℕ)
+    → keypadText Nothing input ≡ afterSheet s (refusedText m) → (m ≡ 21) ⊎ ((m ≡ 22) ⊎ (m ≡ 23))
+says-only-21-to-23 input s b w m t =
+    let x = says-refused input s b w m .0 t in rw (← x .1) (go (keypad-numbers s b) (λ e. x .0 (sym (x .1) ∙ e)))
+  where
+    go : (keypadFault s b ≡ 0) ⊎ (Own (keypadFault s b) ⊎ ((keypadFault s b ≡ 21) ⊎ ((keypadFault s b ≡ 22) ⊎ (keypadFault s b ≡ 23))))
+        → keypadFault s b ≢ 0 → (keypadFault s b ≡ 21) ⊎ ((keypadFault s b ≡ 22) ⊎ (keypadFault s b ≡ 23))
+    go (inl e) n = absurd (n e)
+    go (inr (inl o)) n = absurd (let z = keypad-sheet s b (keypadFault s b) o .0 refl in n (sym z ∙ w .sheet-accepted .1))
+    go (inr (inr f)) n = f
 
 -- every text without wrong use begins with an `s`
 text-begins : (input : List ℕ) (asked : AskedCode) → asked ≢ Wrong → getD (keypadText asked input) 0 0 ≡ 115

@@ -24,7 +24,7 @@ pub record WithTable (input : List ℕ) (s : Sheet) (b : List ℕ) : Type 0 wher
 abbrev pub afterSheet : Sheet → List ℕ → List ℕ
 afterSheet s lines = sheetLine (ascii "sheet ") (s .n) (s .e) ++ lines
 
--- the lines of a good table of n rules
+-- the lines of a good table of n rules, and then others
 abbrev pub goodText : ℕ → List ℕ → List ℕ
 goodText n more = ascii "table " ++ (decimal n ++ (ascii " rules\ngood\n" ++ more))
 

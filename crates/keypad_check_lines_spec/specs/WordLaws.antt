@@ -13,36 +13,36 @@ use Rattle.words_spec.specs.Numbers.{Digits}
 use Rattle.words_spec.specs.NumberLaws.{number-is, number-from, number-decimal}
 use Rattle.keypad_check_lines_spec.specs.declared.AskedCode.{AskedCode}
 use Rattle.keypad_check_lines_spec.specs.declared.AskedCode.the-variants.{Nothing, Code, Wrong}
-use Rattle.keypad_check_lines_spec.specs.Program.{codeOf, askedOf}
+use Rattle.keypad_check_lines_spec.specs.Program.{wordCode, askedOf}
 use Rattle.keypad_check_lines_spec.specs.Says.{IsCode}
 
 module _ (word : List ℕ) where
   -- a word is a code exactly if its number is at most 255, and then it is the number that it writes
-  pub code-is : IsCode word → codeOf word ≡ valueFrom 0 word
-  unfolding codeOf
+  pub code-is : IsCode word → wordCode word ≡ valueFrom 0 word
+  unfolding wordCode
   code-is w = number-is 5 word 255 (w .0) (w .1)
 
-  pub code-means : (codeOf word ≤ 255) ↔ IsCode word
-  unfolding codeOf
+  pub code-means : (wordCode word ≤ 255) ↔ IsCode word
+  unfolding wordCode
   code-means = (λ l. let w = number-from 5 word 255 l in (w .0, omega (arith, l, w .1)), λ w. omega (arith, code-is w, w .1))
 
-  -- no word asks for nothing
+  -- without a word nothing is asked for
   pub asked-none : askedOf 0 word ≡ Nothing
   unfolding askedOf
   asked-none = refl
 
   -- one word that is a code asks for it
-  pub asked-code : IsCode word → askedOf 1 word ≡ Code (valueFrom 0 word)
+  pub asked-code : Digits 5 word → valueFrom 0 word ≤ 255 → askedOf 1 word ≡ Code (valueFrom 0 word)
   unfolding askedOf
-  asked-code w = rw (le-leb (codeOf word) 255 (code-means .1 w), code-is w)
+  asked-code d l = let w : IsCode word = (d, l) in rw (le-leb (wordCode word) 255 (code-means .1 w), code-is w)
 
   -- one word that is none is wrong use
   pub asked-no-code : ¬ IsCode word → askedOf 1 word ≡ Wrong
   unfolding askedOf
-  asked-no-code n = go (lt-or-ge 255 (codeOf word))
+  asked-no-code n = go (lt-or-ge 255 (wordCode word))
     where
-      go : (255 < codeOf word) ⊎ (codeOf word ≤ 255) → askedOf 1 word ≡ Wrong
-      go (inl l) = rw (lt-leb (codeOf word) 255 l)
+      go : (255 < wordCode word) ⊎ (wordCode word ≤ 255) → askedOf 1 word ≡ Wrong
+      go (inl l) = rw (lt-leb (wordCode word) 255 l)
       go (inr l) = absurd (n (code-means .0 l))
 
   -- more than one is wrong use, whatever the first is
@@ -52,5 +52,5 @@ module _ (word : List ℕ) where
 
 -- a code in base ten is the word of that code
 pub asked-decimal : (c : ℕ) → c ≤ 255 → askedOf 1 (decimal c) ≡ Code c
-unfolding askedOf codeOf
+unfolding askedOf wordCode
 asked-decimal c l = let e = number-decimal 4 255 c (omega arith) l in rw (e, le-leb c 255 l)

@@ -4,6 +4,7 @@
 use mathlib.Core.Path.{_≡_, refl, sym, ap, _∙_}
 use mathlib.Core.Logic.{_⊎_, inl, inr, _≢_, _↔_}
 use mathlib.Core.List.{List}
+use mathlib.Core.Bool.{true}
 use Prim.Native.Nat.{ℕ, _≤_, _<_}
 use native.Mathlib.Omega.{arith}
 use native.Mathlib.Decide.{ℕ-discrete}
@@ -15,18 +16,18 @@ use Rattle.keypad_spec.specs.declared.Keypad.{Keypad}
 use Rattle.keypad_spec.specs.declared.Keypad.the-variants.{Good, Gap, Overlap, Denied}
 use Rattle.keypad_spec.specs.declared.Found.{Found}
 use Rattle.keypad_spec.specs.declared.Found.the-variants.{Event, Gap as GapFound, Overlap as OverlapFound, Denied as NotFound}
-use Rattle.keypad_spec.specs.Tables.{ruleCount, eventOf, matches, lowest, tableAnswer}
+use Rattle.keypad_spec.specs.Tables.{ruleCount, eventOf, matches, matchCount, lowest, tableAnswer}
 use Rattle.keypad_spec.specs.Calls.{keypadFault, keypadOf, foundFrom, foundOf}
 use Rattle.keypad_spec.specs.Numbers.{keyed, looked}
 use Rattle.keypad_spec.specs.Meaning.{Matches, JustOne, GoodTable, GapAt, OverlapAt, Tells, ValueFault, EventFault}
-use Rattle.keypad_spec.specs.MatchLaws.{rule-matches, from-at, from-le}
+use Rattle.keypad_spec.specs.MatchLaws.{rule-matches, one-means, none-means, from-at, from-le}
 use Rattle.keypad_spec.specs.RefusalLaws.{keypad-0}
 use Rattle.keypad_spec.specs.TellLaws.{table-tells, tells-only}
 
 -- ---- a check
 
 module _ (s : Sheet) (b : List ℕ) where
-  -- a refused check answers its number, another what is told of the table
+  -- a refused check answers its number, every other what is told of the table
   pub keypad-denied : keypadFault s b ≢ 0 → keypadOf s b ≡ Denied (keypadFault s b)
   unfolding keypadOf
   keypad-denied n = rw (ne-eqb (keypadFault s b) 0 n)
@@ -73,6 +74,68 @@ module _ (s : Sheet) (b : List ℕ) where
           let q : keypadFault s b ≡ m = ap (λ (a : Keypad). keyed a .refusal) (sym (keypad-denied n) ∙ e) in
           ((λ z. n (q ∙ z)), q)
 
+-- ---- the same by counting
+
+module _ (s : Sheet) (b : List ℕ) where
+  -- good exactly if the count is 1 for each code
+  pub good-counted : (keypadOf s b ≡ Good) ↔ ((keypadFault s b ≡ 0) × ((c : ℕ) → c < 256 → matchCount b c ≡ 1))
+  good-counted = (
+    λ e. let w = check-good s b .0 e in (w .0, λ c l. one-means b (keypad-0 s b .0 (w .0) .0 .1) c .1 (w .1 c l)),
+    λ w. check-good s b .1 (w .0, λ c l. one-means b (keypad-0 s b .0 (w .0) .0 .1) c .0 (w .1 c l)),
+  )
+
+  -- a gap exactly if the count is 0 for the code and 1 for each smaller one
+  pub gap-counted : (c : ℕ) → (keypadOf s b ≡ Gap c) ↔ ((keypadFault s b ≡ 0) × (c < 256) × (matchCount b c ≡ 0) × ((d : ℕ) → d < c → matchCount b d ≡ 1))
+  gap-counted c = (
+    λ e. let w = check-gap s b c .0 e in
+        let ok = keypad-0 s b .0 (w .0) .0 .1 in
+        (w .0, w .1 .is-code, none-means b ok c .1 (w .1 .none), λ d l. one-means b ok d .1 (w .1 .smallest d l)),
+    λ w. let ok = keypad-0 s b .0 (w .0) .0 .1 in
+        check-gap s b c .1 (w .0, record { is-code = w .1; none = none-means b ok c .0 (w .2); smallest = λ d l. one-means b ok d .0 (w .3 d l) }),
+  )
+
+  -- an overlap exactly if i and k are the two lowest rules whose test passes, and the count is 1 for each smaller code
+  pub overlap-counted : (c i k : ℕ)
+      → (keypadOf s b ≡ Overlap c i k)
+      ↔ ((keypadFault s b ≡ 0) × (c < 256) × (i < k) × (k < ruleCount b) × (matches b c i ≡ true) × (matches b c k ≡ true)
+      × ((m : ℕ) → m < k → matches b c m ≡ true → m ≡ i) × ((d : ℕ) → d < c → matchCount b d ≡ 1))
+  overlap-counted c i k = (to, from)
+    where
+      Told : Type 0
+      Told = (keypadFault s b ≡ 0) × (c < 256) × (i < k) × (k < ruleCount b) × (matches b c i ≡ true) × (matches b c k ≡ true)
+          × ((m : ℕ) → m < k → matches b c m ≡ true → m ≡ i) × ((d : ℕ) → d < c → matchCount b d ≡ 1)
+
+      to : keypadOf s b ≡ Overlap c i k → Told
+      to e =
+          let w = check-overlap s b c i k .0 e in
+          let o = w .1 in
+          let ok = keypad-0 s b .0 (w .0) .0 .1 in (
+            w .0,
+            o .is-code,
+            o .lower,
+            o .is-rule,
+            rule-matches b ok c i (omega (arith, o .lower, o .is-rule)) .1 (o .one),
+            rule-matches b ok c k (o .is-rule) .1 (o .other),
+            λ m l t. o .lowest-two m l (rule-matches b ok c m (omega (arith, l, o .is-rule)) .0 t),
+            λ d l. one-means b ok d .1 (o .smallest d l),
+          )
+
+      from : Told → keypadOf s b ≡ Overlap c i k
+      from (z, h, l, r, x, y, u, v) =
+          let ok = keypad-0 s b .0 z .0 .1 in
+          check-overlap s b c i k .1 (
+            z,
+            record {
+              is-code = h;
+              lower = l;
+              is-rule = r;
+              one = rule-matches b ok c i (omega (arith, l, r)) .0 x;
+              other = rule-matches b ok c k r .0 y;
+              lowest-two = λ m j t. u m j (rule-matches b ok c m (omega (arith, j, r)) .1 t);
+              smallest = λ d j. one-means b ok d .0 (v d j);
+            },
+          )
+
 -- ---- a lookup
 
 module _ (s : Sheet) (b : List ℕ) (c : ℕ) where
@@ -88,7 +151,7 @@ module _ (s : Sheet) (b : List ℕ) (c : ℕ) where
   unfolding foundOf
   found-from e = rw e
 
-  -- in a good table some rule matches the code, and its event is answered
+  -- in a good table some rule matches the code, and it is the lowest that does
   pub found-good : keypadOf s b ≡ Good → c < 256 → (i : ℕ) × (i < ruleCount b) × Matches b c i × (lowest b c ≡ i)
   found-good e h =
       let w = check-good s b .0 e in
@@ -96,7 +159,7 @@ module _ (s : Sheet) (b : List ℕ) (c : ℕ) where
       let j = w .1 c h in
       (j .0, j .1, j .2, lowest-is ok (j .0) (j .1) (j .2) (j .3))
 
-  -- so the code may take the lowest rule's event: it stands before the end
+  -- so `find` may read the lowest rule's event: it stands before the end
   pub found-inside : keypadOf s b ≡ Good → c < 256 → lowest b c < ruleCount b
   found-inside e h = let w = found-good e h in omega (arith, w .1, w .3)
 
@@ -185,7 +248,8 @@ module _ (s : Sheet) (b : List ℕ) (c : ℕ) where
 
 -- ---- the sheet
 
--- of two accepted sheets with one E, a check and a lookup answer the same: nodes, acceptances and codes play no part
+-- of two accepted sheets with one E, a check and a lookup answer the same: nodes, acceptances and catalogue codes play no
+-- part
 module _ (s t : Sheet) (b : List ℕ) (p : sheetFault s ≡ 0) (q : sheetFault t ≡ 0) (e : s .e ≡ t .e) where
   pub same-keypad : keypadOf s b ≡ keypadOf t b
   unfolding keypadOf keypadFault

@@ -1,5 +1,5 @@
--- The two calls over a sheet and a table's bytes (02, K6): what each refuses and what it answers. s is the sheet that is
--- handed along, whose E the events of the rules must be below.
+-- The two calls over a sheet and a table's bytes (02, K6): what each refuses and what it answers. s is the sheet handed
+-- along, whose E the events of the rules must be below.
 use mathlib.Core.Bool.{Bool, _&&_, cond}
 use mathlib.Core.List.{List}
 use Prim.Native.Nat.{ℕ, _%_}

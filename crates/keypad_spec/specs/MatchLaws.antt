@@ -20,7 +20,7 @@ use Rattle.keypad_spec.specs.Meaning.{Matches, JustOne, ValueFault}
 
 module _ (b : List ℕ) (c i : ℕ) where
   -- where the value has no bit outside the mask, the test passes exactly if every masked bit of the code is the value's
-  pub matches-means : Within (value b i) (mask b i) → (matches b c i ≡ true) ↔ Matches b c i
+  pub matches-means : Within (value b i) (mask b i) → (matches b c i ≡ true) ↔ ((j : ℕ) → bit (mask b i) j ≡ 1 → bit c j ≡ bit (value b i) j)
   unfolding matches
   matches-means w = (to, from)
     where
@@ -38,7 +38,7 @@ module _ (b : List ℕ) (c i : ℕ) where
           eq-eqb (bitAnd c (mask b i)) (value b i)
           (bits-ext (bitAnd c (mask b i)) (value b i) (λ j. same h j (ℕ-discrete (bit (mask b i) j) 1)))
 
--- the lowest rule from a rule on that matches a code: it matches, and no rule from there to it does
+-- the lowest rule, from a rule on, that matches a code: it matches, and no rule from there to it does
 module _ (b : List ℕ) (c i : ℕ) where
   pub from-most : matchFrom b c i ≤ ruleCount b
   unfolding matchFrom
@@ -145,7 +145,7 @@ module _ (b : List ℕ) (ok : ¬ ValueFault b) where
   pub none-means : (c : ℕ) → (matchCount b c ≡ 0) ↔ ((i : ℕ) → i < ruleCount b → ¬ Matches b c i)
   none-means c = (λ e i l m. absurd (omega (arith, counted-some (count-matches c 0 .0 e) .1 (i, (l, m)))), λ h. count-matches c 0 .1 (counted-none 0 (λ i x. h i (x .0) (x .1))))
 
-  -- each code before the smallest bad one is matched by just one rule, and that one is not
+  -- each code before the smallest bad one is matched by just one rule, and the smallest bad one is not
   pub bad-before : (c : ℕ) → c < badCode b → JustOne b c
   unfolding badCode
   bad-before c l = one-means c .0 (eqb-true (matchCount b c) 1 (not-false _ (first-before (λ c. not (eqb (matchCount b c) 1)) 256 c l)))

@@ -1,5 +1,5 @@
 -- Nothing to believe: words for laws alone. What a table and an answer mean, bit by bit and code by code, with no test
--- and no count in it. b are the bytes of a table, c is a code, i and k are rules, counted from 0.
+-- and no count of matches in it. b are the bytes of a table, c is a code, i and k are rules, counted from 0.
 use mathlib.Core.Path.{_≡_}
 use mathlib.Core.Logic.{_⊎_}
 use mathlib.Core.List.{List}
@@ -40,7 +40,7 @@ pub record OverlapAt (b : List ℕ) (c i k : ℕ) : Type 0 where
   pub lowest-two : (m : ℕ) → m < k → Matches b c m → m ≡ i
   pub smallest : (d : ℕ) → d < c → JustOne b d
 
--- what an answer tells of a table
+-- what an answer tells of a table; a refusal tells nothing
 abbrev pub Tells : List ℕ → Keypad → Type 0
 Tells b Good = GoodTable b
 Tells b (Gap c) = GapAt b c

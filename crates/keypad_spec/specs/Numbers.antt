@@ -1,5 +1,5 @@
--- The numbers of each case of the two answers. Parts that a case has not are 0. A gap and an overlap have one number,
--- whichever call answers them.
+-- The numbers of each case of the two answers. Parts that a case has not are 0. A gap has the same number whichever call
+-- answers it, and so has an overlap.
 use mathlib.Core.Path.{_≡_, refl, sym, ap, _∙_}
 use mathlib.Core.Bool.{cond}
 use Prim.Native.Nat.{ℕ}
@@ -58,8 +58,8 @@ looked (OverlapFound c i k) = record { refusal = 0; kind = overlapNumber; event 
 looked (NotFound m) = record { refusal = m; kind = 0; event = 0; code = 0; first = 0; second = 0 }
 
 -- the answers that have the given numbers
-keypadFrom : Keyed → Keypad
-keypadFrom n =
+keypadBack : Keyed → Keypad
+keypadBack n =
     cond (eqb (n .kind) 0) (Denied (n .refusal))
     (cond (eqb (n .kind) goodNumber) Good (cond (eqb (n .kind) gapNumber) (Gap (n .code)) (Overlap (n .code) (n .first) (n .second))))
 
@@ -68,8 +68,8 @@ foundBack n =
     cond (eqb (n .kind) 0) (NotFound (n .refusal))
     (cond (eqb (n .kind) eventNumber) (Event (n .event)) (cond (eqb (n .kind) gapNumber) (GapFound (n .code)) (OverlapFound (n .code) (n .first) (n .second))))
 
-keyed-back : (a : Keypad) → keypadFrom (keyed a) ≡ a
-unfolding keyed keypadFrom
+keyed-back : (a : Keypad) → keypadBack (keyed a) ≡ a
+unfolding keyed keypadBack
 keyed-back Good = refl
 keyed-back (Gap c) = refl
 keyed-back (Overlap c i k) = refl
@@ -84,7 +84,7 @@ looked-back (NotFound m) = refl
 
 -- answers with the same numbers are the same
 pub keyed-once : (a b : Keypad) → keyed a ≡ keyed b → a ≡ b
-keyed-once a b e = sym (keyed-back a) ∙ ap keypadFrom e ∙ keyed-back b
+keyed-once a b e = sym (keyed-back a) ∙ ap keypadBack e ∙ keyed-back b
 
 pub looked-once : (a b : Found) → looked a ≡ looked b → a ≡ b
 looked-once a b e = sym (looked-back a) ∙ ap foundBack e ∙ looked-back b

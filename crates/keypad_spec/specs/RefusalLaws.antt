@@ -9,6 +9,7 @@ use native.Mathlib.Omega.{arith}
 use lib.ListN.{length}
 use Rattle.base.specs.Finds.{Finds, finds-as, finds-eq, finds-le, finds-lt, finds-and, finds-all}
 use Rattle.base.specs.Refusal.{unless, orElse, unless-hit, unless-pass, unless-none, unless-other, orElse-first, orElse-then}
+use Rattle.events.specs.Bit.{bit}
 use Rattle.events.specs.Sets.{inside, inside→, inside-missing}
 use Rattle.sheet_spec.specs.declared.Sheet.{Sheet}
 use Rattle.sheet_spec.specs.Refusals.{sheetFault, Own, NotOwn}
@@ -129,13 +130,15 @@ module _ (s : Sheet) (b : List ℕ) where
       (λ f. unless-hit 21 after21 (size-finds b) (unless-other (valuesOk b) (λ p. omega arith) (unless-other (eventsOk (s .e) b) (λ p. omega arith) (λ p. omega arith))))
 
   -- 22: of whole rules, some value has a bit outside its mask, whatever the events are
-  pub keypad-22 : (keypadFault s b ≡ 22) ↔ (Clear21 s b × ValueFault b)
+  pub keypad-22 : (keypadFault s b ≡ 22)
+      ↔ (((sheetFault s ≡ 0) × (¬ SizeFault b)) × ((i : ℕ) × (i < ruleCount b) × ((j : ℕ) × (bit (value b i) j ≡ 1) × (bit (mask b i) j ≡ 0))))
   keypad-22 =
       finally (size-passed 22 (inl (omega arith, λ p. omega arith)) (λ p. omega arith))
       (λ f. unless-hit 22 after22 (values-find b) (unless-other (eventsOk (s .e) b) (λ p. omega arith) (λ p. omega arith)))
 
   -- 23: no value has such a bit, and some event is not below E
-  pub keypad-23 : (keypadFault s b ≡ 23) ↔ (Clear22 s b × EventFault (s .e) b)
+  pub keypad-23 : (keypadFault s b ≡ 23)
+      ↔ ((((sheetFault s ≡ 0) × (¬ SizeFault b)) × (¬ ValueFault b)) × ((i : ℕ) × (i < ruleCount b) × (s .e ≤ eventOf b i)))
   keypad-23 =
       finally (values-passed 23 (inl (omega arith, λ p. omega arith)) (λ p. omega arith) (λ p. omega arith))
       (λ f. unless-hit 23 0 (events-find b (s .e)) (λ p. omega arith))

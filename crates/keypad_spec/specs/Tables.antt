@@ -35,19 +35,19 @@ matches b c i = eqb (bitAnd c (mask b i)) (value b i)
 unfoldable pub matchCount : List ℕ → ℕ → ℕ
 matchCount b c = count (matches b c) (ruleCount b)
 
--- the smallest bad code: one that not just one rule matches; 256 in a good table
+-- the smallest bad code: one that no rule matches, or more than one; 256 in a good table
 unfoldable pub badCode : List ℕ → ℕ
 badCode b = first (λ c. not (eqb (matchCount b c) 1)) 256
 
--- the lowest rule, from rule i on, that matches a code
+-- the lowest rule, from rule i on, that matches a code; the number of rules where there is none
 unfoldable pub matchFrom : List ℕ → ℕ → ℕ → ℕ
 matchFrom b c i = first (λ k. leb i k && matches b c k) (ruleCount b)
 
--- the lowest rule that matches a code
+-- the lowest rule that matches a code; the number of rules where there is none
 abbrev pub lowest : List ℕ → ℕ → ℕ
 lowest b c = matchFrom b c 0
 
--- the next lowest rule that matches a code
+-- the next lowest rule that matches a code; the number of rules where there is none
 abbrev pub second : List ℕ → ℕ → ℕ
 second b c = matchFrom b c (lowest b c + 1)
 

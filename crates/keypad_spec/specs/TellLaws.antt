@@ -1,5 +1,5 @@
--- Nothing to believe: laws. What is told of a table is so, and nothing else is: a table whose values have no bit outside
--- their masks is told just one answer.
+-- Nothing to believe: laws. What is told of a table is so, and nothing else is told: a table whose values have no bit
+-- outside their masks is told just one answer.
 use mathlib.Core.Path.{_≡_, refl, sym, ap, _∙_}
 use mathlib.Core.Logic.{_⊎_, inl, inr, _≢_}
 use mathlib.Core.Bool.{Bool, true, false}

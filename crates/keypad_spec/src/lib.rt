@@ -1,5 +1,5 @@
-// A keypad's table (02, K6): which rule matches which code, whether each code has just one, and the event of a code. The
-// crate has the types of the two answers; its specs say what a table is, what is refused, and what is answered and what
+// A keypad's table (02, K6): which rule matches which code, whether each code has just one, and the event of a code.
+// The crate has the types of the two answers; its specs say what a table is, what is refused, what is answered and what
 // that means. It has no function.
 
 // What a check of a table answers.

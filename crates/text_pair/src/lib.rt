@@ -1,5 +1,5 @@
 // An input of two sheets, split, and their lines as `compare` and `suite` print them before their own: the size of
-// each, or the refusal that ends the text.
+// each, or the refusal that ends the text. `keypad_check` asks where the first sheet ends.
 ghost use mathlib.Core.Path.{_≡_};
 ghost use mathlib.Core.Bool.{_&&_};
 ghost use Prim.Native.Nat.{_≤_, _<_};

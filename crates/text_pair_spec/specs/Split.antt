@@ -1,4 +1,5 @@
--- How an input of two sheets, back to back, is split (01, "The program `compare`").
+-- How an input of two sheets, back to back, is split (01, "The program `compare`"), and one of a sheet and a keypad's
+-- table, which is all after the first sheet (02, K6).
 use mathlib.Core.Bool.{_||_, cond}
 use mathlib.Core.List.{List}
 use Prim.Native.Nat.{ℕ, _+_}

@@ -1,7 +1,9 @@
 //! Rule tables of keypads: the check and lookups, on good tables of every number of rules, near ones,
 //! bad ones of every kind, and tables and sheets that are refused.
 
-use model::keypad::{bad_at, matching, rules_of, table_of, Bad, Rule, MAX_RULES, RULE_BYTES};
+use model::keypad::{
+    bad_at, divides, matching, rules_of, table_of, Bad, Rule, MAX_RULES, RULE_BYTES,
+};
 use model::numbers::{find_numbers, keypad_numbers, Keypad, EVENT, GOOD, OVERLAP};
 use model::planted::keypads::{find_numbers_with, keypad_numbers_with, KeypadFault};
 use model::random::{
@@ -171,6 +173,17 @@ fn tried(rng: &mut Rng, findings: &mut Findings, sheet: &Sheet, table: &[u8]) {
     }
 }
 
+/// The library's answer, held against the form of a good table that looks at no code.
+fn held_by_rules(findings: &mut Findings, table: &[u8], ours: Keypad) {
+    if ours.refusal != 0 {
+        return;
+    }
+    let divided = rules_of(table).is_some_and(|rules| divides(&rules));
+    findings.compared((ours.kind == GOOD) == divided, || {
+        format!("check of {}: library {ours:?}, by the rules {divided}", shown_table(table))
+    });
+}
+
 /// One check by the library, by the model, and by each fault planted in it that is not caught yet;
 /// the model's answer.
 fn try_check(findings: &mut Findings, sheet: &Sheet, table: &[u8]) -> Keypad {
@@ -183,6 +196,7 @@ fn try_check(findings: &mut Findings, sheet: &Sheet, table: &[u8]) -> Keypad {
             shown_sheet(sheet)
         )
     });
+    held_by_rules(findings, table, ours);
     catch(findings, &plants(), |(call, fault)| {
         call == Call::Check && keypad_numbers_with(fault, sheet, table) != ours
     });
