@@ -248,8 +248,8 @@ module _ (s : Sheet) (b : List ℕ) (c : ℕ) where
 
 -- ---- the sheet
 
--- of two accepted sheets with one E, a check and a lookup answer the same: nodes, acceptances and catalogue codes play no
--- part
+-- of two accepted sheets with one E, a check and a lookup answer the same: nodes, acceptances and catalogue codes play
+-- no part
 module _ (s t : Sheet) (b : List ℕ) (p : sheetFault s ≡ 0) (q : sheetFault t ≡ 0) (e : s .e ≡ t .e) where
   pub same-keypad : keypadOf s b ≡ keypadOf t b
   unfolding keypadOf keypadFault

@@ -1,5 +1,5 @@
--- The numbers of each case of the two answers. Parts that a case has not are 0. A gap has the same number whichever call
--- answers it, and so has an overlap.
+-- The numbers of each case of the two answers. Parts that a case has not are 0. A gap has the same number whichever
+-- call answers it, and so has an overlap.
 use mathlib.Core.Path.{_≡_, refl, sym, ap, _∙_}
 use mathlib.Core.Bool.{cond}
 use Prim.Native.Nat.{ℕ}

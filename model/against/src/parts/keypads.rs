@@ -180,7 +180,10 @@ fn held_by_rules(findings: &mut Findings, table: &[u8], ours: Keypad) {
     }
     let divided = rules_of(table).is_some_and(|rules| divides(&rules));
     findings.compared((ours.kind == GOOD) == divided, || {
-        format!("check of {}: library {ours:?}, by the rules {divided}", shown_table(table))
+        format!(
+            "check of {}: library {ours:?}, by the rules {divided}",
+            shown_table(table)
+        )
     });
 }
 
