@@ -23,7 +23,8 @@ use Rattle.sheet_spec.specs.Spelling.{lengthField, nextAt, startOf, succOf, set
 use Rattle.probes_spec.specs.Probes.{hits, isProbe, probesOf, probes}
 use Rattle.probes_spec.specs.Listing.{nodeProbes, listFault}
 use Rattle.text_spec.specs.Lines.{ascii, decimalIn, decimal, eventList}
-use Rattle.text_spec.specs.Sets.{eventsIn, members, setWords}
+use Rattle.events.specs.Lists.{eventsIn}
+use Rattle.text_spec.specs.Sets.{members, setWords}
 use Rattle.text_sheet_spec.specs.Node.{probeSpace, placeWords, setList, probesLine, mayStopLine, deniedLine, nodeLine, optional, optionalLine, optionalText, nodeText}
 use Rattle.text_sheet_spec.specs.Cases.{threeNodes}
 use Rattle.sheet_spec.specs.Examples.{exampleReference, codedReference, sheet}

@@ -2,7 +2,7 @@
 // reads.
 ghost use mathlib.Core.Path.{_≡_};
 ghost use Rattle.text_spec.specs.Adds.{Adds};
-ghost use Rattle.compare_lines_spec.specs.Lines.{violatesLine, traceLine, refusedProbeLine, outcomeLines};
+ghost use Rattle.compare_lines_spec.specs.Lines.{violatesLine, refusedProbeLine, outcomeLines};
 ghost use Rattle.compare_lines_spec.specs.Program.{comparedLines, compareText, keptText};
 use compare_lines_spec::Text;
 use comparison_spec::Outcome;
@@ -13,15 +13,6 @@ fn put_violates_line(out: &mut [u8], at: usize, d: u16, cleared: u16) -> usize
     ensures { λ r. ⌜ Adds (violatesLine d cleared) (now (out .entry)) at (now (out .exit)) r ⌝ }
 {
     text::put_numbers(out, at, b"violates after ", d, b" cleared ", cleared, b"\n")
-}
-
-// Puts the line of a trace.
-fn put_trace_line(out: &mut [u8], at: usize, trace: &[u8]) -> usize
-    ensures { λ r. ⌜ Adds (traceLine (now (trace .entry))) (now (out .entry)) at (now (out .exit)) r ⌝ }
-{
-    let a = text::put(out, at, b"trace");
-    let b = text::put_events(out, a, trace);
-    text::put(out, b, b"\n")
 }
 
 // Puts the line of a refusal: the probe and the acceptance.
@@ -39,12 +30,12 @@ fn put_outcome(out: &mut [u8], at: usize, o: Outcome, trace: &[u8]) -> usize
         Outcome::Refines(cleared) => text::put_number_line(out, at, b"refines cleared ", cleared),
         Outcome::Stray(d, cleared, event) => {
             let a = put_violates_line(out, at, d, cleared);
-            let b = put_trace_line(out, a, text::front(trace, d as usize));
+            let b = text::put_trace_line(out, a, text::front(trace, d as usize));
             text::put_number_line(out, b, b"stray ", event as u16)
         }
         Outcome::Refusal(d, cleared, probe, acceptance) => {
             let a = put_violates_line(out, at, d, cleared);
-            let b = put_trace_line(out, a, text::front(trace, d as usize));
+            let b = text::put_trace_line(out, a, text::front(trace, d as usize));
             put_refused_line(out, b, probe, acceptance)
         }
         Outcome::Denied(k) => text::put_number_line(out, at, b"comparison refused ", k as u16),

@@ -24,11 +24,11 @@ use Rattle.sheet_spec.specs.Examples.{exampleDevice, codedReference, codedDevic
 use Rattle.refinement_spec.specs.ViolatingPairs.{strays, hasStray, firstStray, covers, hasRefusal, violates, violating}
 use Rattle.comparison_spec.specs.Comparison.{pairCount, nearest, nearestTrace, clearedOf, lastRow, refusalNamed, named, comparisonOf, compareFault, outcomeOf, traceAfter}
 use Rattle.comparison_spec.specs.declared.Outcome.the-variants.{Refusal}
-use Rattle.text_spec.specs.Lines.{ascii, decimalIn, decimal, numberLine, sheetLine, eventList}
+use Rattle.text_spec.specs.Lines.{ascii, decimalIn, decimal, numberLine, sheetLine, eventList, traceLine}
 use Rattle.text_spec.specs.Input.{cutInput}
 use Rattle.text_pair_spec.specs.Split.{firstEnd, firstSheet, secondSheet}
 use Rattle.text_pair_spec.specs.Program.{deviceLines, sheetsLines, inputLines, pairText}
-use Rattle.compare_lines_spec.specs.Lines.{violatesLine, traceLine, refusedProbeLine, outcomeLines}
+use Rattle.compare_lines_spec.specs.Lines.{violatesLine, refusedProbeLine, outcomeLines}
 use Rattle.compare_lines_spec.specs.Program.{workList, traceList, comparedLines, compareText}
 
 -- inputs, one for each kind of line

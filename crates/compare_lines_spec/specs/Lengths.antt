@@ -36,11 +36,11 @@ use Rattle.refinement_spec.specs.ViolatingPairs.{strays, hasStray, firstStray, 
 use Rattle.comparison_spec.specs.declared.Outcome.the-variants.{Refines, Stray, Denied}
 use Rattle.comparison_spec.specs.CallLaws.{compare-11, compare-19, compare-fits}
 use Rattle.comparison_spec.specs.Comparison.{pairCount, nearest, nearestTrace, clearedOf, lastRow, refusalNamed, named, comparisonOf, compareFault, outcomeOf, traceAfter}
-use Rattle.text_spec.specs.Lines.{ascii, decimal, numberLine, eventList}
+use Rattle.text_spec.specs.Lines.{ascii, decimal, numberLine, eventList, traceLine}
 use Rattle.text_spec.specs.DecimalLaws.{decimal-few}
-use Rattle.text_spec.specs.LengthLaws.{number-length}
+use Rattle.text_spec.specs.LengthLaws.{number-length, trace-length}
 use Rattle.text_pair_spec.specs.ProgramLaws.{pair-length}
-use Rattle.compare_lines_spec.specs.Lines.{violatesLine, traceLine, refusedProbeLine, outcomeLines}
+use Rattle.compare_lines_spec.specs.Lines.{violatesLine, refusedProbeLine, outcomeLines}
 use Rattle.compare_lines_spec.specs.Program.{workList, traceList, comparedLines, compareText}
 
 -- the length of each line, by the digits of its numbers
@@ -69,10 +69,6 @@ refused-length p a h k =
       decimal-few 3 p h,
       decimal-few 3 a k,
     )
-
-trace-length : (t : List ℕ) → length (traceLine t) ≡ length (eventList t) + 6
-unfolding traceLine
-trace-length t = omega (arith, length-append (ascii "trace") (eventList t ++ ascii "\n"), length-append (eventList t) (ascii "\n"))
 
 -- the events of a least trace have at most two digits
 choice-small : (g : Graph) (bad : ℕ → Bool) → g .events ≤ 12 → (j n : ℕ) → choice g bad j n < 100

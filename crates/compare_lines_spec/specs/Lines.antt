@@ -2,17 +2,13 @@
 use mathlib.Core.List.{List, _++_}
 use Prim.Native.Nat.{ℕ}
 use lib.ListN.{take}
-use Rattle.text_spec.specs.Lines.{ascii, numberLine, eventList, numbersText}
+use Rattle.text_spec.specs.Lines.{ascii, numberLine, numbersText, traceLine}
 use Rattle.comparison_spec.specs.declared.Outcome.{Outcome}
 use Rattle.comparison_spec.specs.declared.Outcome.the-variants.{Refines, Stray, Refusal, Denied}
 
 -- the first line of a violation: `violates after d cleared c`
 unfoldable pub violatesLine : ℕ → ℕ → List ℕ
 violatesLine d cleared = numbersText (ascii "violates after ") d (ascii " cleared ") cleared (ascii "\n")
-
--- the line of a trace: `trace e e e`; an empty trace is `trace` alone
-unfoldable pub traceLine : List ℕ → List ℕ
-traceLine t = ascii "trace" ++ (eventList t ++ ascii "\n")
 
 -- the line of a refusal: `refused x by a`, the probe and the acceptance as numbers
 unfoldable pub refusedProbeLine : ℕ → ℕ → List ℕ

@@ -16,11 +16,11 @@ use Rattle.comparison_spec.specs.declared.Outcome.{Outcome}
 use Rattle.comparison_spec.specs.declared.Outcome.the-variants.{Stray, Refusal}
 use Rattle.comparison_spec.specs.Meaning.{ReachedEver, Number}
 use Rattle.claim.specs.Claim.{Violated}
-use Rattle.text_spec.specs.Lines.{ascii, numberLine, sheetLine}
+use Rattle.text_spec.specs.Lines.{ascii, numberLine, sheetLine, traceLine}
 use Rattle.text_spec.specs.Input.{cutInput}
 use Rattle.text_pair_spec.specs.Split.{firstSheet}
 use Rattle.text_pair_spec.specs.BackToBack.{Begins, BackToBack, afterSheets}
-use Rattle.compare_lines_spec.specs.Lines.{violatesLine, traceLine, refusedProbeLine}
+use Rattle.compare_lines_spec.specs.Lines.{violatesLine, refusedProbeLine}
 
 -- the last line of a violation: the stray event that an answer names, or the probe and the acceptance
 pub data LastLine : Outcome → List ℕ → Type 0 where

@@ -30,13 +30,13 @@ use Rattle.comparison_spec.specs.AnswerLaws.{outcome-only}
 use Rattle.comparison_spec.specs.CallLaws.{compare-11, compare-19, denied-outcome}
 use Rattle.claim.specs.Claim.{LongEnough, Reports, stray-reports, refusal-reports, Violated, Claim}
 use Rattle.claim.specs.Theorem.{claim}
-use Rattle.text_spec.specs.Lines.{ascii, numberLine, sheetLine}
+use Rattle.text_spec.specs.Lines.{ascii, numberLine, sheetLine, traceLine}
 use Rattle.text_spec.specs.TellLaws.{same-number, sheet-tells}
 use Rattle.text_pair_spec.specs.ProgramLaws as text
 use Rattle.text_pair_spec.specs.Program.{reference, device}
 use Rattle.text_pair_spec.specs.BackToBack.{BackToBack, afterSheets}
 use Rattle.text_pair_spec.specs.BackToBackLaws.{begins-read, reference-accepted, both-exactly, pair-text, begins-text, sheets-tell}
-use Rattle.compare_lines_spec.specs.Lines.{violatesLine, traceLine, refusedProbeLine, outcomeLines}
+use Rattle.compare_lines_spec.specs.Lines.{violatesLine, refusedProbeLine, outcomeLines}
 use Rattle.compare_lines_spec.specs.Program.{workList, traceList, comparedLines, compareText}
 use Rattle.compare_lines_spec.specs.LineLaws.{refines-refused, violates-refused, violates-refines, accepted-refused}
 use Rattle.compare_lines_spec.specs.Lengths.{lists-fit}

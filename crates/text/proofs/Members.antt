@@ -6,7 +6,7 @@ use Prim.Native.Nat.{ℕ, suc, _+_}
 use native.Mathlib.Numerals.{add-one}
 use Rattle.events.specs.Sets.{has}
 use Rattle.text_spec.specs.Lines.{ascii, decimal, eventList}
-use Rattle.text_spec.specs.Sets.{eventsIn}
+use Rattle.events.specs.Lists.{eventsIn}
 use Rattle.text_spec.specs.SetLaws.{members-more, members-same}
 use Rattle.text_spec.specs.Adds.{Adds}
 use Rattle.text_spec.specs.AddsLaws.{adds-none, adds-then}

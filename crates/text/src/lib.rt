@@ -5,7 +5,7 @@ ghost use mathlib.Core.Path.{_≡_};
 ghost use mathlib.Core.List.{[], _∷_};
 ghost use Prim.Native.Nat.{_≤_, _<_};
 ghost use lib.ListN.{length, take};
-ghost use Rattle.text_spec.specs.Lines.{decimal, numberLine, numbersText, sheetLine, eventList};
+ghost use Rattle.text_spec.specs.Lines.{decimal, numberLine, numbersText, sheetLine, eventList, traceLine};
 ghost use Rattle.text_spec.specs.Sets.{members, setWords};
 ghost use Rattle.text_spec.specs.Adds.{Adds};
 ghost use Rattle.text.specs.Shapes.{memberWords};
@@ -151,6 +151,15 @@ pub fn put_sheet_line(out: &mut [u8], at: usize, who: &[u8], n: u16, e: u16) -> 
     ensures { λ r. ⌜ Adds (sheetLine (now (who .entry)) n e) (now (out .entry)) at (now (out .exit)) r ⌝ }
 {
     put_numbers(out, at, who, n, b" nodes ", e, b" events\n")
+}
+
+// Puts the line of a trace.
+pub fn put_trace_line(out: &mut [u8], at: usize, trace: &[u8]) -> usize
+    ensures { λ r. ⌜ Adds (traceLine (now (trace .entry))) (now (out .entry)) at (now (out .exit)) r ⌝ }
+{
+    let a = put(out, at, b"trace");
+    let b = put_events(out, a, trace);
+    put(out, b, b"\n")
 }
 
 // ---- the front of a list

@@ -18,7 +18,8 @@ use Rattle.sheet_spec.specs.Examples.{codedReference, codedDevice}
 use Rattle.sheet_spec.specs.Spelling.{lengthField, nextAt, startOf, succOf, setsOf, rowAt, rowOf, sheetOf, codeOf, nodesAt}
 use Rattle.sheet_spec.specs.Refusals.{headFault, layoutFault, graphFault, bytesFault, codesFault}
 use Rattle.text_spec.specs.Lines.{ascii, decimalIn, decimal, numberLine, sheetLine, eventList}
-use Rattle.text_spec.specs.Sets.{eventsIn, members, setWords}
+use Rattle.events.specs.Lists.{eventsIn}
+use Rattle.text_spec.specs.Sets.{members, setWords}
 use Rattle.text_spec.specs.Input.{cutInput}
 use Rattle.text_sheet_spec.specs.Head.{ruleWords, refusalWords, refusedSheetLine, headLine}
 use Rattle.text_sheet_spec.specs.Show.{codeLine, codesLines, eventLine, successorLine, acceptsLine, acceptanceLine, restLines, rowLines, nodeLines, bodyLines, showLines, showText}

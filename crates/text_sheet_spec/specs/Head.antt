@@ -1,5 +1,5 @@
--- The first line of `show`, `probe_list` and `keypad_check`: the size of an accepted sheet, or the refusal of another
--- with its meaning.
+-- The first line of `show`, `probe_list`, `keypad_check` and `walk`: the size of an accepted sheet, or the refusal of
+-- another with its meaning.
 use mathlib.Core.Bool.{cond}
 use mathlib.Core.List.{List, [], _++_}
 use Prim.Native.Nat.{ℕ}

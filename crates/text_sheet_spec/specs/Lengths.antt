@@ -32,7 +32,8 @@ use Rattle.probes_spec.specs.ProbeLaws.{probe-small, probe-listed}
 use Rattle.probes_spec.specs.Listing.{nodeProbes, listFault}
 use Rattle.probes_spec.specs.ListingLaws.{node-narrow, node-probe, node-few}
 use Rattle.text_spec.specs.Lines.{ascii, decimal, numberLine, sheetLine, eventList}
-use Rattle.text_spec.specs.Sets.{eventsIn, members, setWords}
+use Rattle.events.specs.Lists.{eventsIn}
+use Rattle.text_spec.specs.Sets.{members, setWords}
 use Rattle.text_spec.specs.DecimalLaws.{decimal-few}
 use Rattle.text_spec.specs.Input.{cutInput}
 use Rattle.text_spec.specs.LengthLaws.{number-length, sheet-length, events-length as set-events-length, set-length}

@@ -5,8 +5,9 @@ use native.Mathlib.Omega.{arith}
 use Rattle.base.specs.Gather.{gather, select}
 use Rattle.events.specs.Bit.{bit}
 use Rattle.events.specs.Sets.{has}
-use Rattle.text_spec.specs.Lines.{ascii, decimalIn, decimal, numberLine, sheetLine, eventList}
-use Rattle.text_spec.specs.Sets.{eventsIn, members, setWords}
+use Rattle.text_spec.specs.Lines.{ascii, decimalIn, decimal, numberLine, sheetLine, eventList, traceLine}
+use Rattle.events.specs.Lists.{eventsIn}
+use Rattle.text_spec.specs.Sets.{members, setWords}
 use Rattle.text_spec.specs.DecimalLaws.{decimal-within}
 
 -- texts of numbers of one to four digits
@@ -34,3 +35,7 @@ number-line = refl
 pub sheet-line : sheetLine (ascii "reference ") 32 12 ≡ ascii "reference 32 nodes 12 events\n"
 unfolding sheetLine decimal decimalIn
 sheet-line = refl
+
+pub trace-line : (traceLine (0 ∷ 11 ∷ 7 ∷ []) ≡ ascii "trace 0 11 7\n") × (traceLine [] ≡ ascii "trace\n")
+unfolding traceLine eventList decimal decimalIn
+trace-line = (refl, refl)

@@ -7,8 +7,9 @@ use native.Mathlib.Omega.{arith}
 use lib.ListN.{length, length-append}
 use Rattle.base.specs.Gather.{gather, select}
 use Rattle.events.specs.Sets.{has}
-use Rattle.text_spec.specs.Lines.{ascii, decimal, numberLine, sheetLine, eventList}
-use Rattle.text_spec.specs.Sets.{eventsIn, members, setWords}
+use Rattle.events.specs.Lists.{eventsIn}
+use Rattle.text_spec.specs.Lines.{ascii, decimal, numberLine, sheetLine, eventList, traceLine}
+use Rattle.text_spec.specs.Sets.{members, setWords}
 use Rattle.text_spec.specs.DecimalLaws.{decimal-few}
 use Rattle.text_spec.specs.SetLaws.{members-more, members-same}
 
@@ -40,6 +41,11 @@ events-length x (suc n) h = go (has x n) refl (events-length x n (omega arith))
     go : (b : Bool) → has x n ≡ b → length (eventList (eventsIn x n)) ≤ 3 * n → length (eventList (eventsIn x (suc n))) ≤ 3 * suc n
     go true e ih = rw (members-more x n e, length-append (eventList (eventsIn x n)) (ascii " " ++ decimal n)) (omega (arith, decimal-few 1 n (omega arith)))
     go false e ih = rw (members-same x n e) (omega arith)
+
+-- the line of a trace
+pub trace-length : (t : List ℕ) → length (traceLine t) ≡ length (eventList t) + 6
+unfolding traceLine
+trace-length t = omega (arith, length-append (ascii "trace") (eventList t ++ ascii "\n"), length-append (eventList t) (ascii "\n"))
 
 -- the length of the words of a set of 16 bits
 pub set-length : (x : ℕ) → x < 100000 → length (setWords x) ≤ 57

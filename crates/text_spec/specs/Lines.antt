@@ -42,3 +42,7 @@ sheetLine who n e = numbersText who n (ascii " nodes ") e (ascii " events\n")
 unfoldable pub eventList : List ℕ → List ℕ
 eventList [] = []
 eventList (e ∷ t) = (ascii " " ++ decimal e) ++ eventList t
+
+-- the line of a trace: `trace e e e`; an empty trace is `trace` alone
+unfoldable pub traceLine : List ℕ → List ℕ
+traceLine t = ascii "trace" ++ (eventList t ++ ascii "\n")

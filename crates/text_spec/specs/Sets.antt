@@ -1,13 +1,8 @@
 -- A set of events as it is printed: its number and its events.
 use mathlib.Core.List.{List, _++_}
 use Prim.Native.Nat.{ℕ}
-use Rattle.base.specs.Gather.{select}
-use Rattle.events.specs.Sets.{has}
+use Rattle.events.specs.Lists.{eventsIn}
 use Rattle.text_spec.specs.Lines.{ascii, decimal, eventList}
-
--- the events of a set that are below n, in order
-unfoldable pub eventsIn : ℕ → ℕ → List ℕ
-eventsIn x n = select (has x) n
 
 -- the events of a set, a blank before each; a set has 16 bits
 unfoldable pub members : ℕ → List ℕ

@@ -27,10 +27,10 @@ unfolding allDigits
 digits-done w i a b h = sym (all-done (digitAt w) (length w) i a b h)
 
 -- i digits write a number below the i-th power of ten
-pub value-small : (i v : ℕ) → i < 5 → v < 10 ^ i → v < 100000
+pub value-small : (i v : ℕ) → i < 10 → v < 10 ^ i → v < 1000000000
 value-small i v l h =
-    let q : i ≤ 5 = omega arith in
-    let p : 10 ^ i ≤ 10 ^ 5 = pow-le-pow-right (zero-lt-suc 9) q in
+    let q : i ≤ 9 = omega arith in
+    let p : 10 ^ i ≤ 10 ^ 9 = pow-le-pow-right (zero-lt-suc 9) q in
     omega arith
 
 pub value-below : (i v b : ℕ) → v < 10 ^ i → b < 58 → v * 10 + (b - 48) < 10 ^ (i + 1)

@@ -24,9 +24,9 @@ module _ (most : ℕ) (w : List ℕ) where
   unfolding fewDigits
   few-some n l e = rw (le-leb 1 (length w) (omega (arith, n)), le-leb (length w) most l) e
 
-  -- digits that are few enough are at most five
-  pub few-five : {d : Bool} → most ≤ 5 → d ≡ fewDigits most w → d ≡ true → Digits 5 w
-  few-five l e t = let s = digits→ most w (sym e ∙ t) in record { some = s .some; few = omega (arith, s .few); each = s .each }
+  -- digits that are few enough are at most ten
+  pub few-ten : {d : Bool} → most ≤ 10 → d ≡ fewDigits most w → d ≡ true → Digits 10 w
+  few-ten l e t = let s = digits→ most w (sym e ∙ t) in record { some = s .some; few = omega (arith, s .few); each = s .each }
 
   module _ (top : ℕ) where
     pub in-not : {d : Bool} → d ≡ fewDigits most w → d ≡ false → top + 1 ≡ numberIn most top w

@@ -42,16 +42,16 @@ fn few_digits(bytes: &[u8], most: usize) -> bool
 }
 
 // A number with one digit more.
-fn with_digit(v: u32, b: u8) -> u32
-    requires { ⌜ (v < 100000) × (48 ≤ b) × (b < 58) ⌝ }
+fn with_digit(v: u64, b: u8) -> u64
+    requires { ⌜ (v < 1000000000) × (48 ≤ b) × (b < 58) ⌝ }
     ensures { λ r. ⌜ r ≡ v * 10 + (b - 48) ⌝ }
 {
-    v * 10 + (b - 48) as u32
+    v * 10 + (b - 48) as u64
 }
 
-// The number that at most five digits write.
-fn value(bytes: &[u8]) -> u32
-    requires { ⌜ Digits 5 (now bytes) ⌝ }
+// The number that at most ten digits write.
+fn value(bytes: &[u8]) -> u64
+    requires { ⌜ Digits 10 (now bytes) ⌝ }
     ensures { λ r. ⌜ r ≡ valueFrom 0 (now (bytes .entry)) ⌝ }
 {
     let mut v = 0;
@@ -64,8 +64,8 @@ fn value(bytes: &[u8]) -> u32
 }
 
 // The number that one to `most` digits write, if it is not above `top`; else top + 1.
-pub fn number_in(bytes: &[u8], most: usize, top: u32) -> u32
-    requires { ⌜ (most ≤ 5) × (top < 65536) ⌝ }
+pub fn number_in(bytes: &[u8], most: usize, top: u64) -> u64
+    requires { ⌜ (most ≤ 10) × (top < 4294967296) ⌝ }
     ensures { λ r. ⌜ r ≡ numberIn most top (now (bytes .entry)) ⌝ }
 {
     if !few_digits(bytes, most) {
@@ -79,7 +79,7 @@ pub fn number_in(bytes: &[u8], most: usize, top: u32) -> u32
 }
 
 // The number that a word is, 65,536 where it is none.
-pub fn number_of(bytes: &[u8]) -> u32
+pub fn number_of(bytes: &[u8]) -> u64
     ensures { λ r. ⌜ r ≡ numberOf (now (bytes .entry)) ⌝ }
 {
     number_in(bytes, 5, 65535)

@@ -10,3 +10,9 @@ pub words-hold : map numberOf (ascii "0" ∷ ascii "1023" ∷ ascii "01024" ∷ 
     ≡ (0 ∷ 1023 ∷ 1024 ∷ 65535 ∷ 65536 ∷ 65536 ∷ 65536 ∷ 65536 ∷ 65536 ∷ [])
 unfolding numberOf numberIn fewDigits allDigits digitAt isDigit valueFrom all
 words-hold = refl
+
+-- the same of up to ten digits, below 2 to the power 32
+pub long-words-hold : map (numberIn 10 4294967295) (ascii "1" ∷ ascii "0000000001" ∷ ascii "4294967295" ∷ ascii "4294967296" ∷ ascii "9999999999" ∷ ascii "00000000001" ∷ ascii "42949672950" ∷ ascii "" ∷ ascii "1e9" ∷ [])
+    ≡ (1 ∷ 1 ∷ 4294967295 ∷ 4294967296 ∷ 4294967296 ∷ 4294967296 ∷ 4294967296 ∷ 4294967296 ∷ 4294967296 ∷ [])
+unfolding numberIn fewDigits allDigits digitAt isDigit valueFrom all
+long-words-hold = refl

@@ -5,7 +5,8 @@ use native.Mathlib.Omega.{arith}
 use lib.ListN.{length}
 use Rattle.base.specs.Gather.{gather, select}
 use Rattle.text_spec.specs.Lines.{eventList}
-use Rattle.text_spec.specs.Sets.{eventsIn, members}
+use Rattle.events.specs.Lists.{eventsIn}
+use Rattle.text_spec.specs.Sets.{members}
 use Rattle.text_spec.specs.Adds.{Adds}
 use Rattle.text_spec.specs.AddsLaws.{adds-none}
 use Rattle.text.proofs.Members.{members-next}

@@ -1,7 +1,7 @@
 -- No digits, a number that is too large, or the number.
 use native.Mathlib.Omega.{arith}
 use borrow.Author.Tests.{not-true, not-false}
-use Rattle.words.proofs.Parts.{few-five, in-not, in-over, in-is}
+use Rattle.words.proofs.Parts.{few-ten, in-not, in-over, in-is}
 use Rattle.words.proofs.number_in.Statement.{statement}
 use Rattle.words.proofs.number_in.Tie as tie
 
@@ -15,7 +15,7 @@ returns : tie.Need-returns
 returns c = in-not (c .before .before .before .args .most) (c .before .before .before .args .bytes .now) (c .before .before .before .args .top) (c .before .few-digits .ensures) (not-true _ (c .if1 .taken))
 
 value-requires : tie.Need-value-requires
-value-requires c κs = few-five (c .before .before .before .args .most) (c .before .before .before .args .bytes .now) (c .before .before .before .pre .0) (c .before .few-digits .ensures) (not-false _ (c .if1 .left))
+value-requires c κs = few-ten (c .before .before .before .args .most) (c .before .before .before .args .bytes .now) (c .before .before .before .pre .0) (c .before .few-digits .ensures) (not-false _ (c .if1 .left))
 
 add-result-2 : tie.Need-add-result-2
 add-result-2 c = omega arith

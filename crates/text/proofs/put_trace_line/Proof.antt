@@ -1,9 +1,9 @@
 -- The pieces of the line, one after another.
 use native.Mathlib.Omega.{arith}
-use Rattle.compare_lines_spec.specs.Lines.{traceLine}
+use Rattle.text_spec.specs.Lines.{traceLine}
 use Rattle.text_spec.specs.AddsLaws.{adds-then}
-use Rattle.compare_lines.proofs.put_trace_line.Statement.{statement}
-use Rattle.compare_lines.proofs.put_trace_line.Tie as tie
+use Rattle.text.proofs.put_trace_line.Statement.{statement}
+use Rattle.text.proofs.put_trace_line.Tie as tie
 
 slice-aggregate-put : tie.Need-slice-aggregate-put
 slice-aggregate-put c = omega arith
