@@ -54,6 +54,13 @@ mustLoop = 0 ∷ 0 ∷ 0 ∷ 7 ∷ 1 ∷ 1 ∷ 1 ∷ 0 ∷ 1 ∷ 0 ∷ 1 ∷ []
 unfoldable pub stopped : List ℕ
 stopped = 0 ∷ 0 ∷ 0 ∷ 7 ∷ 1 ∷ 1 ∷ 1 ∷ 255 ∷ 1 ∷ 0 ∷ 0 ∷ []
 
+-- two nodes with two events: the first goes on with event 0 and stays with event 1, the second has no successor
+unfoldable pub ending : List ℕ
+ending =
+    0 ∷ 0 ∷ 0 ∷ 13 ∷ 1 ∷ 2 ∷ 2 ∷
+    1 ∷ 0 ∷ 1 ∷ 0 ∷ 3 ∷
+    255 ∷ 255 ∷ 1 ∷ 0 ∷ 0 ∷ []
+
 -- the sheet that is read of bytes, all 0 if they are refused
 unfoldable pub sheet : List ℕ → Sheet
 sheet b = readSheet b .sheet
