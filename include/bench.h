@@ -1,7 +1,7 @@
-/* The dialogue bench: sheets, probes, tests, comparisons, counts of scripts and tables of keypads. The functions are
- * those of the proved library libedge.a, which `rt staticlib edge` writes below target/staticlib. It is for Linux on
- * x86-64 and needs nothing but the C library, of which it calls memcpy and memset alone: it takes no memory but the
- * stack and what it is lent.
+/* The dialogue bench: sheets, probes, tests, comparisons, counts of scripts, tables of keypads and walks that can be
+ * repeated. The functions are those of the proved library libedge.a, which `rt staticlib edge` writes below
+ * target/staticlib. It is for Linux on x86-64 and needs nothing but the C library, of which it calls memcpy and memset
+ * alone: it takes no memory but the stack and what it is lent.
  *
  * An event is a number below E, a node a number below N. The catalogue code of an event says what the event is. A set
  * of events is a 16-bit number in which event i adds 2 to the power i. Every content of what is lent or handed over is
@@ -16,8 +16,8 @@
  * The stack that a call needs, measured on worst cases and rounded up, in bytes, with the copies of the sheets that are
  * handed over: bench_check and bench_read 9,000; bench_list 19,000; bench_judge and bench_judge_all 22,000; bench_open
  * 23,000; bench_step and bench_report 24,000; bench_compare 36,000; bench_count 62,000; bench_keypad and bench_find
- * 11,000. The compiled library has no recursion, so no call needs more for larger sheets, longer traces, longer scripts
- * or longer tables.
+ * 11,000; bench_walk 12,000. The compiled library has no recursion, so no call needs more for larger sheets, longer
+ * traces, longer scripts, longer tables or longer walks.
  */
 #ifndef BENCH_H
 #define BENCH_H
@@ -84,7 +84,9 @@ enum {
     BENCH_LONG_SCRIPT = 20,  /* a length of scripts above 16 */
     BENCH_BAD_TABLE = 21,    /* a keypad's table of no rule, of more than 64, or that ends inside one */
     BENCH_BAD_VALUE = 22,    /* a rule of the table has a value with a bit outside its mask */
-    BENCH_RULE_EVENT = 23    /* a rule of the table has an event that is not below E */
+    BENCH_RULE_EVENT = 23,   /* a rule of the table has an event that is not below E */
+    BENCH_SEED_ZERO = 27,    /* the seed of a walk is 0, a state that is followed by itself */
+    BENCH_LONG_WALK = 28     /* a list shorter than the wished length of a walk, or a wish over 4,096 */
 };
 
 /* What is kept of one node: its successor on each event, 255 for none; its minimal acceptances, strictly ascending; how
@@ -323,6 +325,29 @@ struct bench_found {
  * kept from an earlier check, so a lookup costs a check of the whole table. */
 struct bench_found bench_find(struct bench_sheet sheet, const uint8_t *table, size_t length, uint8_t code);
 
+/* The most events of a walk, and so the bytes of a list that suffices for any. */
+enum { BENCH_WALK_EVENTS = 4096 };
+
+/* What a walk answers: the refusal, 0 for none, and how many events the walk has, 0 if it is refused. */
+struct bench_walked {
+    uint8_t refusal;
+    uint16_t length;
+};
+
+/* Walks on a sheet from node 0 as a seed says, so that two sites with the same sheet, seed and wish get the same walk.
+ * The generator is xorshift32: its state, at first the seed, is combined by exclusive or with itself shifted left 13,
+ * then right 17, then left 5, dropping high bits; state 1 is followed by 270369. Each step takes the next state first,
+ * so that the seed itself chooses no event; then, of the m initials of the node reached, which are the events that have
+ * a successor there, ascending, it takes event number (state remainder m), counted from 0, and goes to its successor. A
+ * walk has `wish` events, or it ends early, at a node that has no initials. Acceptances and codes play no part. Every
+ * walk is a trace, and a shorter wish gives the front of the walk that a longer one gives. Handed over: a copy of the
+ * sheet, the seed, any but 0, and the wished length, 0 to BENCH_WALK_EVENTS. Lent: `length` bytes from `out` on.
+ * Answered: 0 and the walk's length; its events then stand at the front of the list, and the rest of the list is as it
+ * was, also between the walk's length and the wish; or the refusal (the sheet's; 27; 28), and the whole list is as it
+ * was. 28 counts against the wish and not against the walk: a list shorter than the wish is refused even if the walk
+ * would end early and have room. */
+struct bench_walked bench_walk(struct bench_sheet sheet, uint32_t seed, uint16_t wish, uint8_t *out, size_t length);
+
 /* The places of each struct, on which the library and its callers agree, held where the compiler can: from C11 and from
  * C++11 on. */
 #if defined(__cplusplus) && __cplusplus >= 201103L
@@ -357,6 +382,7 @@ BENCH_HOLDS(offsetof(struct bench_keypad, second) == 4);
 BENCH_HOLDS(sizeof(struct bench_found) == 6 && offsetof(struct bench_found, kind) == 1);
 BENCH_HOLDS(offsetof(struct bench_found, event) == 2 && offsetof(struct bench_found, code) == 3);
 BENCH_HOLDS(offsetof(struct bench_found, first) == 4 && offsetof(struct bench_found, second) == 5);
+BENCH_HOLDS(sizeof(struct bench_walked) == 4 && offsetof(struct bench_walked, length) == 2);
 #undef BENCH_HOLDS
 #endif
 

@@ -6,7 +6,7 @@ use Rattle.tests_spec.specs.Numbers.{Said, said}
 use Rattle.verdicts_spec.specs.Numbers.{Judgement, Suited}
 use Rattle.comparison_spec.specs.Numbers.{Compared}
 use Rattle.keypad_spec.specs.Numbers.{Keyed, Looked}
-use Rattle.edge.specs.Flat.{listedFlat, saidFlat, steppedFlat, judgedFlat, suitedFlat, comparedFlat, keyedFlat, lookedFlat}
+use Rattle.edge.specs.Flat.{listedFlat, saidFlat, steppedFlat, judgedFlat, suitedFlat, comparedFlat, keyedFlat, lookedFlat, walkedFlat}
 
 -- a probe list's answer: two numbers
 pub listed-crosses : (refusal count : ℕ) → (listedFlat (refusal, count) .refusal ≡ refusal) × (listedFlat (refusal, count) .count ≡ count)
@@ -49,3 +49,8 @@ pub looked-crosses : (a : Looked)
     × (lookedFlat a .first ≡ a .first) × (lookedFlat a .second ≡ a .second)
 unfolding lookedFlat
 looked-crosses a = (refl, refl, refl, refl, refl, refl)
+
+-- a walk's answer: two numbers
+pub walked-crosses : (refusal length : ℕ) → (walkedFlat (refusal, length) .refusal ≡ refusal) × (walkedFlat (refusal, length) .length ≡ length)
+unfolding walkedFlat
+walked-crosses refusal length = (refl, refl)

@@ -19,11 +19,13 @@ ghost use Rattle.comparison_spec.specs.Numbers.{compared};
 ghost use Rattle.scripts_spec.specs.Scripts.{scriptsOf};
 ghost use Rattle.keypad_spec.specs.Calls.{keypadOf, foundOf};
 ghost use Rattle.keypad_spec.specs.Numbers.{keyed, looked};
+ghost use Rattle.load_spec.specs.Calls.{walkedNumbers, walkedOf, walkAfter};
 ghost use Rattle.edge.specs.Flat.{reportFlat, listedFlat, saidFlat, steppedFlat, judgedFlat, suitedFlat, comparedFlat};
-ghost use Rattle.edge.specs.Flat.{keyedFlat, lookedFlat};
+ghost use Rattle.edge.specs.Flat.{keyedFlat, lookedFlat, walkedFlat};
 use comparison_spec::Outcome;
 use keypad_spec::Found;
 use keypad_spec::Keypad;
+use load_spec::Walked;
 use probes_spec::Listed;
 use scripts_spec::Scripts;
 use sheet_spec::ReadSheet;
@@ -494,4 +496,40 @@ pub extern "C" fn bench_find(sheet: Sheet, table: &[u8], code: u8) -> BenchFound
 {
     let found = keypad::find(sheet, table, code);
     looked_flat(found)
+}
+
+// ---- walks
+
+// The answer of a walk: the refusal, 0 for none, and the walk's length.
+#[repr(C)]
+pub struct BenchWalked {
+    pub refusal: u8,
+    pub length: u16,
+}
+
+// The numbers of a walk's answer.
+fn walked_flat(a: Walked) -> BenchWalked
+    ensures { λ r. ⌜ r ≡ walkedFlat (walkedNumbers a) ⌝ }
+{
+    match a {
+        Walked::Length(l) => BenchWalked {
+            refusal: 0,
+            length: l,
+        },
+        Walked::Denied(k) => BenchWalked {
+            refusal: k,
+            length: 0,
+        },
+    }
+}
+
+// Writes the walk of a seed, of at most `wish` events, to the front of the lent list and answers its length; or the
+// number of the refusal, and the list is as it was.
+#[no_mangle]
+pub extern "C" fn bench_walk(sheet: Sheet, seed: u32, wish: u16, out: &mut [u8]) -> BenchWalked
+    ensures { λ r. ⌜ (r ≡ walkedFlat (walkedNumbers (walkedOf sheet seed wish (now (out .entry)))))
+        × (now (out .exit) ≡ walkAfter sheet seed wish (now (out .entry))) ⌝ }
+{
+    let answer = load::walk(sheet, seed, wish, out);
+    walked_flat(answer)
 }
