@@ -1,8 +1,7 @@
 -- Nothing to believe: 01's cases (P) as one table, to be read beside 01 and in its order: each row is a call or a whole
 -- run, beside it stand the numbers that it answers, and one equation has them all. Comments that begin with 01 have the
--- words of its case. The rows that are for a request of 02 name it (K1 to K7). Sheets come as bytes,
--- through the definition of reading. The rows compute through the definitions that the contracts cite, the probe lists
--- among them.
+-- words of its case. The rows that are for a request of 02 name it (K1 to K7, K9). Sheets come as bytes, through the
+-- definition of reading. The rows compute through the definitions that the contracts cite, the probe lists among them.
 use mathlib.Core.Path.{_≡_, refl, sym, ap₂, _∙_}
 use mathlib.Core.Bool.{Bool, true, false}
 use mathlib.Core.List.{List, [], _∷_, _++_, map, map-append}
@@ -17,6 +16,7 @@ use Rattle.base.specs.Joined.{joined}
 use Rattle.events.specs.Bit.{bit, setOf}
 use Rattle.events.specs.Sets.{has, inside, meets, insert}
 use Rattle.events.specs.Size.{size}
+use Rattle.events.specs.Lists.{eventsIn}
 use Rattle.walks.specs.Graph.{walk}
 use Rattle.walks.specs.Reach.{nearer, leads}
 use Rattle.walks.specs.Near.{meetsIn, distance, later, choice, leastFrom, leastTrace}
@@ -52,7 +52,10 @@ use Rattle.scripts_spec.specs.Scripts.{beginning, countFrom, countOf, scriptsFa
 use Rattle.keypad_spec.specs.Tables.{matches, matchCount, badCode, matchFrom, badAnswer, tableAnswer}
 use Rattle.keypad_spec.specs.Calls.{sizeOk, valuesOk, eventsOk, tableFault, keypadFault, keypadOf, foundFrom, foundOf}
 use Rattle.keypad_spec.specs.Numbers.{Keyed, keyed, Looked, looked}
-use Rattle.sheet_spec.specs.Examples.{exampleReference, exampleDevice, codedReference, codedDevice, onlyZero, onlyOne, mayLoop, mustLoop, stopped, sheet}
+use Rattle.load_spec.specs.Xorshift.{shiftedLeft, shiftedRight, mixedLeft, mixedRight, nextState}
+use Rattle.load_spec.specs.Walks.{initialsAt, drawn, walkFrom, walkOf}
+use Rattle.load_spec.specs.Calls.{seedOk, wishOk, walkFault, walkedNumbers, walkedOf, walkAfter}
+use Rattle.sheet_spec.specs.Examples.{exampleReference, exampleDevice, codedReference, codedDevice, onlyZero, onlyOne, mayLoop, mustLoop, stopped, ending, sheet}
 
 -- a row of the table
 pub data Case : Type 0 where
@@ -83,6 +86,8 @@ pub data Case : Type 0 where
   keying : List ℕ → List ℕ → Case
   -- a lookup of a code in a keypad's table with a sheet (02, K6)
   looking : List ℕ → List ℕ → ℕ → Case
+  -- the walk of a seed on a sheet for a wished length, in a lent list of so many places that hold 9 (02, K9)
+  walking : List ℕ → ℕ → ℕ → ℕ → Case
 
 -- sets below 256 as bytes, two for each
 unfoldable pub setBytes : List ℕ → List ℕ
@@ -167,6 +172,10 @@ keyedNumbers a = a .refusal ∷ a .kind ∷ a .code ∷ a .first ∷ a .second �
 unfoldable pub lookedNumbers : Looked → List ℕ
 lookedNumbers a = a .refusal ∷ a .kind ∷ a .event ∷ a .code ∷ a .first ∷ a .second ∷ []
 
+-- the numbers of a walk: the refusal, its length, and what the lent list then holds
+unfoldable pub walkNumbers : Sheet → ℕ → ℕ → List ℕ → List ℕ
+walkNumbers s seed wish out = walkedNumbers (walkedOf s seed wish out) .0 ∷ walkedNumbers (walkedOf s seed wish out) .1 ∷ walkAfter s seed wish out
+
 -- the first n of the 64 rules that each match four codes: mask 252, values 0, 4, 8 and so on, event 1
 unfoldable pub rules : ℕ → List ℕ
 rules n = joined (λ i. 252 ∷ 4 * i ∷ 1 ∷ []) n
@@ -186,6 +195,7 @@ numbersOf (pairing P codes Q others) = pairNumbers (keptWith P codes) (keptWith 
 numbersOf (counting P Q L) = scriptsNumbers (scriptsOf (sheet P) (sheet Q) L)
 numbersOf (keying b table) = keyedNumbers (keyed (keypadOf (sheet b) table))
 numbersOf (looking b table c) = lookedNumbers (looked (foundOf (sheet b) table c))
+numbersOf (walking b seed wish places) = walkNumbers (sheet b) seed wish (replicate places 9)
 
 -- the numbers of a kept node with these successors and these sets: unused successors are 255, unused sets 0, then C
 unfoldable pub keptNode : List ℕ → List ℕ → List ℕ
@@ -623,9 +633,51 @@ rowsOfKeypads =
     ∷ (looking exampleReference (128 ∷ 1 ∷ 0 ∷ []) 5, 22 ∷ 0 ∷ 0 ∷ 0 ∷ 0 ∷ 0 ∷ [])
     ∷ []
 
+-- the rows of walks
+unfoldable pub rowsOfWalks : List (Case × List ℕ)
+rowsOfWalks =
+    -- 02, K9: 01's reference and device, and the highest seed: each step takes the next state first, so that seed 1
+    -- takes 270369 remainder 2 = 1; the rest of the list is as it was
+    (walking exampleReference 1 8 10, 0 ∷ 8 ∷ 1 ∷ 1 ∷ 1 ∷ 1 ∷ 1 ∷ 0 ∷ 0 ∷ 0 ∷ 9 ∷ 9 ∷ [])
+    ∷ (walking exampleDevice 1 8 8, 0 ∷ 8 ∷ 1 ∷ 1 ∷ 0 ∷ 1 ∷ 1 ∷ 0 ∷ 0 ∷ 0 ∷ [])
+    ∷ (walking exampleDevice 4294967295 8 8, 0 ∷ 8 ∷ 1 ∷ 1 ∷ 0 ∷ 0 ∷ 1 ∷ 0 ∷ 0 ∷ 1 ∷ [])
+    -- 02, K9: a shorter wish gives the front of a longer walk; the codes play no part
+    ∷ (walking exampleReference 1 6 7, 0 ∷ 6 ∷ 1 ∷ 1 ∷ 1 ∷ 1 ∷ 1 ∷ 0 ∷ 9 ∷ [])
+    ∷ (walking codedReference 1 6 7, 0 ∷ 6 ∷ 1 ∷ 1 ∷ 1 ∷ 1 ∷ 1 ∷ 0 ∷ 9 ∷ [])
+    -- 02, K9: of the initials alone, ascending: the one that there is, whichever its number; of three, numbers 0, 1, 2
+    ∷ (walking onlyZero 1 3 3, 0 ∷ 3 ∷ 0 ∷ 0 ∷ 0 ∷ [])
+    ∷ (walking onlyOne 1 3 3, 0 ∷ 3 ∷ 1 ∷ 1 ∷ 1 ∷ [])
+    ∷ (walking (accepting (1 ∷ [])) 1 8 8, 0 ∷ 8 ∷ 0 ∷ 1 ∷ 0 ∷ 2 ∷ 2 ∷ 1 ∷ 1 ∷ 0 ∷ [])
+    -- 02, K9: of five, and of twelve, each in its turn, with the highest seed
+    ∷ (walking (looping 5 (1 ∷ [])) 1 8 8, 0 ∷ 8 ∷ 4 ∷ 4 ∷ 1 ∷ 0 ∷ 3 ∷ 4 ∷ 2 ∷ 0 ∷ [])
+    ∷ (walking (looping 12 (1 ∷ [])) 4294967295 8 8, 0 ∷ 8 ∷ 3 ∷ 11 ∷ 3 ∷ 10 ∷ 5 ∷ 0 ∷ 0 ∷ 11 ∷ [])
+    -- 02, K9: a walk ends early where there are no initials, and the list from there on, below the wish too, is as it
+    -- was; at the start too
+    ∷ (walking ending 1 8 9, 0 ∷ 6 ∷ 1 ∷ 1 ∷ 1 ∷ 1 ∷ 1 ∷ 0 ∷ 9 ∷ 9 ∷ 9 ∷ [])
+    ∷ (walking ending 2 8 8, 0 ∷ 1 ∷ 0 ∷ 9 ∷ 9 ∷ 9 ∷ 9 ∷ 9 ∷ 9 ∷ 9 ∷ [])
+    ∷ (walking ending 1 5 5, 0 ∷ 5 ∷ 1 ∷ 1 ∷ 1 ∷ 1 ∷ 1 ∷ [])
+    ∷ (walking stopped 7 3 3, 0 ∷ 0 ∷ 9 ∷ 9 ∷ 9 ∷ [])
+    -- 02, K9: no event wished, with and without a list
+    ∷ (walking exampleReference 1 0 2, 0 ∷ 0 ∷ 9 ∷ 9 ∷ [])
+    ∷ (walking exampleReference 1 0 0, 0 ∷ 0 ∷ [])
+    -- 02, K9: seed 0 is refused with 27, and then a list shorter than the wish, however short the walk, or a wish over
+    -- 4,096, with 28
+    ∷ (walking exampleReference 0 2 2, 27 ∷ 0 ∷ 9 ∷ 9 ∷ [])
+    ∷ (walking exampleReference 0 3 2, 27 ∷ 0 ∷ 9 ∷ 9 ∷ [])
+    ∷ (walking exampleReference 0 4097 0, 27 ∷ 0 ∷ [])
+    ∷ (walking exampleReference 1 3 2, 28 ∷ 0 ∷ 9 ∷ 9 ∷ [])
+    ∷ (walking ending 2 5 3, 28 ∷ 0 ∷ 9 ∷ 9 ∷ 9 ∷ [])
+    ∷ (walking stopped 7 1 0, 28 ∷ 0 ∷ [])
+    ∷ (walking exampleReference 1 4097 2, 28 ∷ 0 ∷ 9 ∷ 9 ∷ [])
+    ∷ (walking exampleReference 1 65535 0, 28 ∷ 0 ∷ [])
+    -- 02, K9: the sheet's own refusal comes first: that of a refused reading, all 0, is 3
+    ∷ (walking [] 0 1 0, 3 ∷ 0 ∷ [])
+    ∷ (walking [] 1 1 1, 3 ∷ 0 ∷ 9 ∷ [])
+    ∷ []
+
 -- the whole table
 unfoldable pub table : List (Case × List ℕ)
-table = rowsOf01 ++ (rowsOf02 ++ rowsOfKeypads)
+table = rowsOf01 ++ (rowsOf02 ++ (rowsOfKeypads ++ rowsOfWalks))
 
 -- each of some rows answers the numbers beside it
 abbrev pub Hold : List (Case × List ℕ) → Type 0
@@ -648,7 +700,13 @@ rows-keypads : Hold rowsOfKeypads
 unfolding numbersOf rowsOfKeypads sheet exampleReference mayLoop readSheet answer bytesFault headFault lengthField layoutFault nextAt startOf succOf setsOf rowAt rowOf sheetOf graphFault rangesOk countOk countsOk successorsOk rowSuccessorsOk successorOk setsOk rowSetsOk setOk ascends noneInside blank unusedOk blanksOk reachedOk sheetFault successor acceptance acceptances initials mayStop step bit has inside meets setOf nearer leads all any first count upTo joined codesFault nodesAt codeOf codesOk codeNew codesBlank keyedNumbers lookedNumbers rules keyed looked foundOf foundFrom keypadOf keypadFault tableFault sizeOk valuesOk eventsOk tableAnswer badAnswer badCode matchCount matchFrom matches
 rows-keypads = refl
 
+rows-walks : Hold rowsOfWalks
+unfolding numbersOf rowsOfWalks accepting looping setBytes sheet exampleReference exampleDevice codedReference onlyZero onlyOne stopped ending readSheet answer bytesFault headFault lengthField layoutFault nextAt startOf succOf setsOf rowAt rowOf sheetOf graphFault rangesOk countOk countsOk successorsOk rowSuccessorsOk successorOk setsOk rowSetsOk setOk ascends noneInside blank unusedOk blanksOk reachedOk sheetFault successor acceptance acceptances initials mayStop step bit has inside meets setOf nearer leads all any upTo gather select codesFault nodesAt codeOf codesOk codeNew codesBlank walkNumbers walkedNumbers walkedOf walkAfter walkFault seedOk wishOk walkOf walkFrom drawn initialsAt eventsIn nextState mixedLeft mixedRight shiftedLeft shiftedRight
+rows-walks = refl
+
 -- every row answers what 01 and 02 say
 pub cases-hold : Hold table
 unfolding table
-cases-hold = holds-both rowsOf01 (rowsOf02 ++ rowsOfKeypads) rows-01 (holds-both rowsOf02 rowsOfKeypads rows-02 rows-keypads)
+cases-hold =
+    holds-both rowsOf01 (rowsOf02 ++ (rowsOfKeypads ++ rowsOfWalks)) rows-01
+    (holds-both rowsOf02 (rowsOfKeypads ++ rowsOfWalks) rows-02 (holds-both rowsOfKeypads rowsOfWalks rows-keypads rows-walks))
