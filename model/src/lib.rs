@@ -1,4 +1,5 @@
-//! A plain model of the dialogue bench: sheets, probes, tests, comparisons, scripts and keypads.
+//! A plain model of the dialogue bench: sheets, probes, tests, comparisons, scripts, keypads and
+//! walks.
 //!
 //! Everything here follows the written definitions as directly as possible.
 //! Speed is given up wherever it would need a cleverer argument.
@@ -7,6 +8,7 @@ pub mod comparison;
 pub mod examples;
 pub mod faults;
 pub mod keypad;
+pub mod load;
 pub mod numbers;
 pub mod planted;
 pub mod probes;

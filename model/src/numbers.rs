@@ -3,6 +3,7 @@
 
 use crate::comparison::{compare_into, Named, Outcome};
 use crate::keypad::{self, Bad, Checked, Looked};
+use crate::load;
 use crate::probes::fill;
 use crate::scripts::{count, Counts};
 use crate::sheet::Sheet;
@@ -76,6 +77,14 @@ pub struct Found {
     pub code: u8,
     pub first: u8,
     pub second: u8,
+}
+
+/// The answer of a walk: the refusal, 0 for none, and how many events it has.
+#[repr(C)]
+#[derive(Clone, Copy, PartialEq, Eq, Debug)]
+pub struct Walked {
+    pub refusal: u8,
+    pub length: u16,
 }
 
 /// An answer to an opening or a report: the refusal, 0 for none; which case it is, 0 for a
@@ -344,6 +353,14 @@ pub fn looked(answer: Result<Looked, u8>) -> Found {
     }
 }
 
+/// The numbers of a walk's answer.
+pub fn walked(answer: Result<usize, u8>) -> Walked {
+    Walked {
+        refusal: answer.err().unwrap_or(0),
+        length: answer.map_or(0, |length| length as u16),
+    }
+}
+
 /// The probe call in numbers.
 pub fn list_numbers(sheet: &Sheet, node: u8, lent: &mut [u16]) -> Listed {
     listed(fill(sheet, node, lent))
@@ -388,4 +405,9 @@ pub fn keypad_numbers(sheet: &Sheet, table: &[u8]) -> Keypad {
 /// The lookup in numbers.
 pub fn find_numbers(sheet: &Sheet, table: &[u8], code: u8) -> Found {
     looked(keypad::find(sheet, table, code))
+}
+
+/// The walk call in numbers.
+pub fn walk_numbers(sheet: &Sheet, seed: u32, wish: u16, lent: &mut [u8]) -> Walked {
+    walked(load::fill(sheet, seed, wish, lent))
 }

@@ -1,13 +1,14 @@
 //! The variants in which faults are planted answer as the plain model does where no fault
 //! is planted, and each fault of a probe list, of a run, of a verdict, of all verdicts, of a
-//! comparison, of a count of scripts, of a rule table and of a text shows on some input. The random
-//! comparison with the library looks for the faults of every call.
+//! comparison, of a count of scripts, of a rule table, of a walk and of a text shows on some input.
+//! The random comparison with the library looks for the faults of every call.
 
 use model::comparison::{compare_into, Outcome, MAX_WORDS};
 use model::examples::program_pair;
 use model::keypad::{self, table_of};
 use model::numbers::{
-    count_numbers, find_numbers, judged, keypad_numbers, listed, step_numbers, Record, Suited,
+    count_numbers, find_numbers, judged, keypad_numbers, listed, step_numbers, walk_numbers,
+    Record, Suited,
 };
 use model::planted::comparisons::{compare_with, CompareFault};
 use model::planted::keypads::{
@@ -25,12 +26,14 @@ use model::planted::text::probe_list::ProbeTextFault;
 use model::planted::text::script_counts::ScriptTextFault;
 use model::planted::text::show::ShowFault;
 use model::planted::text::suite::SuiteTextFault;
+use model::planted::text::walk::WalkTextFault;
 use model::planted::verdicts::{verdict_with, VerdictFault};
+use model::planted::walks::{walk_with, WalkFault};
 use model::probes::{fill, list};
 use model::random::*;
 use model::sheet::{check, Sheet};
 use model::tests::{open, step, Report, Run};
-use model::text::{compare, keypad_check, live, probe_list, script_counts, show, suite};
+use model::text::{compare, keypad_check, live, probe_list, script_counts, show, suite, walk};
 use model::verdict::{verdict, verdicts};
 
 #[test]
@@ -312,6 +315,45 @@ fn every_fault_of_a_rule_table_shows() {
     assert_eq!((hidden, hidden_lookups), (vec![], vec![]));
 }
 
+/// A sheet, at times one that is refused, a seed, a wish and a lent list with any content.
+fn wished_walk(rng: &mut Rng, round: usize) -> (Sheet, u32, u16, Vec<u8>) {
+    let sheet = match round % 6 {
+        0 => kept_twice(rng),
+        _ => walk_sheet(rng),
+    };
+    let (seed, wish) = (walk_seed(rng), walk_wish(rng));
+    let lent = (0..walk_places(rng, wish)).map(|_| rng.byte()).collect();
+    (sheet, seed, wish, lent)
+}
+
+#[test]
+fn no_fault_in_walks() {
+    let mut rng = Rng::new(148);
+    for round in 0..1_500 {
+        let (sheet, seed, wish, mut lent) = wished_walk(&mut rng, round);
+        let mut other = lent.clone();
+        let plain = walk_numbers(&sheet, seed, wish, &mut lent);
+        let planted = walk_with(WalkFault::None, &sheet, seed, wish, &mut other);
+        assert_eq!((plain, lent), (planted, other));
+    }
+}
+
+#[test]
+fn every_fault_of_a_walk_shows() {
+    let mut rng = Rng::new(149);
+    let mut hidden = WalkFault::ALL.to_vec();
+    for round in 0..1_500 {
+        let (sheet, seed, wish, lent) = wished_walk(&mut rng, round);
+        let played = |fault| {
+            let mut list = lent.clone();
+            (walk_with(fault, &sheet, seed, wish, &mut list), list)
+        };
+        let plain = played(WalkFault::None);
+        hidden.retain(|&fault| played(fault) == plain);
+    }
+    assert_eq!(hidden, []);
+}
+
 #[test]
 fn every_fault_of_a_verdict_shows() {
     let mut rng = Rng::new(94);
@@ -470,6 +512,20 @@ fn every_fault_of_the_text_of_keypads_shows() {
         let planted = text::keypad_check::output_with(KeypadTextFault::None, &call);
         assert_eq!(plain, planted);
         hidden.retain(|&fault| text::keypad_check::output_with(fault, &call) == plain);
+    }
+    assert_eq!(hidden, []);
+}
+
+#[test]
+fn every_fault_of_the_text_of_walks_shows() {
+    let mut rng = Rng::new(150);
+    let mut hidden = WalkTextFault::ALL.to_vec();
+    for round in 0..3_000 {
+        let call = walk_call(&mut rng, round);
+        let plain = walk::output(&call);
+        let planted = text::walk::output_with(WalkTextFault::None, &call);
+        assert_eq!(plain, planted);
+        hidden.retain(|&fault| text::walk::output_with(fault, &call) == plain);
     }
     assert_eq!(hidden, []);
 }

@@ -3,10 +3,10 @@
 use std::fs::{read, read_dir, read_to_string};
 use std::path::{Path, PathBuf};
 
-use model::text::{compare, keypad_check, probe_list, script_counts, show, suite};
+use model::text::{compare, keypad_check, probe_list, script_counts, show, suite, walk};
 
 /// How the names of the texts beside a file go on after its own name and some letters: a length of
-/// scripts, or nothing or `_` and a code of a keypad.
+/// scripts, nothing or `_` and a code of a keypad, or a seed, `_` and a length of a walk.
 fn beside(file: &Path, letters: &str) -> Vec<String> {
     let stem = file.with_extension(letters).display().to_string();
     let folder = files(file.parent().expect("a folder"), "");
@@ -58,6 +58,21 @@ fn sheet_texts(reference: &[u8], file: &Path) -> usize {
     4 + lengths.len()
 }
 
+/// The texts of the walks on a sheet: with the seed S and the length L in NAME.walk_S_L. How many
+/// there are.
+fn walk_texts(file: &Path) -> usize {
+    let bytes = read(file).expect("a sheet");
+    let ends = beside(file, "walk_");
+    for end in &ends {
+        let call = walk::Call {
+            input: bytes.clone(),
+            words: end.split('_').map(String::from).collect(),
+        };
+        held(file, &format!("walk_{end}"), walk::output(&call));
+    }
+    ends.len()
+}
+
 /// The texts of a rule table on the reference: without a code in NAME.keypad, with the code N in
 /// NAME.keypad_N. How many there are; a table has one at least.
 fn table_texts(reference: &[u8], file: &Path) -> usize {
@@ -78,10 +93,13 @@ fn table_texts(reference: &[u8], file: &Path) -> usize {
     ends.len()
 }
 
-/// Whether a file is a text of a rule table.
-fn is_keypad(file: &Path) -> bool {
-    let end = file.extension().map(|end| end.to_string_lossy());
-    end.is_some_and(|end| end.starts_with("keypad"))
+/// How many texts of a folder have names whose ending begins with some letters.
+fn there(folder: &Path, letters: &str) -> usize {
+    let begins = |file: &&PathBuf| {
+        let end = file.extension().map(|end| end.to_string_lossy());
+        end.is_some_and(|end| end.starts_with(letters))
+    };
+    files(folder, "").iter().filter(begins).count()
 }
 
 #[test]
@@ -90,19 +108,19 @@ fn the_samples() {
     let mut texts = 0;
     for folder in files(&samples, "") {
         let reference = read(folder.join("reference.sheet")).expect("a reference");
-        for file in files(&folder, ".sheet") {
-            texts += sheet_texts(&reference, &file);
+        let sheets = files(&folder, ".sheet");
+        for file in &sheets {
+            texts += sheet_texts(&reference, file);
         }
+        let walks: usize = sheets.iter().map(|file| walk_texts(file)).sum();
+        assert_eq!(walks, there(&folder, "walk"), "a text without its sheet");
         let tables = files(&folder, ".table");
         let held: usize = tables
             .iter()
             .map(|file| table_texts(&reference, file))
             .sum();
-        let there = files(&folder, "")
-            .into_iter()
-            .filter(|file| is_keypad(file));
-        assert_eq!(held, there.count(), "a text without its table");
-        texts += held;
+        assert_eq!(held, there(&folder, "keypad"), "a text without its table");
+        texts += walks + held;
     }
     assert!(texts >= 75, "{texts}");
 }
@@ -152,4 +170,13 @@ code 200 event 1
         words: vec!["200".to_string()],
     };
     assert_eq!(keypad_check::output(&call), looked);
+    let walked = "sheet 2 nodes 2 events
+walked 6 of 6
+trace 1 1 1 1 1 0
+";
+    let call = walk::Call {
+        input: sheet.to_vec(),
+        words: vec!["1".to_string(), "6".to_string()],
+    };
+    assert_eq!(walk::output(&call), walked);
 }

@@ -4,7 +4,7 @@ use std::mem::{offset_of, size_of};
 
 use model::faults::ReadAnswer;
 use model::numbers::{
-    Compared, Found, Judged, Keypad, Listed, Record, Said, Scripts, Stepped, Suited,
+    Compared, Found, Judged, Keypad, Listed, Record, Said, Scripts, Stepped, Suited, Walked,
 };
 use model::sheet::{Row, Sheet};
 
@@ -45,6 +45,7 @@ const _: () = assert!(offset_of!(Keypad, second) == 4);
 const _: () = assert!(size_of::<Found>() == 6 && offset_of!(Found, kind) == 1);
 const _: () = assert!(offset_of!(Found, event) == 2 && offset_of!(Found, code) == 3);
 const _: () = assert!(offset_of!(Found, first) == 4 && offset_of!(Found, second) == 5);
+const _: () = assert!(size_of::<Walked>() == 4 && offset_of!(Walked, length) == 2);
 
 extern "C" {
     fn bench_read(bytes: *const u8, length: usize) -> ReadSheet;
@@ -73,6 +74,7 @@ extern "C" {
     fn bench_count(reference: Sheet, device: Sheet, length: u16) -> Scripts;
     fn bench_keypad(sheet: Sheet, table: *const u8, length: usize) -> Keypad;
     fn bench_find(sheet: Sheet, table: *const u8, length: usize, code: u8) -> Found;
+    fn bench_walk(sheet: Sheet, seed: u32, wish: u16, out: *mut u8, length: usize) -> Walked;
 }
 
 /// Reads a sheet: 0 and the kept sheet, or the refusal and zeros.
@@ -165,4 +167,10 @@ pub fn keypad(sheet: &Sheet, table: &[u8]) -> Keypad {
 pub fn find(sheet: &Sheet, table: &[u8], code: u8) -> Found {
     // Sound: the slice is lent for the call, and the library is proved to read inside it.
     unsafe { bench_find(*sheet, table.as_ptr(), table.len(), code) }
+}
+
+/// Writes the walk that a seed makes on a sheet to a lent list.
+pub fn walk(sheet: &Sheet, seed: u32, wish: u16, out: &mut [u8]) -> Walked {
+    // Sound: the slice is lent for the call, and the library is proved to write inside it.
+    unsafe { bench_walk(*sheet, seed, wish, out.as_mut_ptr(), out.len()) }
 }

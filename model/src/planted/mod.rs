@@ -1,5 +1,5 @@
-//! One-fault variants of the calls on probes, runs, verdicts, comparisons, scripts and keypads, and
-//! of the texts. With the fault `None` each of them answers as the plain model does.
+//! One-fault variants of the calls on probes, runs, verdicts, comparisons, scripts, keypads and
+//! walks, and of the texts. With the fault `None` each of them answers as the plain model does.
 
 mod codes;
 pub mod comparisons;
@@ -10,6 +10,7 @@ pub mod scripts;
 pub mod suites;
 pub mod text;
 pub mod verdicts;
+pub mod walks;
 
 /// The faults of a call, in the order in which they are planted; `None` is not among them.
 macro_rules! faults {

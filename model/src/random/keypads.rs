@@ -397,8 +397,8 @@ fn other_input(rng: &mut Rng, aim: u64, good: Vec<u8>) -> Vec<u8> {
 }
 
 /// An input that ends near the most bytes that are read: one sheet, whose length field leads near
-/// there, or a good sheet and a table.
-fn around_most(rng: &mut Rng, good: Vec<u8>) -> Vec<u8> {
+/// there, or a good sheet and other bytes.
+pub(super) fn around_most(rng: &mut Rng, good: Vec<u8>) -> Vec<u8> {
     let end = rng.range(MAX_INPUT - 2, MAX_INPUT + 2);
     let mut bytes = match rng.one_in(4) {
         true => good,

@@ -1,5 +1,5 @@
-//! A small deterministic generator, and random sheets, codes, bytes, lists, runs, scripts, pairs and
-//! rule tables.
+//! A small deterministic generator, and random sheets, codes, bytes, lists, runs, scripts, pairs,
+//! rule tables and walks.
 
 mod codes;
 mod damage;
@@ -11,6 +11,7 @@ mod pairs;
 mod raw;
 mod runs;
 mod scripts;
+mod walks;
 
 pub use codes::{random_codes, recoded, spelled};
 pub use damage::{damaged, damaged_twice, long_bytes, noise_bytes, AIMS_READ};
@@ -27,6 +28,10 @@ pub use raw::{
 };
 pub use runs::{random_record, random_report};
 pub use scripts::{script_call, script_length};
+pub use walks::{
+    climbing_sheet, ending_sheet, some_seed, some_wish, still_sheet, walk_call, walk_places,
+    walk_seed, walk_sheet, walk_wish,
+};
 
 /// splitmix64.
 #[derive(Clone, Copy, PartialEq, Eq, Debug)]

@@ -7,6 +7,7 @@ pub mod probe_list;
 pub mod script_counts;
 pub mod show;
 pub mod suite;
+pub mod walk;
 
 use crate::sheet::{read, Sheet};
 
@@ -70,8 +71,13 @@ fn sheet_refused(number: u8) -> String {
 
 /// A number of one to five digits up to 65,535.
 fn number(word: &str) -> Option<u16> {
+    value(word, 5).and_then(|value| u16::try_from(value).ok())
+}
+
+/// The value of a word of one to `most` digits, few enough for 64 bits.
+fn value(word: &str, most: usize) -> Option<u64> {
     let digits = word.bytes().all(|byte| byte.is_ascii_digit());
-    if !digits || !matches!(word.len(), 1..=5) {
+    if !digits || !(1..=most).contains(&word.len()) {
         return None;
     }
     word.parse().ok()

@@ -9,6 +9,7 @@ mod sheets;
 mod suites;
 mod texts;
 mod verdicts;
+mod walks;
 
 use std::collections::BTreeSet;
 
@@ -19,7 +20,7 @@ use crate::findings::Findings;
 use crate::play::Part;
 
 /// Every part, in the order in which they are played.
-pub static ALL: [Part; 15] = [
+pub static ALL: [Part; 17] = [
     sheets::PART,
     probes::PART,
     runs::PART,
@@ -28,6 +29,7 @@ pub static ALL: [Part; 15] = [
     comparisons::PART,
     scripts::PART,
     keypads::PART,
+    walks::PART,
     texts::compare::PART,
     texts::suite::PART,
     texts::show::PART,
@@ -35,6 +37,7 @@ pub static ALL: [Part; 15] = [
     texts::live::PART,
     texts::script_counts::PART,
     texts::keypad_check::PART,
+    texts::walk::PART,
 ];
 
 /// 01's mistakes that a good bench hand makes: the name under which each is planted, in every

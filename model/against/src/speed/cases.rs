@@ -5,14 +5,15 @@ use std::hint::black_box;
 
 use model::comparison::{MAX_WORDS, WORDS_A_PAIR};
 use model::keypad::{MAX_RULES, RULE_BYTES};
+use model::load::MAX_WALK;
 use model::numbers::{Record, EVENT, GOOD, OVERLAP, REFUSAL, STRAY};
 use model::scripts::MAX_SCRIPT;
 use model::sheet::{encode, Sheet, MAX_BYTES};
 use model::tests::MAX_TEST;
 
-use super::inputs::{crowded, dense, fours, last_bad, longest, refusing, spread};
+use super::inputs::{crowded, dense, fours, last_bad, longest, refusing, sparse, spread};
 use super::tables::Tables;
-use super::{keypads, pairs, runs, same, scripts, tables};
+use super::{keypads, pairs, runs, same, scripts, tables, walks};
 use crate::edge;
 
 /// One side of a case: a call whose answer nobody needs.
@@ -58,6 +59,8 @@ pub fn worst() -> Vec<Case> {
     cases.push(counting("a quarter missing", spread(true)));
     cases.extend(rule_table("good", sheet, fours()));
     cases.extend(rule_table("bad at 255", sheet, last_bad()));
+    cases.push(walking("12 initials", spread(false).0));
+    cases.push(walking("2 initials", sparse()));
     cases
 }
 
@@ -279,6 +282,21 @@ fn rule_table(case: &str, sheet: Sheet, table: Vec<u8>) -> Vec<Case> {
             plain: used(move || keypads::find(black_box(&again), black_box(&copied), 255)),
         },
     ]
+}
+
+/// A walk of 4,096 events, with a list that is just long enough.
+fn walking(case: &str, sheet: Sheet) -> Case {
+    let (seed, places) = (1, usize::from(MAX_WALK));
+    let answer = same::walk(&sheet, seed, MAX_WALK, places);
+    assert_eq!((answer.refusal, answer.length), (0, MAX_WALK));
+    let tables = Tables::of(&sheet);
+    let (mut out, mut other) = (vec![0; places], vec![0; places]);
+    Case {
+        call: "walk",
+        case: format!("{MAX_WALK} events, {} nodes, {case}", sheet.n),
+        ours: used(move || edge::walk(black_box(&sheet), seed, MAX_WALK, &mut out)),
+        plain: used(move || walks::walk(black_box(&tables), seed, MAX_WALK, &mut other)),
+    }
 }
 
 /// The growth over p q: for each of some sizes the pairs, the comparison and the verdict on

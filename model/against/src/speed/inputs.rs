@@ -103,6 +103,22 @@ pub fn spread(gaps: bool) -> (Sheet, Sheet) {
     (sheet(), sheet())
 }
 
+/// A sheet of 32 nodes with 12 events, of which each node can do two: one leads to the next node,
+/// one to any.
+pub fn sparse() -> Sheet {
+    let mut rng = Rng::new(3);
+    let node = |v: u8| {
+        let mut succ = [NO_NODE; MAX_EVENTS];
+        let mut events: Vec<usize> = (0..MAX_EVENTS).collect();
+        rng.shuffle(&mut events);
+        succ[events[0]] = (v + 1) % MAX_NODES as u8;
+        succ[events[1]] = rng.below(MAX_NODES) as u8;
+        (succ, vec![1 << events[0] | 1 << events[1]])
+    };
+    let nodes: Vec<Node> = (0..MAX_NODES as u8).map(node).collect();
+    Sheet::build(MAX_EVENTS as u8, &nodes)
+}
+
 /// A reference and a device of `n` nodes each whose nearest violation, a stray, comes after
 /// n n - 1 events: the device climbs on event 0 and goes from its last node back to its first
 /// on event 1; the reference stays on 0 and climbs on 1, and its last node knows only 0.

@@ -2,16 +2,16 @@
 //! list must be equal. A difference ends the program.
 
 use model::comparison::WORDS_A_PAIR;
-use model::numbers::{Compared, Found, Keypad, Record, Scripts};
+use model::numbers::{Compared, Found, Keypad, Record, Scripts, Walked};
 use model::random::{
     asked_code, damaged, deep_pair, kept, kept_twice, mixed_sheet, pair, random_record,
-    random_sheet, recoded, refusing_pair, rule_table, script_length, spelled, Rng, AIMS_KEPT,
-    AIMS_READ,
+    random_sheet, recoded, refusing_pair, rule_table, script_length, spelled, walk_places,
+    walk_seed, walk_sheet, walk_wish, Rng, AIMS_KEPT, AIMS_READ,
 };
 use model::sheet::Sheet;
 
 use super::tables::Tables;
-use super::{keypads, pairs, runs, scripts, tables};
+use super::{keypads, pairs, runs, scripts, tables, walks};
 use crate::edge;
 
 /// One reading.
@@ -113,6 +113,15 @@ pub fn find(sheet: &Sheet, table: &[u8], code: u8) -> Found {
     ours
 }
 
+/// One walk with a list of this length.
+pub fn walk(sheet: &Sheet, seed: u32, wish: u16, length: usize) -> Walked {
+    let (mut ours, mut plain) = (vec![77; length], vec![77; length]);
+    let answer = edge::walk(sheet, seed, wish, &mut ours);
+    let other = walks::walk(&Tables::of(sheet), seed, wish, &mut plain);
+    assert_eq!((answer, ours), (other, plain));
+    answer
+}
+
 /// Some random inputs of every call, refused ones among them.
 pub fn random(rounds: usize) {
     let mut rng = Rng::new(1);
@@ -124,7 +133,8 @@ pub fn random(rounds: usize) {
         read(&spelled(&mut rng, &good));
         read(&damaged(&mut rng, AIMS_READ[round % AIMS_READ.len()]));
         let mixed = mixed_sheet(&mut rng);
-        for sheet in [&good, &bad, &worse, &mixed] {
+        let walked = walk_sheet(&mut rng);
+        for sheet in [&good, &bad, &worse, &mixed, &walked] {
             one_sheet(&mut rng, sheet);
         }
         let pair = if round % 3 == 0 { deep_pair } else { pair };
@@ -159,6 +169,8 @@ fn one_sheet(rng: &mut Rng, sheet: &Sheet) {
     let table = rule_table(rng, sheet.e.clamp(1, 12));
     keypad(sheet, &table);
     find(sheet, &table, asked_code(rng, &table));
+    let (seed, wish) = (walk_seed(rng), walk_wish(rng));
+    walk(sheet, seed, wish, walk_places(rng, wish));
 }
 
 /// The calls on two sheets.

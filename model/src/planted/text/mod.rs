@@ -7,6 +7,7 @@ pub mod probe_list;
 pub mod script_counts;
 pub mod show;
 pub mod suite;
+pub mod walk;
 
 /// Lines, each with its newline.
 fn joined(lines: &[String]) -> String {

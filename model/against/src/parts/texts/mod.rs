@@ -8,6 +8,7 @@ pub mod probe_list;
 pub mod script_counts;
 pub mod show;
 pub mod suite;
+pub mod walk;
 
 use std::io::{Read, Write};
 use std::path::{Path, PathBuf};
