@@ -5,7 +5,7 @@
 set -u
 cd "$(dirname "$0")/.." || exit 1
 . tests/shared
-for name in compare suite show probe_list live script_counts keypad_check; do built "$name"; done
+for name in compare suite show probe_list live script_counts keypad_check walk; do built "$name"; done
 begins
 root=$PWD
 example=samples/example
@@ -71,6 +71,39 @@ ends_with 2 'scripts refused by a word' ./bench scripts $example/reference.sheet
 ends_with 2 'scripts, reference refused' ./bench scripts "$scratch/version" $example/device.sheet 3
 ends_with 2 'scripts, reference refused by its length' ./bench scripts "$scratch/empty" $example/device.sheet 3
 ends_with 2 'scripts, device refused' ./bench scripts $example/reference.sheet "$scratch/version" 3
+# walk_says STATUS SHEET SEED LENGTH LINE..: `walk` with these words ends with this status and prints these lines
+walk_says() {
+    status=$1
+    name="walk $2 '$3' '$4'"
+    sheet=$2
+    seed=$3
+    length=$4
+    shift 4
+    ends_with "$status" "$name" ./bench walk "$sheet" "$seed" "$length"
+    [ ! -s "$scratch/said" ] || fails "$name: standard error has a line"
+    held "$name: its lines" "$@"
+}
+head='sheet 2 nodes 2 events'
+bytes 00 00 00 0D 01 02 02 01 00 01 00 03 FF FF 01 00 00 > "$scratch/ending"
+walk_says 0 "$scratch/reference" 1 8 "$head" 'walked 8 of 8' 'trace 1 1 1 1 1 0 0 0'
+walk_says 0 "$scratch/reference" 0000000001 00008 "$head" 'walked 8 of 8' 'trace 1 1 1 1 1 0 0 0'
+walk_says 0 $example/device.sheet 4294967295 8 'sheet 3 nodes 2 events' 'walked 8 of 8' 'trace 1 1 0 0 1 0 0 1'
+walk_says 0 "$scratch/ending" 1 8 "$head" 'walked 6 of 8' 'trace 1 1 1 1 1 0'
+walk_says 0 "$scratch/ending" 2 8 "$head" 'walked 1 of 8' 'trace 0'
+walk_says 0 "$scratch/stopped" 7 4096 'sheet 1 nodes 1 events' 'walked 0 of 4096' trace
+walk_says 0 "$scratch/reference" 7 0 "$head" 'walked 0 of 0' trace
+for seed in 0 00 4294967296 00000000001 '' x -1 +1 ' 1' 1.0 0x1 '1 1'; do
+    walk_says 2 "$scratch/reference" "$seed" 8 "$head" 'walk refused 27'
+    walk_says 2 "$scratch/reference" "$seed" 4097 "$head" 'walk refused 27'
+done
+for length in 4097 65535 65536 99999 000008 '' x -1 ' 8' '8 8'; do
+    walk_says 2 "$scratch/reference" 1 "$length" "$head" 'walk refused 28'
+done
+walk_says 2 "$scratch/version" 0 x 'sheet refused 2 version is neither 1 nor 2'
+walk_says 2 "$scratch/empty" 1 8 'sheet refused 1 too short or its length field is wrong'
+ends_with 0 'a walk of 4,096 events' ./bench walk "$scratch/reference" 1 4096
+runs=$((runs + 1))
+[ "$(sed -n 's/^trace//p' "$scratch/printed" | wc -w)" = 4096 ] || fails 'a walk of 4,096 events: it has others'
 # a keypad's table on the example's reference, which has two events
 bytes 80 00 00 80 80 01 > "$scratch/good"
 bytes 80 00 00 > "$scratch/gap"
@@ -196,6 +229,19 @@ keypad_words
 keypad_words "$scratch/reference"
 keypad_words "$scratch/reference" "$scratch/good" 5 5
 keypad_words "$scratch/reference" "$scratch/good" 5 ''
+walk_words() { # WORD..: walk is not so called
+    ends_with 2 "walk $*" ./bench walk "$@"
+    told "walk $*" 'walk takes a file, a seed, 1 to 4294967295, and a length, 0 to 4096: ./bench walk SHEET SEED LENGTH'
+    [ ! -s "$scratch/printed" ] || fails "walk $*: it printed a line"
+}
+walk_words
+walk_words "$scratch/reference"
+walk_words "$scratch/reference" 1
+walk_words "$scratch/reference" 1 8 8
+ends_with 2 'walk, no such file' ./bench walk "$scratch/nowhere" 1 8
+told 'walk, no such file' "there is no file $scratch/nowhere"
+ends_with 2 'walk, a folder' ./bench walk "$scratch" 1 8
+told 'walk, a folder' "$scratch is not a file"
 # no_file NAME WORDS SHEET TABLE: one of the two is no file, and these words say which
 no_file() {
     ends_with 2 "keypad, $1" ./bench keypad "$3" "$4"
@@ -267,17 +313,20 @@ ends_with 2 'help to a full device' sh -c './bench help > /dev/full'
 # the programs themselves tell it too; their own status is always 0
 cat $example/reference.sheet $example/device.sheet > "$scratch/pair"
 cat "$scratch/reference" "$scratch/good" > "$scratch/keyed"
-for program in compare suite show probe_list script_counts keypad_check; do
+for program in compare suite show probe_list script_counts keypad_check walk; do
     input=$scratch/pair
     word=
     case $program in
         show | probe_list) input=$example/reference.sheet ;;
         script_counts) word=3 ;;
         keypad_check) input=$scratch/keyed ;;
+        walk) input=$example/reference.sheet word='1 8' ;;
     esac
     ends_with 0 "$program itself" sh -c "target/bin/$program $word < '$input' > /dev/full"
     told "$program itself" "$program: the output could not be written"
 done
+ends_with 2 'a walk to a full device' sh -c "./bench walk '$scratch/reference' 1 8 > /dev/full"
+told 'a walk to a full device' 'the output could not be written'
 for code in '' 200; do
     ends_with 2 "keypad $code to a full device" \
         sh -c "./bench keypad '$scratch/reference' '$scratch/good' $code > /dev/full"
@@ -315,6 +364,21 @@ for length in 3 00016 '' '1 2' '*'; do
     ends_with 0 "the length '$length'" \
         "$scratch/copy/bench" scripts $example/reference.sheet $example/device.sheet "$length"
     held "the length '$length'" "ends early 1 ($length)"
+done
+# a walk without its last line, or with one that is not whole
+stand_in walk 'printf "sheet 2 nodes 2 events\nwalked 2 of 2\n"'
+ends_with 2 'a walk without its last line' "$scratch/copy/bench" walk "$scratch/reference" 1 2
+stand_in walk 'printf "walked 2 of 2\ntrace 1 1"'
+ends_with 2 'a walk that is not whole' "$scratch/copy/bench" walk "$scratch/reference" 1 2
+stand_in walk 'printf "walked 2 of 2\ntrace 1 1\n"; exit 3'
+ends_with 2 'a walk that ends badly' "$scratch/copy/bench" walk "$scratch/reference" 1 2
+# both words are handed over as they were given, and the bytes of the file
+stand_in walk 'printf "%s\n" "trace $# ($1) ($2) $(od -An -v -tx1 | tr -d " \n")"'
+for seed in 3 00016 '' '1 2' '*'; do
+    ends_with 0 "the seed '$seed'" "$scratch/copy/bench" walk "$scratch/may_loop" "$seed" 8
+    held "the seed '$seed'" "trace 2 ($seed) (8) 0000000701010100010000"
+    ends_with 0 "the length '$seed'" "$scratch/copy/bench" walk "$scratch/may_loop" 1 "$seed"
+    held "the length '$seed'" "trace 2 (1) ($seed) 0000000701010100010000"
 done
 # a table of which nothing is told, and one that is good but whose event is missing
 stand_in keypad_check 'printf "sheet 2 nodes 2 events\ntable 2 rules\n"'

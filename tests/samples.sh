@@ -14,6 +14,12 @@ for folder in samples/*/; do
         same "show $sheet" "$name.show"
         ./bench probe_list "$sheet" > "$scratch/printed"
         same "probe_list $sheet" "$name.probes"
+        # what is printed for the walk of the seed S with the length L stands in NAME.walk_S_L
+        for text in "$name".walk_*; do
+            words=${text##*.walk_}
+            ./bench walk "$sheet" "${words%_*}" "${words#*_}" > "$scratch/printed"
+            same "walk $text" "$text"
+        done
         [ "$sheet" = "${folder}reference.sheet" ] && continue
         ./bench compare "${folder}reference.sheet" "$sheet" > "$scratch/printed"
         same "compare $sheet" "$name.compare"
@@ -42,6 +48,9 @@ for folder in samples/*/; do
     # shellcheck disable=SC2046
     ./bench live "${folder}reference.sheet" $(cat "${folder}live.words") < "${folder}live.reports" > "$scratch/printed"
     same "live in $folder" "${folder}live.out"
+done
+for text in samples/*/*.walk_*; do
+    [ -f "${text%.walk_*}.sheet" ] || fails "$text has no sheet"
 done
 
 # says STATUS WORDS COMMAND..: the command ends with this status and says these words
