@@ -1,6 +1,6 @@
--- Nothing to believe: words for laws alone. The bytes of a sheet in version 1 (01, "A sheet") and in version 2 (02,
--- K1), as a recursion over the kept sheet. It knows nothing of reading: that reading undoes it, and nothing else, is
--- the law of EncodingLaws.
+-- The bytes of a sheet in version 1 (01, "A sheet") and in version 2 (02, K1), as a recursion over the kept sheet, and
+-- which of the two is written. It knows nothing of reading: that reading undoes it, and nothing else, is the law of
+-- EncodingLaws.
 use mathlib.Core.Path.{_≡_}
 use mathlib.Core.Logic.{_⊎_}
 use mathlib.Core.Bool.{cond}
@@ -11,6 +11,7 @@ use lib.ListN.{length, take}
 use Rattle.sheet_spec.specs.declared.Row.{Row}
 use Rattle.sheet_spec.specs.declared.Sheet.{Sheet}
 use Rattle.sheet_spec.specs.Kept.{code}
+use Rattle.sheet_spec.specs.Rules.{firstCodesOk}
 
 -- a number in two bytes, big-endian
 unfoldable pub two : ℕ → List ℕ
@@ -45,6 +46,14 @@ encodeBody version s = version ∷ (s .e ∷ (s .n ∷ (encodeCodes version s ++
 -- the bytes of a sheet in a version: how many bytes follow, and these
 unfoldable pub encode : ℕ → Sheet → List ℕ
 encode version s = four (length (encodeBody version s)) ++ encodeBody version s
+
+-- the version in which a sheet is written: 1 where its codes are 1 to E, else 2
+unfoldable pub writtenVersion : Sheet → ℕ
+writtenVersion s = cond (firstCodesOk (s .e) (s .codes)) 1 2
+
+-- the bytes that are written of a sheet
+abbrev pub sheetBytes : Sheet → List ℕ
+sheetBytes s = encode (writtenVersion s) s
 
 -- the codes of a sheet are 1 to E: event i has i + 1
 abbrev pub HasFirstCodes : Sheet → Type 0

@@ -2,13 +2,16 @@
 -- accepts it and they are its bytes in version 2, or in version 1 if its codes are 1 to E (`read-encode`); bytes are
 -- accepted exactly if they are such bytes of an accepted sheet (`accepted-exactly`); bytes with a right head and layout
 -- are the bytes of the sheet that they spell, whatever its rules (`encode-spelled`), and that sheet has the machine's
--- form (`sheetOf-form`).
+-- form (`sheetOf-form`). What is written of an accepted sheet is read as it (`bytes-read`), and has fewest bytes.
 use mathlib.Core.Path.{_≡_, refl, sym, ap, _∙_}
 use mathlib.Core.Logic.{_⊎_, inl, inr, _↔_}
+use mathlib.Core.Bool.{true, false}
 use mathlib.Core.List.{List, _++_}
 use Prim.Native.Nat.{ℕ, _+_, _*_, _≤_, _<_}
 use native.Mathlib.Omega.{arith}
-use lib.ListN.{length, drop}
+use lib.ListN.{length, take, drop, length-append}
+use Rattle.base.specs.Truth.{dec}
+use Rattle.base.specs.Finds.{finds-none}
 use Rattle.sheet_spec.specs.declared.Sheet.{Sheet}
 use Rattle.sheet_spec.specs.declared.ReadSheet.{ReadSheet}
 use Rattle.sheet_spec.specs.Refusals.{headFault, layoutFault, bytesFault, sheetFault, Agree}
@@ -16,7 +19,10 @@ use Rattle.sheet_spec.specs.Kept.{code}
 use Rattle.sheet_spec.specs.Form.{Bytes, SheetForm}
 use Rattle.sheet_spec.specs.Reading.{answer, readSheet, accepted}
 use Rattle.sheet_spec.specs.Spelling.{word, lengthField, version, eventCount, nodeCount, nodesAt, sheetOf}
-use Rattle.sheet_spec.specs.Encoding.{four, encode, HasFirstCodes, Writable, BytesOf}
+use Rattle.sheet_spec.specs.Rules.{firstCodesOk}
+use Rattle.sheet_spec.specs.RuleLaws.{first-finds}
+use Rattle.sheet_spec.specs.Chains.{settled}
+use Rattle.sheet_spec.specs.Encoding.{two, four, encodeCodes, encodeRows, encodeBody, encode, writtenVersion, sheetBytes, HasFirstCodes, Writable, BytesOf}
 use Rattle.sheet_spec.specs.Places.{accepts, code-at-1, code-at-2, accepted-length, accepted-first}
 use Rattle.sheet_spec.specs.Accepted.{read-accepted}
 use Rattle.sheet_spec.specs.Spelled as spelled
@@ -128,3 +134,66 @@ encode-bytes v s w o h = bytes-encode v (small w) s o (encode-length v s w o h)
 pub encode-injective : (v w : ℕ) (s t : Sheet) → Writable v s → Writable w t → SheetForm s → SheetForm t → sheetFault s ≡ 0 → sheetFault t ≡ 0
     → encode v s ≡ encode w t → s ≡ t
 encode-injective v w s t f k o q g h e = sym (sheetOf-encode v s f o g) ∙ ap sheetOf e ∙ sheetOf-encode w t k q h
+
+-- ---- what is written of a sheet
+
+-- a sheet is written in version 1 where its codes are 1 to E, and only there
+module _ (s : Sheet) where
+  pub version-first : HasFirstCodes s → writtenVersion s ≡ 1
+  unfolding writtenVersion
+  version-first f = rw (finds-none (first-finds (s .e) (s .codes)) (λ w. w .2 (f (w .0) (w .1))))
+
+  pub version-other : ¬ HasFirstCodes s → writtenVersion s ≡ 2
+  unfolding writtenVersion
+  version-other n = go (dec (firstCodesOk (s .e) (s .codes)))
+    where
+      go : (firstCodesOk (s .e) (s .codes) ≡ true) ⊎ (firstCodesOk (s .e) (s .codes) ≡ false) → writtenVersion s ≡ 2
+      go (inl t) = absurd (n (λ i l. settled (code s i) (i + 1) (λ d. first-finds (s .e) (s .codes) .clear t (i, l, d))))
+      go (inr t) = rw t
+
+  -- every sheet has its codes 1 to E, or not
+  first-or-other : HasFirstCodes s ⊎ (¬ HasFirstCodes s)
+  first-or-other = go (dec (firstCodesOk (s .e) (s .codes)))
+    where
+      go : (firstCodesOk (s .e) (s .codes) ≡ true) ⊎ (firstCodesOk (s .e) (s .codes) ≡ false) → HasFirstCodes s ⊎ (¬ HasFirstCodes s)
+      go (inl t) = inl (λ i l. settled (code s i) (i + 1) (λ d. first-finds (s .e) (s .codes) .clear t (i, l, d)))
+      go (inr t) = inr (λ f. let w = first-finds (s .e) (s .codes) .fault t in w .2 (f (w .0) (w .1)))
+
+  -- in that version it can be written
+  pub written-writable : Writable (writtenVersion s) s
+  written-writable = go first-or-other
+    where
+      go : HasFirstCodes s ⊎ (¬ HasFirstCodes s) → Writable (writtenVersion s) s
+      go (inl f) = inr (version-first f, f)
+      go (inr n) = inl (version-other n)
+
+  -- so these are bytes of the sheet, and an accepted sheet is read back from them
+  pub bytes-of : BytesOf (sheetBytes s) s
+  bytes-of = (writtenVersion s, written-writable, refl)
+
+  pub bytes-read : SheetForm s → sheetFault s ≡ 0 → readSheet (sheetBytes s) ≡ accepted s
+  bytes-read o h = reads-as (sheetBytes s) s bytes-of o h
+
+-- the bytes of a version: those of the length and the head, the codes and the nodes
+version-length : (v : ℕ) (s : Sheet) → length (encode v s) ≡ 7 + length (encodeCodes v s) + length (encodeRows (s .e) (take (s .n) (s .rows)))
+unfolding encode encodeBody four two
+version-length v s = omega (arith, length-append (encodeCodes v s) (encodeRows (s .e) (take (s .n) (s .rows))))
+
+-- no other bytes of the sheet are fewer
+pub bytes-fewest : (b : List ℕ) (s : Sheet) → BytesOf b s → length (sheetBytes s) ≤ length b
+bytes-fewest b s (v, w, e) = rw e (go (first-or-other s) w)
+  where
+    go : HasFirstCodes s ⊎ (¬ HasFirstCodes s) → Writable v s → length (encode (writtenVersion s) s) ≤ length (encode v s)
+    go (inl f) x =
+        let none : length (encodeCodes 1 s) ≡ 0 = unfold encodeCodes in refl in
+        rw (version-first s f) (omega (arith, version-length 1 s, version-length v s, none))
+    go (inr n) (inl p) = rw (version-other s n, p) (omega arith)
+    go (inr n) (inr (p, f)) = absurd (n f)
+
+-- accepted bytes of version 1 are written again as they were, and so are those of version 2 with other codes than 1 to
+-- E
+pub first-back : (b : List ℕ) → Bytes b → bytesFault b ≡ 0 → version b ≡ 1 → sheetBytes (sheetOf b) ≡ b
+first-back b y h v = rw (version-first (sheetOf b) (version-1-codes b h v)) (rw v at (encode-sheetOf b y h))
+
+pub other-back : (b : List ℕ) → Bytes b → bytesFault b ≡ 0 → version b ≡ 2 → ¬ HasFirstCodes (sheetOf b) → sheetBytes (sheetOf b) ≡ b
+other-back b y h v n = rw (version-other (sheetOf b) n) (rw v at (encode-sheetOf b y h))

@@ -1,5 +1,6 @@
 -- Nothing to believe: steps of proofs. What bytes spell has the machine's form: rows of twelve bytes, sixteen words and
--- a byte, whatever the bytes are.
+-- a byte, whatever the bytes are; and so has a sheet that is made of rows of that form, with the codes of version 1.
+use mathlib.Core.Path.{_≡_}
 use mathlib.Core.Logic.{_⊎_, inl, inr}
 use mathlib.Core.Bool.{Bool, true, false, cond}
 use mathlib.Core.List.{List}
@@ -9,7 +10,8 @@ use lib.Dec.{eqb, ltb}
 use lib.ListN.{length, getD, replicate, List·getD-eq-default, length-replicate, getD-replicate}
 use Rattle.base.specs.Truth.{lt-or-ge}
 use Rattle.base.specs.Table.{upTo, length-upTo, getD-upTo}
-use Rattle.sheet_spec.specs.Kept.{noRow}
+use Rattle.sheet_spec.specs.declared.Row.{Row}
+use Rattle.sheet_spec.specs.Kept.{noRow, sheetWith}
 use Rattle.sheet_spec.specs.Form.{Bytes, RowForm, SheetForm}
 use Rattle.sheet_spec.specs.Spelling.{version, eventCount, nodeCount, codeOf, countAt, startOf, succOf, setsOf, rowAt, unusedRow, rowOf, sheetOf}
 
@@ -47,19 +49,19 @@ module _ (b : List ℕ) (y : Bytes b) where
   }
 
 -- a list of one number below m
-fixed : (m z n : ℕ) → 0 < m → z < m → (i : ℕ) → getD (replicate n z) i 0 < m
-fixed m z n p h i = go (lt-or-ge i n)
+pub repeated-below : (m z n : ℕ) → 0 < m → z < m → (i : ℕ) → getD (replicate n z) i 0 < m
+repeated-below m z n p h i = go (lt-or-ge i n)
   where
     go : (i < n) ⊎ (n ≤ i) → getD (replicate n z) i 0 < m
     go (inl l) = rw (getD-replicate n i z 0 l) h
     go (inr l) = let k : length (replicate n z) ≤ i = omega (arith, length-replicate {A = ℕ} n z) in rw (List·getD-eq-default (replicate n z) 0 k) p
 
-unused-form : RowForm unusedRow
+pub unused-form : RowForm unusedRow
 unused-form = record {
   succs = length-replicate {A = ℕ} 12 255;
-  succ-byte = fixed 256 255 12 (omega arith) (omega arith);
+  succ-byte = repeated-below 256 255 12 (omega arith) (omega arith);
   sets = length-replicate {A = ℕ} 16 0;
-  set-word = fixed 65536 0 16 (omega arith) (omega arith);
+  set-word = repeated-below 65536 0 16 (omega arith) (omega arith);
   c-byte = omega arith;
 }
 
@@ -85,3 +87,14 @@ module _ (b : List ℕ) (y : Bytes b) where
     codes = length-upTo (codeOf b) 12;
     code-word = table-below (codeOf b) 12 65536 (omega arith) (λ i l. code-below i l);
   }
+
+-- a sheet of rows of the machine's form, with the codes of version 1
+pub with-form : (rows : List Row) (e n : ℕ) → length rows ≡ 32 → ((v : ℕ) → v < 32 → RowForm (getD rows v noRow)) → e < 256 → n < 256 → SheetForm (sheetWith rows e n)
+with-form rows e n l f x y = record {
+  rows = l;
+  each = f;
+  e-byte = x;
+  n-byte = y;
+  codes = length-upTo (λ i. cond (ltb i e) (i + 1) 0) 12;
+  code-word = table-below (λ i. cond (ltb i e) (i + 1) 0) 12 65536 (omega arith) (λ i h. either (λ z. z < 65536) (ltb i e) (omega arith) (omega arith));
+}

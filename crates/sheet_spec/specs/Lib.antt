@@ -7,6 +7,7 @@ pub mod Spelling
 pub mod Rules
 pub mod Faults
 pub mod Sound
+pub mod Made
 -- refusals: of bytes and of a kept sheet, in their two orders of numbers
 pub mod Refusals
 -- reading: what is answered, and the sheets of 01's cases
@@ -18,9 +19,11 @@ pub mod ReadLaws
 pub mod CheckLaws
 pub mod PairFaults
 pub mod EncodingLaws
+pub mod PieceLaws
 pub mod RuleLaws
 pub mod RowLaws
 pub mod SoundLaws
+pub mod MadeLaws
 pub mod CodeLaws
 -- steps of their proofs
 pub mod Chains
