@@ -12,10 +12,11 @@ use Rattle.text_spec.specs.Lines.{ascii, decimalIn, decimal, valueFrom, numberL
 use Rattle.events.specs.Lists.{eventsIn}
 use Rattle.text_spec.specs.Sets.{members, setWords}
 use Rattle.words_spec.specs.Numbers.{isDigit, digitAt, allDigits, fewDigits, numberIn, numberOf}
+use Rattle.words_spec.specs.Same.{agreeAt, sameText}
 use Rattle.tests_spec.specs.declared.Report.the-variants.{Event, Blocked}
 use Rattle.tests_spec.specs.declared.Answer.the-variants.{Going, Stray, Refused, Passed, Inconclusive, Denied}
 use Rattle.live_lines_spec.specs.declared.Asked.{Asked}
-use Rattle.live_lines_spec.specs.Words.{agreeAt, sameText, eventNamed, reportOf, countedBytes, heard, lastOk, wordsOk, askedOf}
+use Rattle.live_lines_spec.specs.Words.{eventNamed, reportOf, countedBytes, heard, lastOk, wordsOk, askedOf}
 use Rattle.live_lines_spec.specs.Answers.{kindWords, headLine, offerLine, refusedSetLine, reportWords, reportRefusedLine, answerLines, nextOffer, testLines, openingLines, endedLine}
 
 -- lines that are reports, with a carriage return at their end or without it

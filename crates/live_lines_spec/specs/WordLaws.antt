@@ -9,10 +9,9 @@ use Prim.Native.Nat.{ℕ, suc, _+_, _-_, _≤_, _<_}
 use native.Mathlib.Omega.{arith}
 use lib.Dec.{eqb, leb}
 use lib.ListN.{length, getD, take, drop, length-append, length-drop, drop-of-length-le, take-append-drop}
-use lib.Seq.{ext-getD, take-at, take-length, drop-at, getD-at, getD-append-add, split-at}
-use borrow.Author.Tests.{eqb-true, eqb-false, eq-eqb, ne-eqb, leb-true, leb-false, le-leb}
-use Rattle.base.specs.Truth.{dec, and-l, and-r, and-i, not-i, lt-or-ge}
-use Rattle.base.specs.Range.{all→, all←}
+use lib.Seq.{take-at, take-length, drop-at, getD-at, getD-append-add, split-at}
+use borrow.Author.Tests.{eqb-true, eqb-false, ne-eqb, leb-true, leb-false, le-leb}
+use Rattle.base.specs.Truth.{dec, and-l, and-r, not-i, lt-or-ge}
 use Rattle.sheet_spec.specs.declared.Sheet.{Sheet}
 use Rattle.sheet_spec.specs.SoundLaws.{check-sound}
 use Rattle.text_spec.specs.Lines.{ascii, decimal, valueFrom}
@@ -27,19 +26,9 @@ use Rattle.tests_spec.specs.Runs.{reportFault, stepOf}
 use Rattle.tests_spec.specs.RunLaws.{report-15, report-0}
 use Rattle.tests_spec.specs.Reports.{Beyond}
 use Rattle.tests_spec.specs.RunRecords.{step-refused}
-use Rattle.live_lines_spec.specs.Words.{agreeAt, sameText, eventNamed, reportOf, countedBytes, heard, lastOk, wordsOk, askedOf}
-
--- the test `sameText` passes exactly for the same text
-pub same→ : (a b : List ℕ) → sameText a b ≡ true → a ≡ b
-unfolding sameText agreeAt
-same→ a b h =
-    ext-getD 0 a b (eqb-true (length a) (length b) (and-l (eqb (length a) (length b)) _ h))
-    (λ i l. eqb-true (getD a i 0) (getD b i 0) (all→ (agreeAt a b) (length a) i (and-r (eqb (length a) (length b)) _ h) l))
-
-pub same← : (a b : List ℕ) → a ≡ b → sameText a b ≡ true
-unfolding sameText agreeAt
-same← a b e =
-    and-i (eq-eqb (length a) (length b) (ap length e)) (all← (agreeAt a b) (length a) (λ i l. eq-eqb (getD a i 0) (getD b i 0) (ap (λ (t : List ℕ). getD t i 0) e)))
+use Rattle.words_spec.specs.Same.{sameText}
+use Rattle.words_spec.specs.SameLaws.{same→, same←}
+use Rattle.live_lines_spec.specs.Words.{eventNamed, reportOf, countedBytes, heard, lastOk, wordsOk, askedOf}
 
 -- ---- reports
 

@@ -4,20 +4,12 @@ use mathlib.Core.List.{List}
 use Prim.Native.Nat.{ℕ, _-_}
 use lib.Dec.{eqb, leb}
 use lib.ListN.{length, getD, take, drop}
-use Rattle.base.specs.Range.{all}
 use Rattle.text_spec.specs.Lines.{ascii}
 use Rattle.words_spec.specs.Numbers.{numberIn, numberOf}
+use Rattle.words_spec.specs.Same.{sameText}
 use Rattle.tests_spec.specs.declared.Report.{Report}
 use Rattle.tests_spec.specs.declared.Report.the-variants.{Event, Blocked}
 use Rattle.live_lines_spec.specs.declared.Asked.{Asked}
-
--- whether two texts agree in byte i
-unfoldable pub agreeAt : List ℕ → List ℕ → ℕ → Bool
-agreeAt a b i = eqb (getD a i 0) (getD b i 0)
-
--- whether two texts are the same
-unfoldable pub sameText : List ℕ → List ℕ → Bool
-sameText a b = eqb (length a) (length b) && all (agreeAt a b) (length a)
 
 -- the event that a text names: `event ` and one to three digits; every other text names 255, an event that no sheet has
 unfoldable pub eventNamed : List ℕ → ℕ

@@ -12,8 +12,9 @@ use Rattle.words_spec.specs.Numbers.{numberIn, numberOf}
 use Rattle.words_spec.specs.NumberLaws.{number-most}
 use Rattle.tests_spec.specs.declared.Report.{Report}
 use Rattle.tests_spec.specs.declared.Report.the-variants.{Event, Blocked}
-use Rattle.live_lines_spec.specs.Words.{sameText, eventNamed, reportOf, countedBytes, heard, lastOk, wordsOk, askedOf}
-use Rattle.live_lines_spec.specs.WordLaws.{same→}
+use Rattle.words_spec.specs.Same.{sameText}
+use Rattle.words_spec.specs.SameLaws.{same→}
+use Rattle.live_lines_spec.specs.Words.{eventNamed, reportOf, countedBytes, heard, lastOk, wordsOk, askedOf}
 
 -- the ways out for a text that is to begin with `event `
 module _ (line : List ℕ) {f : List ℕ} (p : f ≡ take 6 line) {d : Bool} (e : d ≡ sameText f (ascii "event ")) where

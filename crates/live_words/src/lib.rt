@@ -1,32 +1,15 @@
 // The words and the lines that `live` is given: the words that ask for a test, and the reports of a device.
 ghost use mathlib.Core.Path.{_≡_};
-ghost use Rattle.live_lines_spec.specs.Words.{sameText, eventNamed, reportOf, countedBytes, heard};
+ghost use Rattle.live_lines_spec.specs.Words.{eventNamed, reportOf, countedBytes, heard};
 ghost use Rattle.live_lines_spec.specs.Words.{lastOk, askedOf};
 use live_lines_spec::Asked;
 use tests_spec::Report;
-
-// Whether two texts are the same.
-fn same_text(a: &[u8], b: &[u8]) -> bool
-    ensures { λ r. ⌜ r ≡ sameText (now (a .entry)) (now (b .entry)) ⌝ }
-{
-    if a.len() != b.len() {
-        return false;
-    }
-    let mut i = 0;
-    while i < a.len() {
-        if a[i] != b[i] {
-            return false;
-        }
-        i += 1;
-    }
-    true
-}
 
 // The event that a text names, 255 where it names none.
 fn event_named(words: &[u8]) -> u8
     ensures { λ r. ⌜ r ≡ eventNamed (now (words .entry)) ⌝ }
 {
-    if !same_text(text::front(words, 6), b"event ") {
+    if !words::same_text(text::front(words, 6), b"event ") {
         return 255;
     }
     words::number_in(&words[6..], 3, 254) as u8
@@ -36,7 +19,7 @@ fn event_named(words: &[u8]) -> u8
 fn report_of(words: &[u8]) -> Report
     ensures { λ r. ⌜ r ≡ reportOf (now (words .entry)) ⌝ }
 {
-    if same_text(words, b"blocked") {
+    if words::same_text(words, b"blocked") {
         return Report::Blocked;
     }
     Report::Event(event_named(words))
@@ -70,7 +53,7 @@ fn last_ok(there: bool, word: &[u8]) -> bool
     if !there {
         return true;
     }
-    same_text(word, b"traces")
+    words::same_text(word, b"traces")
 }
 
 // The test that the words ask for; bad words ask for test 65,535, which is none.

@@ -1,7 +1,9 @@
-// Numbers from words: the number that some digits write in base ten, if they are few enough and it is not too large.
+// Numbers from words: the number that some digits write in base ten, if they are few enough and it is not too large;
+// and whether a word is one that a program knows.
 ghost use mathlib.Core.Path.{_≡_};
 ghost use Prim.Native.Nat.{_+_, _-_, _*_, _≤_, _<_};
 ghost use Rattle.text_spec.specs.Lines.{valueFrom};
+ghost use Rattle.words_spec.specs.Same.{sameText};
 ghost use Rattle.words_spec.specs.Numbers.{isDigit, allDigits, fewDigits, numberIn, numberOf, Digits};
 
 // Whether a byte is the code of a digit, 0 to 9.
@@ -83,4 +85,21 @@ pub fn number_of(bytes: &[u8]) -> u64
     ensures { λ r. ⌜ r ≡ numberOf (now (bytes .entry)) ⌝ }
 {
     number_in(bytes, 5, 65535)
+}
+
+// Whether two texts are the same.
+pub fn same_text(a: &[u8], b: &[u8]) -> bool
+    ensures { λ r. ⌜ r ≡ sameText (now (a .entry)) (now (b .entry)) ⌝ }
+{
+    if a.len() != b.len() {
+        return false;
+    }
+    let mut i = 0;
+    while i < a.len() {
+        if a[i] != b[i] {
+            return false;
+        }
+        i += 1;
+    }
+    true
 }

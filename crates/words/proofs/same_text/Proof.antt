@@ -5,10 +5,10 @@ use mathlib.Core.Bool.{true}
 use Prim.Native.Nat.{_-_, _≤_}
 use lib.ListN.{length}
 use Rattle.base.specs.Range.{all}
-use Rattle.live_lines_spec.specs.Words.{agreeAt}
-use Rattle.live_words.proofs.Loops.{same-lengths, same-stop, same-more, same-done}
-use Rattle.live_words.proofs.same_text.Statement.{statement}
-use Rattle.live_words.proofs.same_text.Tie as tie
+use Rattle.words_spec.specs.Same.{agreeAt}
+use Rattle.words.proofs.Same.{same-lengths, same-stop, same-more, same-done}
+use Rattle.words.proofs.same_text.Statement.{statement}
+use Rattle.words.proofs.same_text.Tie as tie
 
 abbrev Inv-loop : tie.InvT-loop
 Inv-loop a b i₀ i = (i ≤ length a) × (all (agreeAt a b) i ≡ true)

@@ -7,7 +7,7 @@ use lib.ListN.{length, getD}
 use borrow.Author.Tests.{eq-eqb, ne-eqb}
 use Rattle.base.specs.Truth.{and-i}
 use Rattle.base.specs.Range.{all, all-more, all-stop, all-done}
-use Rattle.live_lines_spec.specs.Words.{agreeAt, sameText}
+use Rattle.words_spec.specs.Same.{agreeAt, sameText}
 
 -- their lengths differ; or the loop stops where a byte differs, goes on, and ends
 module _ (a b : List ℕ) where
