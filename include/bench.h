@@ -1,7 +1,7 @@
-/* The dialogue bench: sheets, probes, tests, comparisons, counts of scripts, tables of keypads and walks that can be
- * repeated. The functions are those of the proved library libedge.a, which `rt staticlib edge` writes below
- * target/staticlib. It is for Linux on x86-64 and needs nothing but the C library, of which it calls memcpy and memset
- * alone: it takes no memory but the stack and what it is lent.
+/* The dialogue bench: sheets, probes, tests, comparisons, counts of scripts, tables of keypads, walks that can be
+ * repeated, and pairs of sheets that reach the bound. The functions are those of the proved library libedge.a, which
+ * `rt staticlib edge` writes below target/staticlib. It is for Linux on x86-64 and needs nothing but the C library, of
+ * which it calls memcpy and memset alone: it takes no memory but the stack and what it is lent.
  *
  * An event is a number below E, a node a number below N. The catalogue code of an event says what the event is. A set
  * of events is a 16-bit number in which event i adds 2 to the power i. Every content of what is lent or handed over is
@@ -16,8 +16,8 @@
  * The stack that a call needs, measured on worst cases and rounded up, in bytes, with the copies of the sheets that are
  * handed over: bench_check and bench_read 9,000; bench_list 19,000; bench_judge and bench_judge_all 22,000; bench_open
  * 23,000; bench_step and bench_report 24,000; bench_compare 36,000; bench_count 62,000; bench_keypad and bench_find
- * 11,000; bench_walk 12,000. The compiled library has no recursion, so no call needs more for larger sheets, longer
- * traces, longer scripts, longer tables or longer walks.
+ * 11,000; bench_walk 12,000; bench_bound 1,000. The compiled library has no recursion, so no call needs more for larger
+ * sheets, longer traces, longer scripts, longer tables or longer walks.
  */
 #ifndef BENCH_H
 #define BENCH_H
@@ -86,7 +86,9 @@ enum {
     BENCH_BAD_VALUE = 22,    /* a rule of the table has a value with a bit outside its mask */
     BENCH_RULE_EVENT = 23,   /* a rule of the table has an event that is not below E */
     BENCH_SEED_ZERO = 27,    /* the seed of a walk is 0, a state that is followed by itself */
-    BENCH_LONG_WALK = 28     /* a list shorter than the wished length of a walk, or a wish over 4,096 */
+    BENCH_LONG_WALK = 28,    /* a list shorter than the wished length of a walk, or a wish over 4,096 */
+    BENCH_BAD_SIZES = 30,    /* p or q, the nodes of the two sheets that are to be written, is not 1 to 32 */
+    BENCH_SHORT_SHEET = 31   /* a list too short for the sheet that is to be written to it */
 };
 
 /* What is kept of one node: its successor on each event, 255 for none; its minimal acceptances, strictly ascending; how
@@ -348,6 +350,33 @@ struct bench_walked {
  * would end early and have room. */
 struct bench_walked bench_walk(struct bench_sheet sheet, uint32_t seed, uint16_t wish, uint8_t *out, size_t length);
 
+/* The bytes of the two sheets that bench_bound writes for p and q of 32, and so of lists that suffice for any. */
+enum { BENCH_REFERENCE_BYTES = 229, BENCH_DEVICE_BYTES = 167 };
+
+/* What the call that writes two sheets answers: the refusal, 0 for none, and the lengths of the reference and of the
+ * device in bytes, both 0 if it is refused. */
+struct bench_bounded {
+    uint8_t refusal;
+    uint16_t reference;
+    uint16_t device;
+};
+
+/* Writes two sheets that reach the bound: a reference of p nodes and a device of q, accepted, of version 1 and with two
+ * events, 0 and 1, whose first failing test is number p q - 1. The device does only event 0 to climb its nodes and only
+ * event 1 at the last, back to its first. The reference stays on 0, climbs on 1, may insist on either alone (sets 1 and
+ * 2), and at its last node knows only 0, staying. A node with one event has that event as its one set. The sheets have
+ * 7 p + 5 and 5 q + 7 bytes. Handed over: p and q, each 1 to 32; no sheet is. Lent: `reference_length` bytes from
+ * `reference` on and `device_length` bytes from `device` on, two lists that have no byte in common. Answered: 0 and the
+ * two lengths; each sheet then stands at the front of its own list, and the rest of that list is as it was; or the
+ * refusal (30; 31, for either list), and both lists are as they were, also the one that was long enough.
+ *
+ * What it is for: the last tests of a suite are no padding. It is proved of the bytes that every test below p q - 1
+ * passes and test p q - 1 fails, for trace-only tests and for the others, and that every violation comes after exactly
+ * p q - 1 events. So a suite that ends before test p q - 1 is passed by a device that does not refine its reference,
+ * and no smaller bound than p q serves all sheets of p and q nodes. */
+struct bench_bounded bench_bound(uint8_t p, uint8_t q, uint8_t *reference, size_t reference_length, uint8_t *device,
+                                 size_t device_length);
+
 /* The places of each struct, on which the library and its callers agree, held where the compiler can: from C11 and from
  * C++11 on. */
 #if defined(__cplusplus) && __cplusplus >= 201103L
@@ -383,6 +412,8 @@ BENCH_HOLDS(sizeof(struct bench_found) == 6 && offsetof(struct bench_found, kind
 BENCH_HOLDS(offsetof(struct bench_found, event) == 2 && offsetof(struct bench_found, code) == 3);
 BENCH_HOLDS(offsetof(struct bench_found, first) == 4 && offsetof(struct bench_found, second) == 5);
 BENCH_HOLDS(sizeof(struct bench_walked) == 4 && offsetof(struct bench_walked, length) == 2);
+BENCH_HOLDS(sizeof(struct bench_bounded) == 6 && offsetof(struct bench_bounded, reference) == 2);
+BENCH_HOLDS(offsetof(struct bench_bounded, device) == 4);
 #undef BENCH_HOLDS
 #endif
 

@@ -6,7 +6,7 @@ use Rattle.tests_spec.specs.Numbers.{Said, said}
 use Rattle.verdicts_spec.specs.Numbers.{Judgement, Suited}
 use Rattle.comparison_spec.specs.Numbers.{Compared}
 use Rattle.keypad_spec.specs.Numbers.{Keyed, Looked}
-use Rattle.edge.specs.Flat.{listedFlat, saidFlat, steppedFlat, judgedFlat, suitedFlat, comparedFlat, keyedFlat, lookedFlat, walkedFlat}
+use Rattle.edge.specs.Flat.{listedFlat, saidFlat, steppedFlat, judgedFlat, suitedFlat, comparedFlat, keyedFlat, lookedFlat, walkedFlat, boundedFlat}
 
 -- a probe list's answer: two numbers
 pub listed-crosses : (refusal count : ℕ) → (listedFlat (refusal, count) .refusal ≡ refusal) × (listedFlat (refusal, count) .count ≡ count)
@@ -54,3 +54,10 @@ looked-crosses a = (refl, refl, refl, refl, refl, refl)
 pub walked-crosses : (refusal length : ℕ) → (walkedFlat (refusal, length) .refusal ≡ refusal) × (walkedFlat (refusal, length) .length ≡ length)
 unfolding walkedFlat
 walked-crosses refusal length = (refl, refl)
+
+-- the answer of the call that writes a pair of sheets: three numbers
+pub bounded-crosses : (refusal reference device : ℕ)
+    → (boundedFlat (refusal, reference, device) .refusal ≡ refusal) × (boundedFlat (refusal, reference, device) .reference ≡ reference)
+    × (boundedFlat (refusal, reference, device) .device ≡ device)
+unfolding boundedFlat
+bounded-crosses refusal reference device = (refl, refl, refl)

@@ -1,6 +1,6 @@
 -- What crosses the edge for a probe list, a report, an answer, a verdict, all verdicts, a comparison, a check and a
--- lookup of a keypad's table, and a walk: numbers alone. Every number of a report has a reading, and so has every byte
--- of a flag (`flag` of tests_spec), so that every content of what is handed over is answered.
+-- lookup of a keypad's table, a walk and a pair of sheets: numbers alone. Every number of a report has a reading, and
+-- so has every byte of a flag (`flag` of tests_spec), so that every content of what is handed over is answered.
 use mathlib.Core.Path.{_≡_}
 use mathlib.Core.Bool.{cond}
 use Prim.Native.Nat.{ℕ, _≤_, _<_}
@@ -22,6 +22,7 @@ use Rattle.edge.specs.declared.BenchCompared.{BenchCompared}
 use Rattle.edge.specs.declared.BenchKeypad.{BenchKeypad}
 use Rattle.edge.specs.declared.BenchFound.{BenchFound}
 use Rattle.edge.specs.declared.BenchWalked.{BenchWalked}
+use Rattle.edge.specs.declared.BenchBounded.{BenchBounded}
 
 -- the numbers of a probe list's answer
 unfoldable pub listedFlat : ℕ × ℕ → BenchListed
@@ -63,6 +64,10 @@ lookedFlat a = record { refusal = a .refusal; kind = a .kind; event = a .event; 
 -- the numbers of a walk's answer
 unfoldable pub walkedFlat : ℕ × ℕ → BenchWalked
 walkedFlat a = record { refusal = a .0; length = a .1 }
+
+-- the numbers of the answer of the call that writes a pair of sheets
+unfoldable pub boundedFlat : ℕ × ℕ × ℕ → BenchBounded
+boundedFlat a = record { refusal = a .0; reference = a .1; device = a .2 }
 
 -- a number below 256 is the report of that event
 pub report-event : (x : ℕ) → x < 256 → reportFlat x ≡ Event x

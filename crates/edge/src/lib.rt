@@ -20,8 +20,10 @@ ghost use Rattle.scripts_spec.specs.Scripts.{scriptsOf};
 ghost use Rattle.keypad_spec.specs.Calls.{keypadOf, foundOf};
 ghost use Rattle.keypad_spec.specs.Numbers.{keyed, looked};
 ghost use Rattle.load_spec.specs.Calls.{walkedNumbers, walkedOf, walkAfter};
+ghost use Rattle.bound_spec.specs.Calls.{boundNumbers, boundOf, referenceAfter, deviceAfter};
 ghost use Rattle.edge.specs.Flat.{reportFlat, listedFlat, saidFlat, steppedFlat, judgedFlat, suitedFlat, comparedFlat};
-ghost use Rattle.edge.specs.Flat.{keyedFlat, lookedFlat, walkedFlat};
+ghost use Rattle.edge.specs.Flat.{keyedFlat, lookedFlat, walkedFlat, boundedFlat};
+use bound_spec::Bounded;
 use comparison_spec::Outcome;
 use keypad_spec::Found;
 use keypad_spec::Keypad;
@@ -532,4 +534,44 @@ pub extern "C" fn bench_walk(sheet: Sheet, seed: u32, wish: u16, out: &mut [u8])
 {
     let answer = load::walk(sheet, seed, wish, out);
     walked_flat(answer)
+}
+
+// ---- the bound
+
+// The answer of the call that writes a pair of sheets: the refusal, 0 for none, and the lengths of the two in bytes.
+#[repr(C)]
+pub struct BenchBounded {
+    pub refusal: u8,
+    pub reference: u16,
+    pub device: u16,
+}
+
+// The numbers of the answer of the call that writes a pair of sheets.
+fn bounded_flat(a: Bounded) -> BenchBounded
+    ensures { λ r. ⌜ r ≡ boundedFlat (boundNumbers a) ⌝ }
+{
+    match a {
+        Bounded::Lengths(r, d) => BenchBounded {
+            refusal: 0,
+            reference: r,
+            device: d,
+        },
+        Bounded::Denied(k) => BenchBounded {
+            refusal: k,
+            reference: 0,
+            device: 0,
+        },
+    }
+}
+
+// Writes the reference of `p` nodes and the device of `q`, whose first failing test is number p q - 1, each to the
+// front of its lent list, and answers their lengths; or the number of the refusal, and both lists are as they were.
+#[no_mangle]
+pub extern "C" fn bench_bound(p: u8, q: u8, reference: &mut [u8], device: &mut [u8]) -> BenchBounded
+    ensures { λ r. ⌜ (r ≡ boundedFlat (boundNumbers (boundOf p q (now (reference .entry)) (now (device .entry)))))
+        × (now (reference .exit) ≡ referenceAfter p q (now (reference .entry)) (now (device .entry)))
+        × (now (device .exit) ≡ deviceAfter p q (now (reference .entry)) (now (device .entry))) ⌝ }
+{
+    let answer = bound::write_pair(p, q, reference, device);
+    bounded_flat(answer)
 }
