@@ -1,7 +1,8 @@
 -- Nothing to believe: 01's cases (P) as one table, to be read beside 01 and in its order: each row is a call or a whole
 -- run, beside it stand the numbers that it answers, and one equation has them all. Comments that begin with 01 have the
--- words of its case. The rows that are for a request of 02 name it (K1 to K7, K9). Sheets come as bytes, through the
--- definition of reading. The rows compute through the definitions that the contracts cite, the probe lists among them.
+-- words of its case. The rows that are for a request of 02 name it (K1 to K7, K9, K11). Sheets come as bytes, through
+-- the definition of reading. The rows compute through the definitions that the contracts cite, the probe lists among
+-- them.
 use mathlib.Core.Path.{_≡_, refl, sym, ap₂, _∙_}
 use mathlib.Core.Bool.{Bool, true, false}
 use mathlib.Core.List.{List, [], _∷_, _++_, map, map-append}
@@ -31,6 +32,7 @@ use Rattle.sheet_spec.specs.Rules.{rangesOk, countOk, countsOk, successorsOk, r
 use Rattle.sheet_spec.specs.Refusals.{headFault, layoutFault, graphFault, bytesFault, sheetFault, codesFault, sharedFault}
 use Rattle.sheet_spec.specs.Reading.{readSheet, answer}
 use Rattle.sheet_spec.specs.Spelling.{lengthField, nextAt, startOf, succOf, setsOf, rowAt, rowOf, sheetOf, codeOf, nodesAt}
+use Rattle.sheet_spec.specs.Encoding.{two, four, encodeWords, encodeRow, encodeRows, encodeCodes, encodeBody, encode}
 use Rattle.probes_spec.specs.Probes.{hits, isProbe, probesOf, probes}
 use Rattle.probes_spec.specs.Listing.{nodeProbes, listFault, listedNumbers, listedOf, listAfter}
 use Rattle.probes_spec.specs.FirstMissed.{missing, orNext, firstMissing, firstMissed}
@@ -55,6 +57,8 @@ use Rattle.keypad_spec.specs.Numbers.{Keyed, keyed, Looked, looked}
 use Rattle.load_spec.specs.Xorshift.{shiftedLeft, shiftedRight, mixedLeft, mixedRight, nextState}
 use Rattle.load_spec.specs.Walks.{initialsAt, drawn, walkFrom, walkOf}
 use Rattle.load_spec.specs.Calls.{seedOk, wishOk, walkFault, walkedNumbers, walkedOf, walkAfter}
+use Rattle.bound_spec.specs.Sheets.{referenceRow, deviceRow, boundReference, boundDevice}
+use Rattle.bound_spec.specs.Calls.{sizesOk, roomOk, boundFault, boundNumbers, boundOf, referenceAfter, deviceAfter}
 use Rattle.sheet_spec.specs.Examples.{exampleReference, exampleDevice, codedReference, codedDevice, onlyZero, onlyOne, mayLoop, mustLoop, stopped, ending, sheet}
 
 -- a row of the table
@@ -88,6 +92,9 @@ pub data Case : Type 0 where
   looking : List ℕ → List ℕ → ℕ → Case
   -- the walk of a seed on a sheet for a wished length, in a lent list of so many places that hold 9 (02, K9)
   walking : List ℕ → ℕ → ℕ → ℕ → Case
+  -- the pair of sheets of p and q nodes that reaches the bound, in two lent lists of so many places that hold 9, the
+  -- reference's first (02, K11)
+  bounding : ℕ → ℕ → ℕ → ℕ → Case
 
 -- sets below 256 as bytes, two for each
 unfoldable pub setBytes : List ℕ → List ℕ
@@ -176,6 +183,19 @@ lookedNumbers a = a .refusal ∷ a .kind ∷ a .event ∷ a .code ∷ a .first �
 unfoldable pub walkNumbers : Sheet → ℕ → ℕ → List ℕ → List ℕ
 walkNumbers s seed wish out = walkedNumbers (walkedOf s seed wish out) .0 ∷ walkedNumbers (walkedOf s seed wish out) .1 ∷ walkAfter s seed wish out
 
+-- the numbers of the call that writes a pair: the refusal, the two lengths, and what the two lent lists then hold
+unfoldable pub pairWritten : ℕ → ℕ → List ℕ → List ℕ → List ℕ
+pairWritten p q reference device =
+    let a = boundNumbers (boundOf p q reference device) in
+    a .0 ∷ a .1 ∷ a .2 ∷ (referenceAfter p q reference device ++ deviceAfter p q reference device)
+
+-- the reference of p nodes and the device of q that a call writes to lists of just their lengths
+unfoldable pub referenceOf : ℕ → ℕ → List ℕ
+referenceOf p q = referenceAfter p q (replicate (7 * p + 5) 9) (replicate (5 * q + 7) 9)
+
+unfoldable pub deviceOf : ℕ → ℕ → List ℕ
+deviceOf p q = deviceAfter p q (replicate (7 * p + 5) 9) (replicate (5 * q + 7) 9)
+
 -- the first n of the 64 rules that each match four codes: mask 252, values 0, 4, 8 and so on, event 1
 unfoldable pub rules : ℕ → List ℕ
 rules n = joined (λ i. 252 ∷ 4 * i ∷ 1 ∷ []) n
@@ -196,6 +216,7 @@ numbersOf (counting P Q L) = scriptsNumbers (scriptsOf (sheet P) (sheet Q) L)
 numbersOf (keying b table) = keyedNumbers (keyed (keypadOf (sheet b) table))
 numbersOf (looking b table c) = lookedNumbers (looked (foundOf (sheet b) table c))
 numbersOf (walking b seed wish places) = walkNumbers (sheet b) seed wish (replicate places 9)
+numbersOf (bounding p q places others) = pairWritten p q (replicate places 9) (replicate others 9)
 
 -- the numbers of a kept node with these successors and these sets: unused successors are 255, unused sets 0, then C
 unfoldable pub keptNode : List ℕ → List ℕ → List ℕ
@@ -225,6 +246,47 @@ lists numbers traced zeros = numbers ++ (filled 8 9 traced ++ filled 28 7 (repli
 -- were
 unfoldable pub lent : ℕ → ℕ → ℕ → List ℕ
 lent refusal zeros left = refusal ∷ (replicate zeros 0 ++ replicate left 7)
+
+-- the bytes of the reference of p nodes, each but the last with the successors v and v + 1 and the sets 1 and 2, the
+-- last with the successors p - 1 and none and the set 1
+unfoldable pub staying : ℕ → List ℕ
+staying p =
+    0 ∷ 0 ∷ 0 ∷ (7 * p + 1) ∷ 1 ∷ 2 ∷ p
+    ∷ (joined (λ v. v ∷ (v + 1) ∷ 2 ∷ 0 ∷ 1 ∷ 0 ∷ 2 ∷ []) (p - 1) ++ ((p - 1) ∷ 255 ∷ 1 ∷ 0 ∷ 1 ∷ []))
+
+-- the bytes of the device of q nodes, each but the last with the successors v + 1 and none and the set 1, the last with
+-- the successors none and 0 and the set 2
+unfoldable pub climbing : ℕ → List ℕ
+climbing q =
+    0 ∷ 0 ∷ 0 ∷ (5 * q + 3) ∷ 1 ∷ 2 ∷ q
+    ∷ (joined (λ v. (v + 1) ∷ 255 ∷ 1 ∷ 0 ∷ 1 ∷ []) (q - 1) ++ (255 ∷ 0 ∷ 1 ∷ 0 ∷ 2 ∷ []))
+
+-- the reference of 3 nodes and the device of 4, byte by byte
+unfoldable pub stayingThree : List ℕ
+stayingThree =
+    0 ∷ 0 ∷ 0 ∷ 22 ∷ 1 ∷ 2 ∷ 3
+    ∷ 0 ∷ 1 ∷ 2 ∷ 0 ∷ 1 ∷ 0 ∷ 2
+    ∷ 1 ∷ 2 ∷ 2 ∷ 0 ∷ 1 ∷ 0 ∷ 2
+    ∷ 2 ∷ 255 ∷ 1 ∷ 0 ∷ 1
+    ∷ []
+
+unfoldable pub climbingFour : List ℕ
+climbingFour =
+    0 ∷ 0 ∷ 0 ∷ 23 ∷ 1 ∷ 2 ∷ 4
+    ∷ 1 ∷ 255 ∷ 1 ∷ 0 ∷ 1
+    ∷ 2 ∷ 255 ∷ 1 ∷ 0 ∷ 1
+    ∷ 3 ∷ 255 ∷ 1 ∷ 0 ∷ 1
+    ∷ 255 ∷ 0 ∷ 1 ∷ 0 ∷ 2
+    ∷ []
+
+-- what a row of a written pair answers: no refusal, the two lengths, and each list with these bytes at its front and so
+-- many places as they were
+unfoldable pub written : ℕ → ℕ → List ℕ → ℕ → List ℕ → ℕ → List ℕ
+written l m reference left device others = 0 ∷ l ∷ m ∷ (reference ++ (replicate left 9 ++ (device ++ replicate others 9)))
+
+-- what a row of a refused pair answers: the refusal, 0 for both lengths, and two lists of so many places as they were
+unfoldable pub unwritten : ℕ → ℕ → ℕ → List ℕ
+unwritten refusal places others = refusal ∷ 0 ∷ 0 ∷ (replicate places 9 ++ replicate others 9)
 
 -- 01's cases and others of the base, each beside its answer
 unfoldable pub rowsOf01 : List (Case × List ℕ)
@@ -675,9 +737,117 @@ rowsOfWalks =
     ∷ (walking [] 1 1 1, 3 ∷ 0 ∷ 9 ∷ [])
     ∷ []
 
+-- the rows of the bound
+unfoldable pub rowsOfBounds : List (Case × List ℕ)
+rowsOfBounds =
+    -- 02, K11: the pair of 1 and 1 is 01's: one node that loops on event 0 alone, one on event 1 alone; the lengths,
+    -- the reference's first
+    (bounding 1 1 12 12, written 12 12 onlyZero 0 onlyOne 0)
+    -- 02, K11: the reference stays on 0 and climbs on 1, with the sets 1 and 2; at its last node it knows only 0,
+    -- staying
+    ∷ (
+      bounding 2 1 19 12,
+      written 19 12 (0 ∷ 0 ∷ 0 ∷ 15 ∷ 1 ∷ 2 ∷ 2 ∷ 0 ∷ 1 ∷ 2 ∷ 0 ∷ 1 ∷ 0 ∷ 2 ∷ 1 ∷ 255 ∷ 1 ∷ 0 ∷ 1 ∷ []) 0 onlyOne 0,
+    )
+    -- 02, K11: the device does only 0 to climb, and at its last node only 1, back to its first
+    ∷ (
+      bounding 1 2 12 17,
+      written 12 17 onlyZero 0 (0 ∷ 0 ∷ 0 ∷ 13 ∷ 1 ∷ 2 ∷ 2 ∷ 1 ∷ 255 ∷ 1 ∷ 0 ∷ 1 ∷ 255 ∷ 0 ∷ 1 ∷ 0 ∷ 2 ∷ []) 0,
+    )
+    -- 02, K11: the pair of 3 and 4, byte by byte, and as `staying` and `climbing` make it; the longest pair
+    ∷ (bounding 3 4 26 27, written 26 27 stayingThree 0 climbingFour 0)
+    ∷ (bounding 3 4 26 27, written 26 27 (staying 3) 0 (climbing 4) 0)
+    ∷ (bounding 32 32 229 167, written 229 167 (staying 32) 0 (climbing 32) 0)
+    -- 02, K11: each sheet fills the front of its own list and the rest is untouched
+    ∷ (bounding 1 1 15 13, written 12 12 onlyZero 3 onlyOne 1)
+    ∷ (bounding 2 1 20 14, written 19 12 (staying 2) 1 onlyOne 2)
+    ∷ (bounding 1 2 13 20, written 12 17 onlyZero 1 (climbing 2) 3)
+    ∷ (bounding 3 4 28 27, written 26 27 (staying 3) 2 (climbing 4) 0)
+    ∷ (bounding 3 4 26 30, written 26 27 (staying 3) 0 (climbing 4) 3)
+    ∷ (bounding 3 4 28 30, written 26 27 (staying 3) 2 (climbing 4) 3)
+    ∷ (bounding 32 32 230 169, written 229 167 (staying 32) 1 (climbing 32) 2)
+    -- 02, K11: a list too short for its sheet is refused with 31, and neither is written: the reference's, the
+    -- device's, both
+    ∷ (bounding 1 1 11 12, unwritten 31 11 12)
+    ∷ (bounding 1 1 12 11, unwritten 31 12 11)
+    ∷ (bounding 1 1 11 11, unwritten 31 11 11)
+    ∷ (bounding 2 1 18 12, unwritten 31 18 12)
+    ∷ (bounding 2 1 19 11, unwritten 31 19 11)
+    ∷ (bounding 2 1 18 11, unwritten 31 18 11)
+    ∷ (bounding 1 2 11 17, unwritten 31 11 17)
+    ∷ (bounding 1 2 12 16, unwritten 31 12 16)
+    ∷ (bounding 1 2 11 16, unwritten 31 11 16)
+    ∷ (bounding 3 4 25 27, unwritten 31 25 27)
+    ∷ (bounding 3 4 26 26, unwritten 31 26 26)
+    ∷ (bounding 3 4 25 26, unwritten 31 25 26)
+    ∷ (bounding 32 32 228 167, unwritten 31 228 167)
+    ∷ (bounding 32 32 229 166, unwritten 31 229 166)
+    ∷ (bounding 32 32 228 166, unwritten 31 228 166)
+    -- 02, K11: however long the other list is; lists without a place
+    ∷ (bounding 3 4 25 60, unwritten 31 25 60)
+    ∷ (bounding 3 4 60 26, unwritten 31 60 26)
+    ∷ (bounding 1 1 0 12, unwritten 31 0 12)
+    ∷ (bounding 1 1 12 0, unwritten 31 12 0)
+    ∷ (bounding 1 1 0 0, unwritten 31 0 0)
+    -- 02, K11: p or q out of range is refused with 30
+    ∷ (bounding 0 1 12 12, unwritten 30 12 12)
+    ∷ (bounding 1 0 12 12, unwritten 30 12 12)
+    ∷ (bounding 0 0 12 12, unwritten 30 12 12)
+    ∷ (bounding 33 1 236 12, unwritten 30 236 12)
+    ∷ (bounding 1 33 12 172, unwritten 30 12 172)
+    ∷ (bounding 33 33 236 172, unwritten 30 236 172)
+    ∷ (bounding 255 1 40 40, unwritten 30 40 40)
+    ∷ (bounding 1 255 40 40, unwritten 30 40 40)
+    -- 02, K11: 31 comes after 30: with lists that are too short, p or q out of range is still refused with 30
+    ∷ (bounding 0 1 0 0, unwritten 30 0 0)
+    ∷ (bounding 1 0 0 0, unwritten 30 0 0)
+    ∷ (bounding 33 1 0 0, unwritten 30 0 0)
+    ∷ (bounding 1 33 0 0, unwritten 30 0 0)
+    ∷ (bounding 255 1 0 0, unwritten 30 0 0)
+    ∷ (bounding 1 255 0 0, unwritten 30 0 0)
+    ∷ (bounding 0 0 0 0, unwritten 30 0 0)
+    ∷ (bounding 255 255 0 0, unwritten 30 0 0)
+    ∷ (bounding 0 4 5 26, unwritten 30 5 26)
+    ∷ (bounding 3 33 25 172, unwritten 30 25 172)
+    -- 02, K11: the written pair compared: the nearest violation is stray 1, after p·q − 1 events; by traces alone too
+    ∷ (comparing (referenceOf 1 1) (deviceOf 1 1) false, lists (0 ∷ 22 ∷ 0 ∷ 0 ∷ 1 ∷ 0 ∷ 0 ∷ []) [] 2)
+    ∷ (comparing (referenceOf 1 1) (deviceOf 1 1) true, lists (0 ∷ 22 ∷ 0 ∷ 0 ∷ 1 ∷ 0 ∷ 0 ∷ []) [] 2)
+    ∷ (comparing (referenceOf 2 1) (deviceOf 2 1) false, lists (0 ∷ 22 ∷ 1 ∷ 1 ∷ 1 ∷ 0 ∷ 0 ∷ []) (1 ∷ []) 4)
+    ∷ (comparing (referenceOf 1 2) (deviceOf 1 2) false, lists (0 ∷ 22 ∷ 1 ∷ 1 ∷ 1 ∷ 0 ∷ 0 ∷ []) (0 ∷ []) 4)
+    ∷ (comparing (referenceOf 2 2) (deviceOf 2 2) false, lists (0 ∷ 22 ∷ 3 ∷ 3 ∷ 1 ∷ 0 ∷ 0 ∷ []) (0 ∷ 1 ∷ 0 ∷ []) 8)
+    ∷ (comparing (referenceOf 2 2) (deviceOf 2 2) true, lists (0 ∷ 22 ∷ 3 ∷ 3 ∷ 1 ∷ 0 ∷ 0 ∷ []) (0 ∷ 1 ∷ 0 ∷ []) 8)
+    ∷ (
+      comparing (referenceOf 3 2) (deviceOf 3 2) false,
+      lists (0 ∷ 22 ∷ 5 ∷ 5 ∷ 1 ∷ 0 ∷ 0 ∷ []) (0 ∷ 1 ∷ 0 ∷ 1 ∷ 0 ∷ []) 12,
+    )
+    ∷ (
+      comparing (referenceOf 3 2) (deviceOf 3 2) true,
+      lists (0 ∷ 22 ∷ 5 ∷ 5 ∷ 1 ∷ 0 ∷ 0 ∷ []) (0 ∷ 1 ∷ 0 ∷ 1 ∷ 0 ∷ []) 12,
+    )
+    -- 02, K11: the first failing test of the written pair is number p·q − 1: of 2 and 2, number 3; it fails as stray,
+    -- so that the next fails too
+    ∷ (verdict (referenceOf 2 2) (deviceOf 2 2) 0 false, 0 ∷ 11 ∷ [])
+    ∷ (verdict (referenceOf 2 2) (deviceOf 2 2) 1 false, 0 ∷ 11 ∷ [])
+    ∷ (verdict (referenceOf 2 2) (deviceOf 2 2) 2 false, 0 ∷ 11 ∷ [])
+    ∷ (verdict (referenceOf 2 2) (deviceOf 2 2) 3 false, 0 ∷ 12 ∷ [])
+    ∷ (verdict (referenceOf 2 2) (deviceOf 2 2) 4 false, 0 ∷ 12 ∷ [])
+    ∷ (verdict (referenceOf 2 2) (deviceOf 2 2) 0 true, 0 ∷ 11 ∷ [])
+    ∷ (verdict (referenceOf 2 2) (deviceOf 2 2) 1 true, 0 ∷ 11 ∷ [])
+    ∷ (verdict (referenceOf 2 2) (deviceOf 2 2) 2 true, 0 ∷ 11 ∷ [])
+    ∷ (verdict (referenceOf 2 2) (deviceOf 2 2) 3 true, 0 ∷ 12 ∷ [])
+    ∷ (verdict (referenceOf 2 2) (deviceOf 2 2) 4 true, 0 ∷ 12 ∷ [])
+    -- 02, K11: the first failing test of 1 and 1 is number 0, of 3 and 2 number 5
+    ∷ (verdict (referenceOf 1 1) (deviceOf 1 1) 0 false, 0 ∷ 12 ∷ [])
+    ∷ (verdict (referenceOf 1 1) (deviceOf 1 1) 0 true, 0 ∷ 12 ∷ [])
+    ∷ (verdict (referenceOf 3 2) (deviceOf 3 2) 4 false, 0 ∷ 11 ∷ [])
+    ∷ (verdict (referenceOf 3 2) (deviceOf 3 2) 5 false, 0 ∷ 12 ∷ [])
+    ∷ (verdict (referenceOf 3 2) (deviceOf 3 2) 4 true, 0 ∷ 11 ∷ [])
+    ∷ (verdict (referenceOf 3 2) (deviceOf 3 2) 5 true, 0 ∷ 12 ∷ [])
+    ∷ []
+
 -- the whole table
 unfoldable pub table : List (Case × List ℕ)
-table = rowsOf01 ++ (rowsOf02 ++ (rowsOfKeypads ++ rowsOfWalks))
+table = rowsOf01 ++ (rowsOf02 ++ (rowsOfKeypads ++ (rowsOfWalks ++ rowsOfBounds)))
 
 -- each of some rows answers the numbers beside it
 abbrev pub Hold : List (Case × List ℕ) → Type 0
@@ -704,9 +874,15 @@ rows-walks : Hold rowsOfWalks
 unfolding numbersOf rowsOfWalks accepting looping setBytes sheet exampleReference exampleDevice codedReference onlyZero onlyOne stopped ending readSheet answer bytesFault headFault lengthField layoutFault nextAt startOf succOf setsOf rowAt rowOf sheetOf graphFault rangesOk countOk countsOk successorsOk rowSuccessorsOk successorOk setsOk rowSetsOk setOk ascends noneInside blank unusedOk blanksOk reachedOk sheetFault successor acceptance acceptances initials mayStop step bit has inside meets setOf nearer leads all any upTo gather select codesFault nodesAt codeOf codesOk codeNew codesBlank walkNumbers walkedNumbers walkedOf walkAfter walkFault seedOk wishOk walkOf walkFrom drawn initialsAt eventsIn nextState mixedLeft mixedRight shiftedLeft shiftedRight
 rows-walks = refl
 
+rows-bounds : Hold rowsOfBounds
+unfolding numbersOf rowsOfBounds staying climbing stayingThree climbingFour written unwritten pairWritten referenceOf deviceOf filled lists workAfter judgedNumbers comparedNumbers work trace sheet onlyZero onlyOne readSheet answer bytesFault headFault lengthField layoutFault nextAt startOf succOf setsOf rowAt rowOf sheetOf graphFault rangesOk countOk countsOk successorsOk rowSuccessorsOk successorOk setsOk rowSetsOk setOk ascends noneInside blank unusedOk blanksOk reachedOk sheetFault successor acceptance acceptances initials mayStop step bit has inside meets insert setOf walk nearer leads meetsIn distance later choice leastFrom leastTrace cleared code pairNext product onCodes pairDistance pairTrace pairCleared all any first count upTo hits isProbe gather select joined size probesOf probes missing orNext firstMissing firstMissed strays hasStray firstStray covers hasRefusal violates violating allEvents outside probesAt failsFrom verdictFault verdictOf nearest judged pairCount nearestTrace clearedOf lastRow refusalNamed named comparisonOf compareFault outcomeOf traceAfter compared codesFault nodesAt codeOf codesOk codeNew codesBlank sharedFault codesAgree sizesOk roomOk boundFault boundNumbers boundOf referenceAfter deviceAfter boundReference boundDevice referenceRow deviceRow encode encodeBody encodeCodes encodeRows encodeRow encodeWords four two
+rows-bounds = refl
+
 -- every row answers what 01 and 02 say
 pub cases-hold : Hold table
 unfolding table
 cases-hold =
-    holds-both rowsOf01 (rowsOf02 ++ (rowsOfKeypads ++ rowsOfWalks)) rows-01
-    (holds-both rowsOf02 (rowsOfKeypads ++ rowsOfWalks) rows-02 (holds-both rowsOfKeypads rowsOfWalks rows-keypads rows-walks))
+    holds-both rowsOf01 (rowsOf02 ++ (rowsOfKeypads ++ (rowsOfWalks ++ rowsOfBounds))) rows-01
+    (holds-both rowsOf02 (rowsOfKeypads ++ (rowsOfWalks ++ rowsOfBounds)) rows-02
+    (holds-both rowsOfKeypads (rowsOfWalks ++ rowsOfBounds) rows-keypads
+    (holds-both rowsOfWalks rowsOfBounds rows-walks rows-bounds)))

@@ -1,8 +1,10 @@
 // The lines that the case programs read, and what they all write. A line is a name, a colon, and numbers; it is read
 // byte by byte: up to the colon a byte belongs to the name; after it a byte from `0` to `9` is a digit, one below `0`
-// ends a number, and any other only begins one. The name of a case is written as it is read.
+// ends a number, and any other only begins one. The name of a case is written as it is read. And what is told of a list
+// of bytes: its front, how many places are alike, a check number.
 ghost use mathlib.Core.Path.{_≡_};
 ghost use mathlib.Core.Bool.{not, _&&_};
+ghost use Prim.Native.Nat.{_≤_};
 ghost use lib.Dec.{eqb};
 ghost use Rattle.cases_lines.specs.Lines.{newLine, withDigit, withNumber, lineAfter, numberAt, smallOf};
 use libc::STDOUT_FILENO;
@@ -29,6 +31,55 @@ pub fn say_number(x: u16) {
 pub fn say_denied(x: u8) {
     say(b" denied");
     say_number(x as u16);
+}
+
+// ---- a list of bytes
+
+// The smaller of two counts.
+fn least(x: usize, y: usize) -> usize
+    ensures { λ r. ⌜ r ≤ y ⌝ }
+{
+    if x < y { x } else { y }
+}
+
+// Writes what a place holds.
+fn say_place(x: u8) {
+    say_number(x as u16);
+}
+
+// Writes what the first n places of a list hold, or all.
+pub fn say_front(list: &[u8], n: usize) {
+    let m = least(n, list.len());
+    for i in 0..m {
+        say_place(list[i]);
+    }
+}
+
+// 1 for equal bytes, 0 for others.
+pub fn alike(x: u8, y: u8) -> usize
+    ensures { λ r. ⌜ r ≤ 1 ⌝ }
+{
+    if x == y { 1 } else { 0 }
+}
+
+// A check number with a number more.
+pub fn check_with(check: usize, x: u16) -> usize {
+    (check % 65521 * 31 + (x as usize)) % 65521
+}
+
+// A check number with a byte more.
+fn with_byte(check: usize, x: u8) -> usize {
+    check_with(check, x as u16)
+}
+
+// A check number with all places of a list more.
+pub fn check_of(list: &[u8], check: usize) -> usize {
+    let mut c = check;
+    for i in 0..list.len() {
+        let d = with_byte(c, list[i]);
+        c = d;
+    }
+    c
 }
 
 // ---- a line
