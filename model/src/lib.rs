@@ -1,9 +1,10 @@
-//! A plain model of the dialogue bench: sheets, probes, tests, comparisons, scripts, keypads and
-//! walks.
+//! A plain model of the dialogue bench: sheets, probes, tests, comparisons, scripts, keypads, walks
+//! and the pair of sheets that reaches the bound.
 //!
 //! Everything here follows the written definitions as directly as possible.
 //! Speed is given up wherever it would need a cleverer argument.
 
+pub mod bound;
 pub mod comparison;
 pub mod examples;
 pub mod faults;

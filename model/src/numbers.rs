@@ -1,6 +1,7 @@
 //! The answers and records of the calls in numbers, as they cross the edge, in the layout
 //! of C.
 
+use crate::bound;
 use crate::comparison::{compare_into, Named, Outcome};
 use crate::keypad::{self, Bad, Checked, Looked};
 use crate::load;
@@ -85,6 +86,16 @@ pub struct Found {
 pub struct Walked {
     pub refusal: u8,
     pub length: u16,
+}
+
+/// The answer of the call on the bound: the refusal, 0 for none, and the lengths of the reference
+/// and of the device in bytes.
+#[repr(C)]
+#[derive(Clone, Copy, PartialEq, Eq, Debug)]
+pub struct Bounded {
+    pub refusal: u8,
+    pub reference: u16,
+    pub device: u16,
 }
 
 /// An answer to an opening or a report: the refusal, 0 for none; which case it is, 0 for a
@@ -361,6 +372,16 @@ pub fn walked(answer: Result<usize, u8>) -> Walked {
     }
 }
 
+/// The numbers of the answer on the bound.
+pub fn bounded(answer: Result<(usize, usize), u8>) -> Bounded {
+    let (reference, device) = answer.unwrap_or((0, 0));
+    Bounded {
+        refusal: answer.err().unwrap_or(0),
+        reference: reference as u16,
+        device: device as u16,
+    }
+}
+
 /// The probe call in numbers.
 pub fn list_numbers(sheet: &Sheet, node: u8, lent: &mut [u16]) -> Listed {
     listed(fill(sheet, node, lent))
@@ -410,4 +431,9 @@ pub fn find_numbers(sheet: &Sheet, table: &[u8], code: u8) -> Found {
 /// The walk call in numbers.
 pub fn walk_numbers(sheet: &Sheet, seed: u32, wish: u16, lent: &mut [u8]) -> Walked {
     walked(load::fill(sheet, seed, wish, lent))
+}
+
+/// The call on the bound in numbers.
+pub fn bound_numbers(p: u8, q: u8, reference: &mut [u8], device: &mut [u8]) -> Bounded {
+    bounded(bound::fill(p, q, reference, device))
 }

@@ -1,15 +1,17 @@
 //! The variants in which faults are planted answer as the plain model does where no fault
 //! is planted, and each fault of a probe list, of a run, of a verdict, of all verdicts, of a
-//! comparison, of a count of scripts, of a rule table, of a walk and of a text shows on some input.
-//! The random comparison with the library looks for the faults of every call.
+//! comparison, of a count of scripts, of a rule table, of a walk, of the sheets of the bound and of
+//! a text shows on some input. The random comparison with the library looks for the faults of every
+//! call.
 
 use model::comparison::{compare_into, Outcome, MAX_WORDS};
 use model::examples::program_pair;
 use model::keypad::{self, table_of};
 use model::numbers::{
-    count_numbers, find_numbers, judged, keypad_numbers, listed, step_numbers, walk_numbers,
-    Record, Suited,
+    bound_numbers, count_numbers, find_numbers, judged, keypad_numbers, listed, step_numbers,
+    walk_numbers, Record, Suited,
 };
+use model::planted::bounds::{bound_with, BoundFault};
 use model::planted::comparisons::{compare_with, CompareFault};
 use model::planted::keypads::{
     check_with, find_numbers_with, find_with, keypad_numbers_with, KeypadFault,
@@ -19,6 +21,7 @@ use model::planted::runs::{open_with, step_numbers_with, step_with, RunFault};
 use model::planted::scripts::{count_with, ScriptFault};
 use model::planted::suites::{suite_with, SuiteFault};
 use model::planted::text;
+use model::planted::text::bound_pair::BoundTextFault;
 use model::planted::text::compare::TextFault;
 use model::planted::text::keypad_check::KeypadTextFault;
 use model::planted::text::live::LiveFault;
@@ -33,7 +36,9 @@ use model::probes::{fill, list};
 use model::random::*;
 use model::sheet::{check, Sheet};
 use model::tests::{open, step, Report, Run};
-use model::text::{compare, keypad_check, live, probe_list, script_counts, show, suite, walk};
+use model::text::{
+    bound_pair, compare, keypad_check, live, probe_list, script_counts, show, suite, walk,
+};
 use model::verdict::{verdict, verdicts};
 
 #[test]
@@ -354,6 +359,45 @@ fn every_fault_of_a_walk_shows() {
     assert_eq!(hidden, []);
 }
 
+/// Two numbers of nodes, at times out of range, and two lent lists with any content.
+fn lent_lists(rng: &mut Rng) -> (u8, u8, Vec<u8>, Vec<u8>) {
+    let (p, q) = (bound_count(rng), bound_count(rng));
+    let (first, second) = bound_places(rng, p, q);
+    let reference = (0..first).map(|_| rng.byte()).collect();
+    let device = (0..second).map(|_| rng.byte()).collect();
+    (p, q, reference, device)
+}
+
+#[test]
+fn no_fault_in_bounds() {
+    let mut rng = Rng::new(162);
+    for _ in 0..3_000 {
+        let (p, q, mut mine, mut theirs) = lent_lists(&mut rng);
+        let (mut other, mut others) = (mine.clone(), theirs.clone());
+        let plain = bound_numbers(p, q, &mut mine, &mut theirs);
+        let planted = bound_with(BoundFault::None, p, q, &mut other, &mut others);
+        assert_eq!(plain, planted);
+        assert!((mine, theirs) == (other, others), "{p} {q}");
+    }
+}
+
+#[test]
+fn every_fault_of_a_bound_shows() {
+    let mut rng = Rng::new(163);
+    let mut hidden = BoundFault::ALL.to_vec();
+    for _ in 0..3_000 {
+        let (p, q, mine, theirs) = lent_lists(&mut rng);
+        let played = |fault| {
+            let (mut mine, mut theirs) = (mine.clone(), theirs.clone());
+            let answer = bound_with(fault, p, q, &mut mine, &mut theirs);
+            (answer, mine, theirs)
+        };
+        let plain = played(BoundFault::None);
+        hidden.retain(|&fault| played(fault) == plain);
+    }
+    assert_eq!(hidden, []);
+}
+
 #[test]
 fn every_fault_of_a_verdict_shows() {
     let mut rng = Rng::new(94);
@@ -526,6 +570,20 @@ fn every_fault_of_the_text_of_walks_shows() {
         let planted = text::walk::output_with(WalkTextFault::None, &call);
         assert_eq!(plain, planted);
         hidden.retain(|&fault| text::walk::output_with(fault, &call) == plain);
+    }
+    assert_eq!(hidden, []);
+}
+
+#[test]
+fn every_fault_of_the_text_of_bounds_shows() {
+    let mut rng = Rng::new(164);
+    let mut hidden = BoundTextFault::ALL.to_vec();
+    for round in 0..6_400 {
+        let words = bound_words(&mut rng, round);
+        let plain = bound_pair::output(&words);
+        let planted = text::bound_pair::output_with(BoundTextFault::None, &words);
+        assert_eq!(plain, planted);
+        hidden.retain(|&fault| text::bound_pair::output_with(fault, &words) == plain);
     }
     assert_eq!(hidden, []);
 }

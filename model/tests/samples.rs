@@ -3,7 +3,9 @@
 use std::fs::{read, read_dir, read_to_string};
 use std::path::{Path, PathBuf};
 
-use model::text::{compare, keypad_check, probe_list, script_counts, show, suite, walk};
+use model::text::{
+    bound_pair, compare, keypad_check, probe_list, script_counts, show, suite, walk,
+};
 
 /// How the names of the texts beside a file go on after its own name and some letters: a length of
 /// scripts, nothing or `_` and a code of a keypad, or a seed, `_` and a length of a walk.
@@ -93,6 +95,27 @@ fn table_texts(reference: &[u8], file: &Path) -> usize {
     ends.len()
 }
 
+/// The texts of a pair that reaches the bound, where a folder has one: for P and Q of bound.words
+/// the lines are in bound.out and the bytes in the two sheets. How many there are.
+fn bound_texts(folder: &Path) -> usize {
+    let Ok(counts) = read_to_string(folder.join("bound.words")) else {
+        return 0;
+    };
+    let beside = [
+        ("lines", "bound.out"),
+        ("reference", "reference.sheet"),
+        ("device", "device.sheet"),
+    ];
+    for (word, name) in beside {
+        let words: Vec<String> = counts.split_whitespace().map(String::from).collect();
+        let words = [words, vec![word.to_string()]].concat();
+        let file = folder.join(name);
+        let written = bound_pair::Written::printed(read(&file).expect("a text"));
+        assert_eq!(bound_pair::output(&words), written, "{}", file.display());
+    }
+    beside.len()
+}
+
 /// How many texts of a folder have names whose ending begins with some letters.
 fn there(folder: &Path, letters: &str) -> usize {
     let begins = |file: &&PathBuf| {
@@ -106,6 +129,7 @@ fn there(folder: &Path, letters: &str) -> usize {
 fn the_samples() {
     let samples = Path::new(env!("CARGO_MANIFEST_DIR")).join("../samples");
     let mut texts = 0;
+    let mut bounds = 0;
     for folder in files(&samples, "") {
         let reference = read(folder.join("reference.sheet")).expect("a reference");
         let sheets = files(&folder, ".sheet");
@@ -120,8 +144,11 @@ fn the_samples() {
             .map(|file| table_texts(&reference, file))
             .sum();
         assert_eq!(held, there(&folder, "keypad"), "a text without its table");
-        texts += walks + held;
+        let bound = bound_texts(&folder);
+        bounds += bound;
+        texts += walks + held + bound;
     }
+    assert_eq!(bounds, 3, "a pair that reaches the bound");
     assert!(texts >= 75, "{texts}");
 }
 
@@ -179,4 +206,11 @@ trace 1 1 1 1 1 0
         words: vec!["1".to_string(), "6".to_string()],
     };
     assert_eq!(walk::output(&call), walked);
+    let bound = "reference 3 nodes 26 bytes
+device 4 nodes 27 bytes
+first failing test 11
+";
+    let words = ["3", "4", "lines"].map(String::from);
+    let written = bound_pair::Written::printed(bound);
+    assert_eq!(bound_pair::output(&words), written);
 }

@@ -4,7 +4,8 @@ use std::mem::{offset_of, size_of};
 
 use model::faults::ReadAnswer;
 use model::numbers::{
-    Compared, Found, Judged, Keypad, Listed, Record, Said, Scripts, Stepped, Suited, Walked,
+    Bounded, Compared, Found, Judged, Keypad, Listed, Record, Said, Scripts, Stepped, Suited,
+    Walked,
 };
 use model::sheet::{Row, Sheet};
 
@@ -46,6 +47,8 @@ const _: () = assert!(size_of::<Found>() == 6 && offset_of!(Found, kind) == 1);
 const _: () = assert!(offset_of!(Found, event) == 2 && offset_of!(Found, code) == 3);
 const _: () = assert!(offset_of!(Found, first) == 4 && offset_of!(Found, second) == 5);
 const _: () = assert!(size_of::<Walked>() == 4 && offset_of!(Walked, length) == 2);
+const _: () = assert!(size_of::<Bounded>() == 6);
+const _: () = assert!(offset_of!(Bounded, reference) == 2 && offset_of!(Bounded, device) == 4);
 
 extern "C" {
     fn bench_read(bytes: *const u8, length: usize) -> ReadSheet;
@@ -75,6 +78,14 @@ extern "C" {
     fn bench_keypad(sheet: Sheet, table: *const u8, length: usize) -> Keypad;
     fn bench_find(sheet: Sheet, table: *const u8, length: usize, code: u8) -> Found;
     fn bench_walk(sheet: Sheet, seed: u32, wish: u16, out: *mut u8, length: usize) -> Walked;
+    fn bench_bound(
+        p: u8,
+        q: u8,
+        reference: *mut u8,
+        reference_length: usize,
+        device: *mut u8,
+        device_length: usize,
+    ) -> Bounded;
 }
 
 /// Reads a sheet: 0 and the kept sheet, or the refusal and zeros.
@@ -173,4 +184,19 @@ pub fn find(sheet: &Sheet, table: &[u8], code: u8) -> Found {
 pub fn walk(sheet: &Sheet, seed: u32, wish: u16, out: &mut [u8]) -> Walked {
     // Sound: the slice is lent for the call, and the library is proved to write inside it.
     unsafe { bench_walk(*sheet, seed, wish, out.as_mut_ptr(), out.len()) }
+}
+
+/// Writes the two sheets whose first failing test is p q - 1, each to its own lent list.
+pub fn bound(p: u8, q: u8, reference: &mut [u8], device: &mut [u8]) -> Bounded {
+    // Sound: both slices are lent for the call, and the library is proved to write inside them.
+    unsafe {
+        bench_bound(
+            p,
+            q,
+            reference.as_mut_ptr(),
+            reference.len(),
+            device.as_mut_ptr(),
+            device.len(),
+        )
+    }
 }

@@ -1,6 +1,8 @@
-//! One-fault variants of the calls on probes, runs, verdicts, comparisons, scripts, keypads and
-//! walks, and of the texts. With the fault `None` each of them answers as the plain model does.
+//! One-fault variants of the calls on probes, runs, verdicts, comparisons, scripts, keypads, walks
+//! and the bound, and of the texts. With the fault `None` each of them answers as the plain model
+//! does.
 
+pub mod bounds;
 mod codes;
 pub mod comparisons;
 pub mod keypads;

@@ -1,6 +1,7 @@
 //! A small deterministic generator, and random sheets, codes, bytes, lists, runs, scripts, pairs,
-//! rule tables and walks.
+//! rule tables, walks and numbers of nodes.
 
+mod bounds;
 mod codes;
 mod damage;
 mod input;
@@ -13,6 +14,7 @@ mod runs;
 mod scripts;
 mod walks;
 
+pub use bounds::{bound_count, bound_places, bound_words, no_count, some_count};
 pub use codes::{random_codes, recoded, spelled};
 pub use damage::{damaged, damaged_twice, long_bytes, noise_bytes, AIMS_READ};
 pub use input::{live_call, program_input, sheet_input};

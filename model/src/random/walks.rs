@@ -219,7 +219,7 @@ fn length_word(rng: &mut Rng) -> String {
 }
 
 /// A number, at times with zeros before it, up to so many digits.
-fn padded(rng: &mut Rng, number: u64, digits: usize) -> String {
+pub(super) fn padded(rng: &mut Rng, number: u64, digits: usize) -> String {
     let width = match rng.below(5) {
         0 => digits,
         1 => rng.range(2, digits - 1),
@@ -287,13 +287,13 @@ fn wrong_length(rng: &mut Rng) -> String {
 }
 
 /// A number with so many zeros before it that the word has more than 64 bytes.
-fn longest(rng: &mut Rng, number: u64) -> String {
+pub(super) fn longest(rng: &mut Rng, number: u64) -> String {
     let width = rng.pick(&[65, 66, 100]);
     format!("{number:0width$}")
 }
 
 /// A word that is a number but for a sign, a blank, a letter, or a byte beside the digits.
-fn disguised(rng: &mut Rng, number: u64) -> String {
+pub(super) fn disguised(rng: &mut Rng, number: u64) -> String {
     let before = ["+", "-", " ", "\t", "/", ":", "0x", "x", "\u{663}"];
     let after = [" ", "\n", "/", ":", "x", "a", ".0", ",0", "e1", "\u{ff11}"];
     match rng.one_in(2) {
@@ -303,7 +303,7 @@ fn disguised(rng: &mut Rng, number: u64) -> String {
 }
 
 /// A word without a digit.
-fn no_number(rng: &mut Rng) -> String {
+pub(super) fn no_number(rng: &mut Rng) -> String {
     let words = ["x", "/", ":", "-", "+", " ", "ff", "c", "seed", "\u{ff18}"];
     rng.pick(&words).to_string()
 }

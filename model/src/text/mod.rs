@@ -1,5 +1,6 @@
 //! The whole outputs of the programs.
 
+pub mod bound_pair;
 pub mod compare;
 pub mod keypad_check;
 pub mod live;

@@ -1,5 +1,6 @@
 //! The parts of the comparison, each with its inputs, its classes and its faults.
 
+mod bounds;
 mod comparisons;
 mod keypads;
 mod probes;
@@ -20,7 +21,7 @@ use crate::findings::Findings;
 use crate::play::Part;
 
 /// Every part, in the order in which they are played.
-pub static ALL: [Part; 17] = [
+pub static ALL: [Part; 19] = [
     sheets::PART,
     probes::PART,
     runs::PART,
@@ -30,6 +31,7 @@ pub static ALL: [Part; 17] = [
     scripts::PART,
     keypads::PART,
     walks::PART,
+    bounds::PART,
     texts::compare::PART,
     texts::suite::PART,
     texts::show::PART,
@@ -38,6 +40,7 @@ pub static ALL: [Part; 17] = [
     texts::script_counts::PART,
     texts::keypad_check::PART,
     texts::walk::PART,
+    texts::bound_pair::PART,
 ];
 
 /// 01's mistakes that a good bench hand makes: the name under which each is planted, in every

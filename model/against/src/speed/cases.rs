@@ -8,12 +8,12 @@ use model::keypad::{MAX_RULES, RULE_BYTES};
 use model::load::MAX_WALK;
 use model::numbers::{Record, EVENT, GOOD, OVERLAP, REFUSAL, STRAY};
 use model::scripts::MAX_SCRIPT;
-use model::sheet::{encode, Sheet, MAX_BYTES};
+use model::sheet::{encode, Sheet, MAX_BYTES, MAX_NODES};
 use model::tests::MAX_TEST;
 
 use super::inputs::{crowded, dense, fours, last_bad, longest, refusing, sparse, spread};
 use super::tables::Tables;
-use super::{keypads, pairs, runs, same, scripts, tables, walks};
+use super::{bounds, keypads, pairs, runs, same, scripts, tables, walks};
 use crate::edge;
 
 /// One side of a case: a call whose answer nobody needs.
@@ -61,6 +61,7 @@ pub fn worst() -> Vec<Case> {
     cases.extend(rule_table("bad at 255", sheet, last_bad()));
     cases.push(walking("12 initials", spread(false).0));
     cases.push(walking("2 initials", sparse()));
+    cases.push(bounding());
     cases
 }
 
@@ -296,6 +297,23 @@ fn walking(case: &str, sheet: Sheet) -> Case {
         case: format!("{MAX_WALK} events, {} nodes, {case}", sheet.n),
         ours: used(move || edge::walk(black_box(&sheet), seed, MAX_WALK, &mut out)),
         plain: used(move || walks::walk(black_box(&tables), seed, MAX_WALK, &mut other)),
+    }
+}
+
+/// The two sheets of the bound with 32 nodes each, with lists that are just long enough.
+fn bounding() -> Case {
+    let n = MAX_NODES as u8;
+    let (first, second) = (229, 167);
+    let answer = same::bound(n, n, (first, second));
+    let lengths = (usize::from(answer.reference), usize::from(answer.device));
+    assert_eq!((answer.refusal, lengths), (0, (first, second)));
+    let (mut mine, mut theirs) = (vec![0; first], vec![0; second]);
+    let (mut other, mut others) = (mine.clone(), theirs.clone());
+    Case {
+        call: "bound",
+        case: format!("p {n}, q {n}, {first} and {second} bytes"),
+        ours: used(move || edge::bound(black_box(n), black_box(n), &mut mine, &mut theirs)),
+        plain: used(move || bounds::bound(black_box(n), black_box(n), &mut other, &mut others)),
     }
 }
 

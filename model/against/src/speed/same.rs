@@ -2,16 +2,16 @@
 //! list must be equal. A difference ends the program.
 
 use model::comparison::WORDS_A_PAIR;
-use model::numbers::{Compared, Found, Keypad, Record, Scripts, Walked};
+use model::numbers::{Bounded, Compared, Found, Keypad, Record, Scripts, Walked};
 use model::random::{
-    asked_code, damaged, deep_pair, kept, kept_twice, mixed_sheet, pair, random_record,
-    random_sheet, recoded, refusing_pair, rule_table, script_length, spelled, walk_places,
-    walk_seed, walk_sheet, walk_wish, Rng, AIMS_KEPT, AIMS_READ,
+    asked_code, bound_count, bound_places, damaged, deep_pair, kept, kept_twice, mixed_sheet, pair,
+    random_record, random_sheet, recoded, refusing_pair, rule_table, script_length, spelled,
+    walk_places, walk_seed, walk_sheet, walk_wish, Rng, AIMS_KEPT, AIMS_READ,
 };
 use model::sheet::Sheet;
 
 use super::tables::Tables;
-use super::{keypads, pairs, runs, scripts, tables, walks};
+use super::{bounds, keypads, pairs, runs, scripts, tables, walks};
 use crate::edge;
 
 /// One reading.
@@ -122,6 +122,16 @@ pub fn walk(sheet: &Sheet, seed: u32, wish: u16, length: usize) -> Walked {
     answer
 }
 
+/// The two sheets of the bound with lists of these lengths.
+pub fn bound(p: u8, q: u8, (first, second): (usize, usize)) -> Bounded {
+    let (mut mine, mut theirs) = (vec![77; first], vec![77; second]);
+    let (mut other, mut others) = (mine.clone(), theirs.clone());
+    let answer = edge::bound(p, q, &mut mine, &mut theirs);
+    let plain = bounds::bound(p, q, &mut other, &mut others);
+    assert_eq!((answer, mine, theirs), (plain, other, others));
+    answer
+}
+
 /// Some random inputs of every call, refused ones among them.
 pub fn random(rounds: usize) {
     let mut rng = Rng::new(1);
@@ -147,6 +157,10 @@ pub fn random(rounds: usize) {
         two_sheets(&mut rng, &other, &device);
         let (reference, device) = refusing_pair(&mut rng);
         two_sheets(&mut rng, &reference, &device);
+        for _ in 0..5 {
+            let (p, q) = (bound_count(&mut rng), bound_count(&mut rng));
+            bound(p, q, bound_places(&mut rng, p, q));
+        }
     }
 }
 

@@ -1,5 +1,6 @@
 //! The texts of the programs with a fault planted.
 
+pub mod bound_pair;
 pub mod compare;
 pub mod keypad_check;
 pub mod live;

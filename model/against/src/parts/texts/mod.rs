@@ -1,6 +1,7 @@
 //! The programs: each is run as it was built, on inputs of every kind, which reach it through a
 //! pipe, some of them in pieces.
 
+pub mod bound_pair;
 pub mod compare;
 pub mod keypad_check;
 pub mod live;
@@ -60,7 +61,7 @@ fn target() -> PathBuf {
 /// What a program writes for some words and an input, which comes in two pieces if asked for.
 fn printed(program: &str, words: &[String], input: &[u8], pieces: bool) -> String {
     match written(program, words, input, pieces, Stdio::inherit()) {
-        Ok((text, _)) => text,
+        Ok((bytes, _)) => text_of(bytes),
         Err(error) => format!("no output: {error}"),
     }
 }
@@ -72,10 +73,26 @@ fn printed_and_said(
     input: &[u8],
     pieces: bool,
 ) -> (String, String) {
+    let (bytes, said) = bytes_and_said(program, words, input, pieces);
+    (text_of(bytes), text_of(said))
+}
+
+/// The same as bytes.
+fn bytes_and_said(
+    program: &str,
+    words: &[String],
+    input: &[u8],
+    pieces: bool,
+) -> (Vec<u8>, Vec<u8>) {
     match written(program, words, input, pieces, Stdio::piped()) {
         Ok(both) => both,
-        Err(error) => (format!("no output: {error}"), String::new()),
+        Err(error) => (format!("no output: {error}").into(), Vec::new()),
     }
+}
+
+/// The text that bytes are.
+fn text_of(bytes: Vec<u8>) -> String {
+    String::from_utf8(bytes).unwrap_or_else(|error| format!("no text: {error}"))
 }
 
 fn written(
@@ -84,7 +101,7 @@ fn written(
     input: &[u8],
     pieces: bool,
     errors: Stdio,
-) -> std::io::Result<(String, String)> {
+) -> std::io::Result<(Vec<u8>, Vec<u8>)> {
     let mut child = Command::new(target().join("bin").join(program))
         .args(words)
         .stdin(Stdio::piped())
@@ -100,17 +117,17 @@ fn written(
         // A program may stop reading before the end, so that the rest may fail.
         let _ = first.and_then(|()| pipe.write_all(&input[middle..]));
     }
-    let (mut text, mut said) = (String::new(), String::new());
+    let (mut bytes, mut said) = (Vec::new(), Vec::new());
     if let Some(mut pipe) = child.stdout.take() {
-        pipe.read_to_string(&mut text)?;
+        pipe.read_to_end(&mut bytes)?;
     }
     // What is said there is short, so that the program never waits for it to be read.
     if let Some(mut pipe) = child.stderr.take() {
-        pipe.read_to_string(&mut said)?;
+        pipe.read_to_end(&mut said)?;
     }
     let status = child.wait()?;
     if !status.success() {
-        text += &status.to_string();
+        bytes.extend(status.to_string().bytes());
     }
-    Ok((text, said))
+    Ok((bytes, said))
 }
