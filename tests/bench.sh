@@ -1,11 +1,12 @@
 #!/bin/sh
-# The entry script's own work: the status for every ending of every program, output that cannot be written, the lines of
-# a form, interrupts, two scripts at once, and folders and tools that are not as they should be. Where it proves and
-# builds, a stand-in takes the place of the toolchain, so that this takes seconds.
+# The entry script's own work: the status for every ending of every program, a pair of sheets that is written and files
+# that it must not touch, output that cannot be written, the lines of a form, interrupts, two scripts at once, and
+# folders and tools that are not as they should be. Where it proves and builds, a stand-in takes the place of the
+# toolchain, so that this takes seconds.
 set -u
 cd "$(dirname "$0")/.." || exit 1
 . tests/shared
-for name in compare suite show probe_list live script_counts keypad_check walk; do built "$name"; done
+for name in compare suite show probe_list live script_counts keypad_check walk bound_pair; do built "$name"; done
 begins
 root=$PWD
 example=samples/example
@@ -285,6 +286,374 @@ seen 4
 exec 4>&-
 wait "$live" || fails "a live run, typed: status $?"
 
+# ---- a pair of sheets that is written
+place=$scratch/place
+bytes $bound_reference > "$scratch/bound_reference"
+bytes $bound_device > "$scratch/bound_device"
+mkdir "$scratch/temporary"
+
+# fresh: the folder $place is empty
+fresh() {
+    rm -rf "$place"
+    mkdir "$place"
+}
+
+# state [tried]: the folder $place and what it has: names, kinds, modes, inodes, sizes, where links lead, times, and all
+# bytes; the times of folders not where it was tried to write there
+state() {
+    {
+        find "$place" -printf '%p %y %m %i %s %l\n' | sort
+        find "$place" ${1:+! -type d} -printf '%p %T@ %C@\n' | sort
+        find "$place" -type f -exec cksum {} + | sort
+    } 2> /dev/null
+}
+
+# bound_ends STATUS NAME WORD..: `bound` with these words, called in $place as $bench, with $path and as the user $as
+# says, ends with this status, and its temporary folder is gone
+bound_ends() {
+    wanted=$1
+    called=$2
+    shift 2
+    ends_with "$wanted" "$called" $as env TMPDIR="$scratch/temporary" PATH="$path" \
+        sh -c 'cd "$1" && shift && exec "$@"' sh "$place" "$bench" bound "$@"
+    [ -z "$(ls -A "$scratch/temporary")" ] || fails "$called: a temporary folder remains"
+}
+bench=$root/bench
+path=$PATH
+as=
+
+# entries NAME COUNT: the folder $place has so many entries: no temporary file remains
+entries() {
+    [ "$(find "$place" -mindepth 1 -printf x | wc -c)" = "$2" ] || {
+        fails "$1: the folder has not $2 entries:"
+        ls -lA "$place" >&2
+    }
+}
+
+# has_pair NAME REF DEV: these files of the folder $place have the bytes of the pair of 3 and 4 nodes
+has_pair() {
+    cmp -s "$place/$2" "$scratch/bound_reference" && cmp -s "$place/$3" "$scratch/bound_device" ||
+        fails "$1: the files have other bytes"
+}
+
+# written NAME COUNT REF DEV [replace]: the pair of 3 and 4 nodes is in these files, its lines are printed, standard
+# error has none, and the folder has so many entries
+written() {
+    what="bound, $1"
+    count=$2
+    shift 2
+    bound_ends 0 "$what" 3 4 "$@"
+    [ ! -s "$scratch/said" ] || fails "$what: standard error has a line"
+    held "$what: its lines" 'reference 3 nodes 26 bytes' 'device 4 nodes 27 bytes' 'first failing test 11'
+    has_pair "$what" "$1" "$2"
+    entries "$what" "$count"
+}
+
+# kept NAME WORDS WORD..: `bound` with these words prints nothing, standard error has one line, with these WORDS, and
+# the folder is as it was: nothing was written, not for a moment
+kept() {
+    what="bound, $1"
+    words=$2
+    shift 2
+    state $trying > "$scratch/before"
+    bound_ends 2 "$what" "$@"
+    told "$what" "$words"
+    [ ! -s "$scratch/printed" ] || fails "$what: it printed a line"
+    state $trying > "$scratch/printed"
+    same "$what: the folder" "$scratch/before"
+}
+trying=
+
+# undone NAME WORDS WORD..: the same, but that it was tried to write
+undone() {
+    trying=tried
+    kept "$@"
+    trying=
+}
+
+# out_of_range P Q REF DEV [replace]: the pair is refused, and the folder is as it was
+out_of_range() {
+    what="bound '$1' '$2' $3 $4 ${5-}"
+    state > "$scratch/before"
+    bound_ends 2 "$what" "$@"
+    [ ! -s "$scratch/said" ] || fails "$what: standard error has a line"
+    held "$what" 'bound refused 30'
+    state > "$scratch/printed"
+    same "$what: the folder" "$scratch/before"
+}
+
+# new files, and what is said of them
+fresh
+written 'new files' 2 r d
+ends_with 1 'compare of the pair' ./bench compare "$place/r" "$place/d"
+held 'compare of the pair' 'reference 3 nodes 2 events' 'device 4 nodes 2 events' 'violates after 11 cleared 11' \
+    'trace 0 0 0 1 0 0 0 1 0 0 0' 'stray 1'
+ends_with 1 'suite of the pair' ./bench suite "$place/r" "$place/d"
+{
+    lines 'reference 3 nodes 2 events' 'device 4 nodes 2 events'
+    for k in 0 1 2 3 4 5 6 7 8 9 10; do echo "test $k passes"; done
+    lines 'test 11 fails' 'tests 12 run 12 failed 1'
+} > "$scratch/wanted"
+same 'suite of the pair' "$scratch/wanted"
+ends_with 0 'the reference of the pair' ./bench show "$place/r"
+ends_with 0 'the device of the pair' ./bench show "$place/d"
+# reaches P Q: the pair is written, and `compare` and `suite` say that its first failing test is number p q - 1
+reaches() {
+    fresh
+    d=$((${1#0} * ${2#0} - 1))
+    bound_ends 0 "bound $1 $2" "$1" "$2" r d
+    held "bound $1 $2" "reference ${1#0} nodes $((7 * ${1#0} + 5)) bytes" \
+        "device ${2#0} nodes $((5 * ${2#0} + 7)) bytes" "first failing test $d"
+    entries "bound $1 $2" 2
+    ends_with 1 "compare of $1 and $2" ./bench compare "$place/r" "$place/d"
+    sed -n '3p;$p' "$scratch/printed" > "$scratch/last"
+    mv "$scratch/last" "$scratch/printed"
+    held "compare of $1 and $2" "violates after $d cleared $d" 'stray 1'
+    ends_with 1 "suite of $1 and $2" ./bench suite "$place/r" "$place/d"
+    grep -v ' passes$' "$scratch/printed" | tail -n 2 > "$scratch/last"
+    mv "$scratch/last" "$scratch/printed"
+    held "suite of $1 and $2" "test $d fails" "tests $((d + 1)) run $((d + 1)) failed 1"
+}
+for numbers in '1 1' '1 2' '2 1' '1 32' '32 1' '03 04' '5 7' '7 5' '31 32' '32 32'; do reaches $numbers; done
+
+# files that exist: none is changed, and the other is not written
+exists='exists, and nothing is written; a fifth word, replace, permits it'
+fresh
+echo mine > "$place/r"
+kept 'the reference exists' "the file r $exists" 3 4 r d
+kept 'the device exists' "the file r $exists" 3 4 d r
+kept 'the reference exists, refused numbers' "the file r $exists" 0 33 r d
+: > "$place/d"
+kept 'both exist' "the file r $exists" 3 4 r d
+rm "$place/r"
+kept 'the device exists and is empty' "the file d $exists" 3 4 r d
+cp "$scratch/bound_reference" "$place/r"
+cp "$scratch/bound_device" "$place/d"
+kept 'both exist, with these very bytes' "the file r $exists" 3 4 r d
+chmod a-w "$place/r"
+kept 'the reference exists, read only' "the file r $exists" 3 4 r e
+kept 'another spelling' "the file ../place/r $exists" 3 4 ../place/r e
+ln -s r "$place/link"
+ln -s nowhere "$place/dangling"
+ln -s nowhere/r "$place/astray"
+ln -s circle "$place/circle"
+for link in link dangling astray circle; do
+    kept "a link for the reference: $link" "the file $link $exists" 3 4 $link e
+    kept "a link for the device: $link" "the file $link $exists" 3 4 e $link
+done
+
+# one file, by whatever names: nothing is written, also with replace
+one='are one file, and nothing is written'
+# one_file REF DEV [replace]: they are one file
+one_file() {
+    kept "one file, $*" "$1 and $2 $one" 3 4 "$@"
+}
+# both_ways REF DEV [replace]: and also exchanged
+both_ways() {
+    one_file "$@"
+    one_file "$2" "$1" ${3-}
+}
+fresh
+mkdir "$place/folder"
+ln -s folder "$place/other"
+ln -s . "$place/here"
+for word in '' replace; do
+    one_file x x $word
+    one_file ./x ./x $word
+    both_ways x ./x $word
+    both_ways x .//x $word
+    both_ways x folder/../x $word
+    both_ways x here/x $word
+    both_ways x here/here/x $word
+    both_ways x "$place/x" $word
+    both_ways ../place/x x $word
+    both_ways folder/x other/x $word
+    both_ways folder/x other/../folder/x $word
+    one_file 'a b' 'a b' $word
+    one_file -x -x $word
+done
+kept 'one file, refused numbers' "x and ./x $one" 0 33 x ./x
+# links to a file that is not there
+ln -s y "$place/to_y"
+ln -s to_y "$place/to_to_y"
+both_ways y to_y replace
+both_ways to_y to_to_y replace
+# and to one that is
+echo mine > "$place/x"
+ln -s x "$place/to_x"
+ln "$place/x" "$place/hard"
+ln "$place/x" "$place/folder/hard"
+for file in x ./x to_x hard folder/hard other/hard; do
+    one_file $file $file replace
+    [ $file = x ] || both_ways x $file replace
+    kept "one file that exists, $file" "the file x $exists" 3 4 x $file
+done
+both_ways to_x hard replace
+both_ways folder/hard other/hard replace
+
+# replace: it permits files that exist, and asks for none
+fresh
+written 'replace, none exists' 2 r d replace
+written 'replace, both exist' 2 r d replace
+rm "$place/r"
+head -c 5000 /dev/zero > "$place/d"
+written 'replace, the device exists' 2 r d replace
+rm "$place/d"
+echo mine > "$place/r"
+chmod a-w "$place/r"
+written 'replace, the reference exists, read only' 2 r d replace
+: > "$place/r"
+: > "$place/d"
+written 'replace, both exist and are empty' 2 r d replace
+# the files exchanged
+bound_ends 0 'bound, replace, exchanged' 3 4 d r replace
+has_pair 'bound, replace, exchanged' d r
+entries 'bound, replace, exchanged' 2
+# a link stays, and the file where it leads is replaced, or made
+fresh
+mkdir "$place/folder"
+echo mine > "$place/folder/r"
+ln -s folder/r "$place/r"
+ln -s folder/d "$place/d"
+written 'replace, links' 5 r d replace
+[ "$(readlink "$place/r") $(readlink "$place/d")" = 'folder/r folder/d' ] ||
+    fails 'bound, replace, links: they are gone'
+has_pair 'bound, replace, links' folder/r folder/d
+# a link that leads nowhere at all
+ln -s nowhere/r "$place/astray"
+ln -s circle "$place/circle"
+for link in astray circle; do
+    kept "replace, a link for the reference: $link" "the file $link cannot be written" 3 4 $link e replace
+    kept "replace, a link for the device: $link" "the file $link cannot be written" 3 4 e $link replace
+done
+# no such word
+usage='bound takes two numbers, 1 to 32, and two files, and may end with replace: ./bench bound P Q REF DEV [replace]'
+for word in '' ' ' Replace REPLACE replac replaces replace. 'replace ' ' replace' force -f --replace yes r; do
+    kept "the word '$word', both exist" "$usage" 3 4 r d "$word"
+    kept "the word '$word', none exists" "$usage" 3 4 v w "$word"
+    kept "the word '$word', refused numbers" "$usage" 0 4 v w "$word"
+done
+kept 'no word' "$usage"
+kept 'one number' "$usage" 3
+kept 'two numbers' "$usage" 3 4
+kept 'one file name' "$usage" 3 4 v
+kept 'replace for a file name' "$usage" 3 4 v w replace replace
+kept 'an empty word more' "$usage" 3 4 v w replace ''
+kept 'replace before the files' "$usage" 3 4 replace v w
+
+# numbers out of range, and words that are none: nothing is written, whether the files exist or not
+fresh
+for word in 0 00 33 033 255 256 259 288 1000 0003 0007 '' ' ' x 3x 0x3 -1 -3 +3 ' 3' '3 ' '3 4' 3.0 lines; do
+    out_of_range "$word" 4 r d
+    out_of_range 3 "$word" r d
+    out_of_range "$word" "$word" r d replace
+done
+entries 'refused numbers' 0
+echo mine > "$place/r"
+echo yours > "$place/d"
+for word in 0 33 259 0003 '' x; do
+    out_of_range "$word" 4 r d replace
+    out_of_range 3 "$word" r d replace
+    kept "refused numbers, '$word', the files exist" "the file r $exists" 3 "$word" r d
+done
+
+# what is no file, and folders that are not there
+fresh
+mkdir "$place/folder"
+ln -s folder "$place/to_folder"
+mkfifo "$place/pipe"
+ln -s /dev/null "$place/null"
+echo mine > "$place/x"
+for word in '' replace; do
+    for file in folder to_folder . .. / folder/ folder/. /dev/null null /dev/full pipe x/ new/; do
+        kept "$file for the reference $word" "$file is not a file" 3 4 $file d $word
+        kept "$file for the device $word" "$file is not a file" 3 4 d $file $word
+    done
+    for file in nowhere/r folder/nowhere/r nowhere/../r x/r x/../r; do
+        kept "$file for the reference $word" "there is no folder for the file $file" 3 4 $file d $word
+        kept "$file for the device $word" "there is no folder for the file $file" 3 4 d $file $word
+    done
+    kept "an empty name for the reference $word" ' is not a file' 3 4 '' d $word
+    kept "an empty name for the device $word" ' is not a file' 3 4 d '' $word
+done
+
+# names of every kind
+newline='
+'
+for file in 'a b' ' a' 'a ' -x -- - -n -e '!' '(' = '*' '?' '[a]' '$HOME' '`a`' '"' "'" '\' 'a\nb' 'a\c' 'a;b' '&' '~' \
+    '#' '%s' replace lines "$(printf '\303\244')" "$(printf '\377')" "a${newline}b" "${newline}a" "$(printf 'a\tb')" \
+    "$(repeat 200 x)" "$(repeat 240 x)" "$(repeat 254 x)"; do
+    fresh
+    written "the names $file and y" 2 "$file" y
+    written "the names y and $file, replace" 2 y "$file" replace
+    written "the names ${file}x and $file, replace" 3 "${file}x" "$file" replace
+    fresh
+    mkdir -- "$place/${file}x"
+    written "in the folder ${file}x" 3 "./${file}x/r" "./${file}x/d"
+done
+# a newline at the end of a name is a part of it, and the file without it is another
+fresh
+echo mine > "$place/x"
+written 'a newline at the end' 3 "x$newline" y
+[ "$(cat "$place/x")" = mine ] || fails 'bound, a newline at the end: another file is replaced'
+written 'a newline at the end of the other' 4 "x$newline$newline" "x$newline" replace
+[ "$(cat "$place/x")" = mine ] || fails 'bound, a newline at the end of the other: another file is replaced'
+fresh
+mkdir "$place/x$newline"
+written 'a newline at the end of a folder' 3 "x$newline/r" "x$newline/d"
+kept 'a folder without the newline at its end' 'there is no folder for the file x/r' 3 4 x/r "x$newline/e"
+# the longest names, of 255 bytes; of more the system has none
+fresh
+written 'names of 255 bytes' 2 "$(repeat 255 x)" "$(repeat 255 y)"
+kept 'a name of 256 bytes' 'cannot be written' 3 4 "$(repeat 256 z)" d
+kept 'a name of 256 bytes for the device' 'cannot be written' 3 4 r "$(repeat 256 z)"
+kept 'a name of 5,000 bytes' 'cannot be written' 3 4 r "$(repeat 5000 z)"
+# what it says of a name with a backslash is one line
+echo mine > "$place/a\\nb\\c"
+kept 'a backslash in a name that exists' 'the file a\nb\c exists' 3 4 'a\nb\c' d
+
+# called by its own name, by a link, and with CDPATH; the files are those of the folder in which it is called
+fresh
+mkdir "$place/folder"
+ln -s "$root/bench" "$place/link"
+bench=$place/link
+written 'by a link' 4 r d
+bench=../place/link
+written 'by a link, another spelling' 6 folder/r folder/d
+bench=$root/bench
+ends_with 0 'bound with CDPATH' env CDPATH="$place:$root" sh bench bound 3 4 "$place/folder/e" "$place/folder/f"
+has_pair 'bound with CDPATH' folder/e folder/f
+entries 'bound with CDPATH' 8
+
+# no input is read, and none is needed
+fresh
+ends_with 0 'bound without input' sh -c './bench bound 3 4 "$1/r" "$1/d" <&-' sh "$place"
+has_pair 'bound without input' r d
+[ ! -s "$scratch/said" ] || fails 'bound without input: standard error has a line'
+ends_with 0 'show without input' sh -c './bench show "$1/r" <&-' sh "$place"
+fresh
+ends_with 0 'bound, input left' sh -c '{ ./bench bound 3 4 "$1/r" "$1/d" > /dev/null; cat; } < "$2"' sh \
+    "$place" "$scratch/reference"
+same 'bound, input left' "$scratch/reference"
+# output that cannot be written is told. A closed one is told before anything is written; of one that is full the script
+# hears when both files are there
+fresh
+ends_with 2 'bound to a closed output' sh -c './bench bound 3 4 "$1/r" "$1/d" >&-' sh "$place"
+told 'bound to a closed output' 'the output could not be written'
+entries 'bound to a closed output' 0
+ends_with 2 'bound to a full device' sh -c './bench bound 3 4 "$1/r" "$1/d" > /dev/full' sh "$place"
+told 'bound to a full device' 'the output could not be written'
+has_pair 'bound to a full device' r d
+entries 'bound to a full device' 2
+fresh
+ends_with 2 'refused numbers to a full device' sh -c './bench bound 3 33 "$1/r" "$1/d" > /dev/full' sh "$place"
+told 'refused numbers to a full device' 'the output could not be written'
+entries 'refused numbers to a full device' 0
+# nothing can be written, not even into the temporary folder
+ends_with 2 'bound, a limit on file size' \
+    sh -c 'ulimit -f 0; exec ./bench bound 3 4 "$1/r" "$1/d" > /dev/null 2> /dev/null' sh "$place"
+entries 'bound, a limit on file size' 0
+
 # ---- output that cannot be written: told, and never status 0
 ends_with 2 'a full device' sh -c "./bench suite $tray/reference.sheet $tray/repaired.sheet > /dev/full"
 told 'a full device' 'the output could not be written'
@@ -313,7 +682,7 @@ ends_with 2 'help to a full device' sh -c './bench help > /dev/full'
 # the programs themselves tell it too; their own status is always 0
 cat $example/reference.sheet $example/device.sheet > "$scratch/pair"
 cat "$scratch/reference" "$scratch/good" > "$scratch/keyed"
-for program in compare suite show probe_list script_counts keypad_check walk; do
+for program in compare suite show probe_list script_counts keypad_check walk bound_pair; do
     input=$scratch/pair
     word=
     case $program in
@@ -321,6 +690,7 @@ for program in compare suite show probe_list script_counts keypad_check walk; do
         script_counts) word=3 ;;
         keypad_check) input=$scratch/keyed ;;
         walk) input=$example/reference.sheet word='1 8' ;;
+        bound_pair) word='3 4 lines' ;;
     esac
     ends_with 0 "$program itself" sh -c "target/bin/$program $word < '$input' > /dev/full"
     told "$program itself" "$program: the output could not be written"
@@ -380,6 +750,97 @@ for seed in 3 00016 '' '1 2' '*'; do
     ends_with 0 "the length '$seed'" "$scratch/copy/bench" walk "$scratch/may_loop" 1 "$seed"
     held "the length '$seed'" "trace 2 (1) ($seed) 0000000701010100010000"
 done
+# a pair whose lines or bytes are not whole, and a program that ends badly: nothing is written
+text='printf "reference 3 nodes 26 bytes\ndevice 4 nodes 27 bytes\nfirst failing test 11\n"'
+whole="cat '$scratch/may_loop'"
+cut="head -c 10 '$scratch/may_loop'"
+# unwritten NAME LINES REFERENCE DEVICE: with a program that runs these commands for its three words
+unwritten() {
+    stand_in bound_pair "case \$3 in lines) $2 ;; reference) $3 ;; device) $4 ;; esac"
+    fresh
+    bench=$scratch/copy/bench
+    bound_ends 2 "bound, $1" 3 4 r d
+    entries "bound, $1" 0
+    echo mine > "$place/r"
+    state > "$scratch/before"
+    bound_ends 2 "bound, $1, replace" 3 4 r d replace
+    state > "$scratch/printed"
+    same "bound, $1, replace: the folder" "$scratch/before"
+    bench=$root/bench
+}
+unwritten 'no line' : "$whole" "$whole"
+unwritten 'lines without the last' 'printf "reference 3 nodes 26 bytes\ndevice 4 nodes 27 bytes\n"' "$whole" "$whole"
+unwritten 'a line of its own' 'echo "bound refused 31"' "$whole" "$whole"
+unwritten 'lines that end badly' "$text; exit 3" "$whole" "$whole"
+unwritten 'no bytes of the reference' "$text" : "$whole"
+unwritten 'no bytes of the device' "$text" "$whole" :
+unwritten 'bytes of the reference that are cut off' "$text" "$cut" "$whole"
+unwritten 'bytes of the device that are cut off' "$text" "$whole" "$cut"
+unwritten 'a byte too many' "$text" "$whole; echo" "$whole"
+unwritten 'a reference that ends badly' "$text" "$whole; exit 3" "$whole"
+unwritten 'a device that ends badly' "$text" "$whole" "$whole; exit 3"
+unwritten 'a program that is killed' "$text" "$whole" "$whole; kill -KILL \$\$"
+# both numbers are handed over as they were given, for each of the three words
+stand_in bound_pair "printf '%s|' \"\$@\" >> '$scratch/handed'" "case \$3 in lines) $text ;; *) $whole ;; esac"
+bench=$scratch/copy/bench
+for word in 3 00016 '' '1 2' '*' -x; do
+    fresh
+    rm -f "$scratch/handed"
+    bound_ends 0 "bound, the numbers '$word'" "$word" "x$word" r d
+    lines "$word|x$word|lines|$word|x$word|reference|$word|x$word|device|" > "$scratch/wanted"
+    { cat "$scratch/handed"; echo; } > "$scratch/printed"
+    same "bound, the numbers '$word'" "$scratch/wanted"
+    cmp -s "$place/r" "$scratch/may_loop" && cmp -s "$place/d" "$scratch/may_loop" ||
+        fails "bound, the numbers '$word': the files have other bytes"
+done
+# a file that appears meanwhile stays as it is
+stand_in bound_pair "case \$3 in lines) $text ;; *) $whole ;; esac; echo mine > '$place/d'"
+fresh
+bound_ends 2 'bound, a file that appears' 3 4 r d
+told 'bound, a file that appears' "the file d $exists"
+entries 'bound, a file that appears' 1
+[ "$(cat "$place/d")" = mine ] || fails 'bound, a file that appears: it is replaced'
+bench=$root/bench
+# a folder that is full, and a file that cannot be put in its place: nothing is written, and no temporary file remains
+# broken TOOL LINE..: on the path this tool runs these lines; $real is the tool itself, and at the second call $again
+# is not empty
+broken() {
+    rm -rf "$scratch/broken"
+    mkdir "$scratch/broken"
+    name=$1
+    shift
+    lines '#!/bin/sh' "real=$(command -v "$name")" "again=; [ ! -e '$scratch/broken/once' ] || again=yes" \
+        ": > '$scratch/broken/once'" "$@" > "$scratch/broken/$name"
+    chmod +x "$scratch/broken/$name"
+    path=$scratch/broken:$PATH
+}
+fresh
+broken cat 'head -c 5; exit 1'
+undone 'a full folder' 'the file r cannot be written, and nothing is' 3 4 r d
+broken cat '[ -n "$again" ] || exec "$real" "$@"' 'head -c 5; exit 1'
+undone 'a full folder for the device' 'the file d cannot be written, and nothing is' 3 4 r d
+broken mv 'exit 1'
+undone 'a file that cannot be put in its place' 'the file r cannot be written, and nothing is' 3 4 r d
+broken mv 'kill -TERM $PPID; exit 1'
+bound_ends 130 'bound, an interrupt' 3 4 r d
+entries 'bound, an interrupt' 0
+echo mine > "$place/r"
+echo yours > "$place/d"
+broken cat 'head -c 5; exit 1'
+undone 'a full folder, replace' 'the file r cannot be written, and nothing is' 3 4 r d replace
+broken cat '[ -n "$again" ] || exec "$real" "$@"' 'head -c 5; exit 1'
+undone 'a full folder for the device, replace' 'the file d cannot be written, and nothing is' 3 4 r d replace
+broken mv 'exit 1'
+undone 'a file that cannot be replaced' 'the file r cannot be written, and nothing is' 3 4 r d replace
+# only here one of the two is there, and it is told which
+broken mv '[ -n "$again" ] || exec "$real" "$@"' 'exit 1'
+bound_ends 2 'bound, a device that cannot be replaced' 3 4 r d replace
+told 'bound, a device that cannot be replaced' 'the file d cannot be written; r is'
+[ ! -s "$scratch/printed" ] || fails 'bound, a device that cannot be replaced: it printed a line'
+cmp -s "$place/r" "$scratch/bound_reference" && [ "$(cat "$place/d")" = yours ] ||
+    fails 'bound, a device that cannot be replaced: the files have other bytes'
+entries 'bound, a device that cannot be replaced' 2
+path=$PATH
 # a table of which nothing is told, and one that is good but whose event is missing
 stand_in keypad_check 'printf "sheet 2 nodes 2 events\ntable 2 rules\n"'
 ends_with 2 'a table without its last line' "$scratch/copy/bench" keypad "$scratch/reference" "$scratch/good"
@@ -591,6 +1052,35 @@ if [ -z "$other" ] || command -v setpriv > /dev/null 2>&1; then
     told 'a checkout that cannot be written' 'cannot be written'
 fi
 chmod -R u+w "$scratch/copy"
+# a pair in a folder that cannot be written: neither sheet is, and no temporary file remains in the other folder
+if [ -z "$other" ] || command -v setpriv > /dev/null 2>&1; then
+    copy
+    cp target/bin/bound_pair "$scratch/copy/target/bin/"
+    chmod -R a+rX "$scratch/copy"
+    chmod a+rwx "$scratch/temporary"
+    fresh
+    mkdir "$place/open" "$place/shut" "$place/dark"
+    echo mine > "$place/shut/x"
+    echo mine > "$place/open/x"
+    chmod a+rwx "$place/open"
+    chmod a+rx,a-w "$place/shut"
+    chmod a-rwx "$place/dark"
+    bench=$scratch/copy/bench
+    as=$other
+    for word in '' replace; do
+        kept "a folder that cannot be written $word" 'the file shut/r cannot be written' 3 4 shut/r open/d $word
+        undone "the device's folder cannot be written $word" 'the file shut/d cannot be written' 3 4 open/r shut/d $word
+        kept "a folder that cannot be looked into $word" 'the file dark/r cannot be written' 3 4 dark/r open/d $word
+        kept "the device's cannot be looked into $word" 'the file dark/d cannot be written' 3 4 open/r dark/d $word
+    done
+    kept 'a file that exists there' "the file shut/x $exists" 3 4 shut/x open/d
+    kept 'a file that exists there, replace' 'the file shut/x cannot be written' 3 4 shut/x open/x replace
+    undone 'a device that exists there, replace' 'the file shut/x cannot be written' 3 4 open/x shut/x replace
+    chmod u+rwx "$place/dark" "$place/shut"
+    written 'a folder that can be written' 7 open/r open/d
+    bench=$root/bench
+    as=
+fi
 rm -f "$scratch/tools/rt"
 copy
 mkdir "$scratch/few"
@@ -601,6 +1091,10 @@ ends_with 2 'a missing tool' env PATH="$scratch/few" ./bench compare $example/re
 told 'a missing tool' 'the command od is missing'
 ends_with 2 'a missing tool, keypad' env PATH="$scratch/few" ./bench keypad "$scratch/reference" "$scratch/good"
 told 'a missing tool, keypad' 'the command od is missing'
+fresh
+ends_with 2 'a missing tool, bound' env PATH="$scratch/few" ./bench bound 3 4 "$place/r" "$place/d"
+told 'a missing tool, bound' 'the command od is missing'
+entries 'a missing tool, bound' 0
 ends_with 2 'no toolchain' env PATH=/usr/bin:/bin "$scratch/copy/bench" show $example/reference.sheet
 told 'no toolchain' 'the Rattle toolchain (the command rt) is not on the PATH'
 cp target/bin/show "$scratch/copy/target/bin/"

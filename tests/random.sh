@@ -11,7 +11,7 @@ cd "$(dirname "$0")/.."
 sh tests/archive
 mkdir -p target/random
 
-for program in compare suite show probe_list live script_counts keypad_check walk; do
+for program in compare suite show probe_list live script_counts keypad_check walk bound_pair; do
     echo "random: rt check $program"
     logged "target/random/$program.out" rt check "$program"
 done

@@ -1,7 +1,7 @@
 #!/bin/sh
 # Runs every program on every sample by way of the entry script, and holds what it prints to the file beside the sheet
-# or the table; then the entry script's own words: help, a missing file, a wrong program, a reference whose length is
-# wrong. The rest of its work is in bench.sh.
+# or the table; makes the pair of samples/bound anew; then the entry script's own words: help, a missing file, a wrong
+# program, a reference whose length is wrong. The rest of its work is in bench.sh.
 set -u
 cd "$(dirname "$0")/.." || exit 1
 . tests/shared
@@ -52,6 +52,14 @@ done
 for text in samples/*/*.walk_*; do
     [ -f "${text%.walk_*}.sheet" ] || fails "$text has no sheet"
 done
+# the pair of samples/bound is what `bound` writes for P and Q of bound.words, and prints as in bound.out
+# shellcheck disable=SC2046
+./bench bound $(cat samples/bound/bound.words) "$scratch/reference" "$scratch/device" > "$scratch/printed"
+same 'bound in samples/bound/' samples/bound/bound.out
+for sheet in reference device; do
+    mv "$scratch/$sheet" "$scratch/printed"
+    same "bound, the bytes of samples/bound/$sheet.sheet" "samples/bound/$sheet.sheet"
+done
 
 # says STATUS WORDS COMMAND..: the command ends with this status and says these words
 says() {
@@ -86,6 +94,10 @@ says 0 './bench keypad SHEET TABLE [CODE]' ./bench help
 says 2 'takes two files, and may end with a code' ./bench keypad
 says 2 'takes two files, and may end with a code' ./bench keypad "$reference_file"
 says 2 'takes two files, and may end with a code' ./bench keypad "$reference_file" "$table_file" 5 5
+says 0 './bench bound P Q REF DEV [replace]' ./bench help
+says 2 'takes two numbers, 1 to 32, and two files, and may end with replace' ./bench bound
+says 2 'takes two numbers, 1 to 32, and two files, and may end with replace' ./bench bound 3 4 "$scratch/reference"
+says 2 'bound refused 30' ./bench bound 3 33 "$scratch/reference" "$scratch/device"
 says 2 'takes a file and two numbers' ./bench live
 says 2 'takes a file and two numbers' ./bench live "$reference_file" 1
 # refused_meaning NUMBER MEANING HEX..: both programs refuse these bytes, with the number and its meaning
