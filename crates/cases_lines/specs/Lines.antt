@@ -1,6 +1,8 @@
--- Nothing to believe: for the programs of cases. What a line of a Run program is after each byte.
+-- Nothing to believe: for the programs of cases. What a line of a Run program is after each byte, and the check number
+-- of a list.
 use mathlib.Core.Bool.{true, false, cond, _&&_}
-use Prim.Native.Nat.{ℕ, _+_, _-_, _*_}
+use mathlib.Core.List.{List}
+use Prim.Native.Nat.{ℕ, zero, suc, _+_, _-_, _*_, _%_}
 use lib.Dec.{eqb, ltb}
 use lib.ListN.{getD, replicate, set}
 use Rattle.cases_lines.specs.declared.Line.{Line}
@@ -43,3 +45,12 @@ numberAt l i = cond (ltb i 64) (getD (l .numbers) i 0) 0
 -- a number as a byte, 255 for one above 255
 unfoldable pub smallOf : ℕ → ℕ
 smallOf x = cond (ltb x 256) x 255
+
+-- a check number with a number more
+unfoldable pub checkWith : ℕ → ℕ → ℕ
+checkWith check x = (check % 65521 * 31 + x) % 65521
+
+-- a check number with the first n places of a list more
+unfoldable pub checkUpTo : List ℕ → ℕ → ℕ → ℕ
+checkUpTo list check zero = check
+checkUpTo list check (suc n) = checkWith (checkUpTo list check n) (getD list n 0)

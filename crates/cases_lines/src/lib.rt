@@ -6,7 +6,9 @@ ghost use mathlib.Core.Path.{_≡_};
 ghost use mathlib.Core.Bool.{not, _&&_};
 ghost use Prim.Native.Nat.{_≤_};
 ghost use lib.Dec.{eqb};
+ghost use lib.ListN.{length};
 ghost use Rattle.cases_lines.specs.Lines.{newLine, withDigit, withNumber, lineAfter, numberAt, smallOf};
+ghost use Rattle.cases_lines.specs.Lines.{checkWith, checkUpTo};
 use libc::STDOUT_FILENO;
 
 // ---- writing
@@ -63,17 +65,23 @@ pub fn alike(x: u8, y: u8) -> usize
 }
 
 // A check number with a number more.
-pub fn check_with(check: usize, x: u16) -> usize {
+pub fn check_with(check: usize, x: u16) -> usize
+    ensures { λ r. ⌜ r ≡ checkWith check x ⌝ }
+{
     (check % 65521 * 31 + (x as usize)) % 65521
 }
 
 // A check number with a byte more.
-fn with_byte(check: usize, x: u8) -> usize {
+fn with_byte(check: usize, x: u8) -> usize
+    ensures { λ r. ⌜ r ≡ checkWith check x ⌝ }
+{
     check_with(check, x as u16)
 }
 
 // A check number with all places of a list more.
-pub fn check_of(list: &[u8], check: usize) -> usize {
+pub fn check_of(list: &[u8], check: usize) -> usize
+    ensures { λ r. ⌜ r ≡ checkUpTo (now (list .entry)) check (length (now (list .entry))) ⌝ }
+{
     let mut c = check;
     for i in 0..list.len() {
         let d = with_byte(c, list[i]);
