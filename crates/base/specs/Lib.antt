@@ -1,17 +1,11 @@
-pub mod Truth
 pub mod Range
 pub mod Count
 pub mod Sum
 pub mod Pigeon
 pub mod Counted
-pub mod CountedLaws
 pub mod Gather
 pub mod Joined
-pub mod JoinedLaws
 pub mod Sorted
-pub mod SortedLaws
 pub mod Table
 pub mod Front
-pub mod Finds
 pub mod Refusal
-pub mod Loops

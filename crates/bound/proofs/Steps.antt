@@ -18,29 +18,29 @@ use Rattle.bound_spec.specs.declared.Bounded.{Bounded}
 use Rattle.bound_spec.specs.declared.Bounded.TheVariants.{Lengths, Denied}
 use Rattle.bound_spec.specs.Sheets.{reference_bytes, device_bytes}
 use Rattle.bound_spec.specs.Calls.{bound_fault, bound_numbers, reference_length, device_length, bound_of, reference_after, device_after}
-use Rattle.bound_spec.specs.ByteLaws.{joined_even}
-use Rattle.bound_spec.specs.CallLaws.{InRange, range_out, range_in, bound_30, bound_31, bound_0, bound_denied, reference_denied, device_denied, bound_given, reference_given, device_given, bounded_numbers}
+use Rattle.bound_spec.proofs.ByteLaws.{joined_even}
+use Rattle.bound_spec.proofs.CallLaws.{InRange, range_out, range_in, bound_30, bound_31, bound_0, bound_denied, reference_denied, device_denied, bound_given, reference_given, device_given, bounded_numbers}
 
 -- ---- the refusals
 
 module _ (p q : ℕ) (reference device : List ℕ) where
   -- p is out of range; or q is
-  pub by_p : {x : Bool} → x ≡ between 1 32 p → not x ≡ true → 30 ≡ bound_fault p q reference device
-  by_p {x} e t = sym ((bound_30 p q reference device).1 (inl (range_out p (sym e ∙ not-true x t))))
+  pub by_p : {x : Bool} → x ≡ between 1 32 p → x ≡ false → 30 ≡ bound_fault p q reference device
+  by_p {x} e t = sym ((bound_30 p q reference device).1 (inl (range_out p (sym e ∙ t))))
 
-  pub by_q : {y : Bool} → y ≡ between 1 32 q → not y ≡ true → 30 ≡ bound_fault p q reference device
-  by_q {y} f t = sym ((bound_30 p q reference device).1 (inr (range_out q (sym f ∙ not-true y t))))
+  pub by_q : {y : Bool} → y ≡ between 1 32 q → y ≡ false → 30 ≡ bound_fault p q reference device
+  by_q {y} f t = sym ((bound_30 p q reference device).1 (inr (range_out q (sym f ∙ t))))
 
   -- both are in range
-  module _ {x y : Bool} (e : x ≡ between 1 32 p) (t : not x ≡ false) (f : y ≡ between 1 32 q) (u : not y ≡ false) where
+  module _ {x y : Bool} (e : x ≡ between 1 32 p) (t : x ≡ true) (f : y ≡ between 1 32 q) (u : y ≡ true) where
     pub by_reference : length reference < 7 * p + 5 → 31 ≡ bound_fault p q reference device
-    by_reference l = sym ((bound_31 p q reference device).1 ((range_in p (sym e ∙ not-false x t), range_in q (sym f ∙ not-false y u)), inl l))
+    by_reference l = sym ((bound_31 p q reference device).1 ((range_in p (sym e ∙ t), range_in q (sym f ∙ u)), inl l))
 
     pub by_device : length device < 5 * q + 7 → 31 ≡ bound_fault p q reference device
-    by_device l = sym ((bound_31 p q reference device).1 ((range_in p (sym e ∙ not-false x t), range_in q (sym f ∙ not-false y u)), inr l))
+    by_device l = sym ((bound_31 p q reference device).1 ((range_in p (sym e ∙ t), range_in q (sym f ∙ u)), inr l))
 
     pub by_none : 7 * p + 5 ≤ length reference → 5 * q + 7 ≤ length device → 0 ≡ bound_fault p q reference device
-    by_none l h = sym ((bound_0 p q reference device).1 ((range_in p (sym e ∙ not-false x t), range_in q (sym f ∙ not-false y u)), (l, h)))
+    by_none l h = sym ((bound_0 p q reference device).1 ((range_in p (sym e ∙ t), range_in q (sym f ∙ u)), (l, h)))
 
 -- ---- stores
 

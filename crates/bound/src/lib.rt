@@ -1,6 +1,8 @@
 // The bound is reached (02, K11). `write_pair` takes any two numbers and lists: it writes a reference of p nodes and a
 // device of q, whose first failing test is number p q - 1, to the fronts of the lists and answers their lengths in
 // bytes, or the number of the refusal. The bytes are stored one by one, with no sheet made on the way.
+#![tactic(auto)]
+
 ghost use Rattle.std.specs.Prelude.{◌≡◌, List, ℕ, ◌+◌, ◌*◌, ◌≤◌, length};
 ghost use Rattle.std.proofs.lemmas.List.Edits.{sets};
 ghost use Rattle.base.specs.Front.{at_front};

@@ -9,7 +9,7 @@ use Rattle.bound_spec.specs.declared.Bounded.TheVariants.{Lengths, Denied}
 use Rattle.bound_spec.specs.Calls.{reference_after, device_after}
 use Rattle.text_spec.specs.Lines.{ascii, number_line, numbers_text}
 use Rattle.text_spec.specs.Adds.{Adds, Holds}
-use Rattle.text_spec.specs.AddsLaws.{adds_none, adds_then, adds_all}
+use Rattle.text_spec.proofs.AddsLaws.{adds_none, adds_then, adds_all}
 use Rattle.words_spec.specs.Same.{same_text}
 use Rattle.bound_lines_spec.specs.declared.Asked.{Asked}
 use Rattle.bound_lines_spec.specs.declared.Asked.TheVariants.{Lines, Reference, Device, Nothing}

@@ -1,6 +1,8 @@
 // What the program `bound_pair` writes: every byte of its standard output and of its standard error, from the three
 // words that it is started with, put over the front of a lent list. A function that puts a piece takes the list and the
 // place where the piece begins and answers the place after it.
+#![tactic(auto)]
+
 ghost use Rattle.std.specs.Prelude.{◌≡◌, ◌-◌, ◌*◌};
 ghost use Rattle.text_spec.specs.Adds.{Adds, Holds};
 ghost use Rattle.bound_lines_spec.specs.Lines.{bound_lines, reference_part, device_part, refusal_part};

@@ -5,11 +5,4 @@ pub mod Bound
 -- what 02 says of the sheets, with no row in it
 pub mod Meaning
 -- laws
-pub mod SheetLaws
-pub mod MeaningLaws
 pub mod ByteLaws
-pub mod CallLaws
-pub mod PairLaws
-pub mod Theorem
-pub mod Uses
-pub mod Cases

@@ -2,9 +2,10 @@
 // crate has the type of the answer; its specs say what the two sheets are, what the call that writes them answers and
 // what two lent lists then hold, and prove of the bytes that are written that no smaller bound than p q serves. It has
 // no function.
+#![tactic(auto)]
 
 // What the call answers.
-#[derive(Drop)]
+#[derive(Clone, Copy)]
 pub enum Bounded {
     // the lengths of the two sheets in bytes, the reference's first; each stands at the front of its lent list
     Lengths(u16, u16),

@@ -11,11 +11,15 @@
 // places are as before, and a check number over all: from 0 on, place after place, 31 times the number before plus the
 // byte, modulo 65,521. By 3 there are only how many calls were answered with lengths, with 30 and with 31, and one
 // check number over the three numbers of each answer and all places of both lists after it.
+#![tactic(auto)]
+
 ghost use Rattle.std.specs.Prelude.{◌≤◌, ◌<◌};
 
 use bound_spec::Bounded;
 use cases_lines::Line;
-use libc::STDIN_FILENO;
+
+// The number of standard input.
+const STDIN_FILENO: i32 = 0;
 
 // ---- the numbers of a line
 
@@ -76,7 +80,7 @@ fn left(list: [u8; 256], line: Line, device: bool) -> usize {
 // ---- a call
 
 // What a call answers, and what the two lists then hold.
-#[derive(Drop)]
+#[derive(Clone, Copy)]
 struct Made {
     answer: Bounded,
     reference: [u8; 256],
@@ -140,7 +144,7 @@ fn call(line: Line) {
 // ---- 3: calls for many p and q
 
 // How many calls were answered with lengths, with 30 and with 31, and the check number.
-#[derive(Drop)]
+#[derive(Clone, Copy)]
 struct Tally {
     written: usize,
     sizes: usize,

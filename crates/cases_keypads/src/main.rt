@@ -7,11 +7,15 @@
 // of them match each code once. Numbers that are not there count as 0. A table has at most 1,024 bytes.
 // Each case writes its name and its answer: `good`; `gap` and the code; `overlap`, the code and the two rules; `event`
 // and the event; or `denied` and the number.
+#![tactic(auto)]
+
 ghost use Rattle.std.specs.Prelude.{◌≤◌, ◌<◌};
 
 use cases_lines::Line;
 use keypad_spec::{Found, Keypad};
-use libc::STDIN_FILENO;
+
+// The number of standard input.
+const STDIN_FILENO: i32 = 0;
 
 // ---- the table of a line
 

@@ -2,11 +2,14 @@
 // byte by byte: up to the colon a byte belongs to the name; after it a byte from `0` to `9` is a digit, one below `0`
 // ends a number, and any other only begins one. The name of a case is written as it is read. And what is told of a list
 // of bytes: its front, how many places are alike, a check number.
+#![tactic(auto)]
+
 ghost use Rattle.std.specs.Prelude.{◌≡◌, not, ◌&&◌, ◌≤◌, eqb, length};
 ghost use Rattle.cases_lines.specs.Lines.{new_line, with_digit, with_number, line_after, number_at, small_of};
 ghost use Rattle.cases_lines.specs.Lines.{check_with, check_up_to};
 
-use libc::STDOUT_FILENO;
+// The number of standard output.
+const STDOUT_FILENO: i32 = 1;
 
 // ---- writing
 
@@ -91,7 +94,7 @@ pub fn check_of(list: &[u8], check: usize) -> usize
 
 // A line so far: whether its name has ended, whether a number has begun, that number, how many came before it, and
 // these.
-#[derive(Drop)]
+#[derive(Clone, Copy)]
 pub struct Line {
     pub named: bool,
     pub begun: bool,

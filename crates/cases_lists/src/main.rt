@@ -13,13 +13,20 @@
 // places then holds; then comes how many of the 128 places are as before. A comparison gives `refines` and cleared, or
 // `stray` with d, cleared and the event, or `refusal` with d, cleared, the probe and the acceptance; then come the
 // trace, how many places of trace are as before, and how many words of work are 0 and how many are as before.
+#![tactic(auto)]
+
 ghost use Rattle.std.specs.Prelude.{◌≤◌};
 
 use cases_lines::Line;
 use comparison_spec::Outcome;
-use libc::{STDIN_FILENO, STDOUT_FILENO};
 use probes_spec::Listed;
 use sheet_spec::Sheet;
+
+// The number of standard input.
+const STDIN_FILENO: i32 = 0;
+
+// The number of standard output.
+const STDOUT_FILENO: i32 = 1;
 
 // ---- sheets of 32 nodes and two events: a node has two successors, its C, and two bytes for each set
 

@@ -12,15 +12,19 @@
 // places hold, how many of all 256 hold 255, as before, and the check number over these: from 0 on, place after place,
 // 31 times the number before plus the byte, modulo 65,521. By 5 there are, for each sheet, the place after it and in
 // how many of 256 places, which were 0 before, the list is as the call left it.
+#![tactic(auto)]
+
 ghost use Rattle.std.specs.Prelude.{◌≡◌, ◌≤◌};
 ghost use Rattle.sheet_spec.specs.Refusals.{sheet_fault};
 
 use bound_spec::Bounded;
 use cases_lines::Line;
 use comparison_spec::Outcome;
-use libc::STDIN_FILENO;
 use sheet_spec::{ReadSheet, Sheet};
 use verdicts_spec::Suite;
+
+// The number of standard input.
+const STDIN_FILENO: i32 = 0;
 
 // ---- counts, and what a list holds
 

@@ -13,7 +13,7 @@ use Rattle.sheet_spec.specs.Kept.{successor, acceptance, initials, step}
 use Rattle.sheet_spec.specs.Rules.{ranges_ok, count_ok, counts_ok, successor_ok, row_successors_ok, successors_ok, ascends, none_inside, set_ok, row_sets_ok, sets_ok, blank, unused_ok, blanks_ok, reached_ok, code_new, codes_blank, codes_ok, codes_agree}
 use Rattle.sheet_spec.specs.Refusals.{head_fault, layout_fault, graph_fault, bytes_fault, sheet_fault, codes_fault, shared_fault}
 use Rattle.sheet_spec.specs.Reading.{answer, read_sheet}
-use Rattle.sheet_spec.specs.AnswerLaws.{read_refusal, read_kept}
+use Rattle.sheet_spec.proofs.AnswerLaws.{read_refusal, read_kept}
 use Rattle.sheet_spec.specs.Spelling.{length_field, next_at, start_of, succ_of, sets_of, row_at, row_of, sheet_of, code_of, nodes_at}
 use Rattle.sheet_spec.specs.Examples.{example_reference, example_device, coded_reference, coded_device, only_zero, only_one, may_loop, must_loop, stopped}
 use Rattle.sheet_spec.specs.declared.Sheet.{Sheet}

@@ -1,5 +1,7 @@
 // The sheets that the Run programs name by two numbers: which sheet, and which refusal it is changed to deserve, of its
 // own or, 19, beside a sheet with its codes.
+#![tactic(auto)]
+
 ghost use Rattle.std.specs.Prelude.{◌≡◌};
 ghost use Rattle.sheet_spec.specs.Reading.{read_sheet};
 ghost use Rattle.cases_samples.specs.Samples.{small_bytes, ordered_bytes, sample_bytes, sample_of};

@@ -5,12 +5,16 @@
 // the others are those of `cases_samples`. Numbers that are not there count as 0.
 // Each case writes its name and its answer: `counted`, or `denied` and the number; and after a bar the three counts: of
 // scripts that both walk, that the device stops, and that the reference stops.
+#![tactic(auto)]
+
 ghost use Rattle.std.specs.Prelude.{◌<◌};
 
 use cases_lines::Line;
-use libc::STDIN_FILENO;
 use scripts_spec::Scripts;
 use sheet_spec::Sheet;
+
+// The number of standard input.
+const STDIN_FILENO: i32 = 0;
 
 // ---- sheets of 32 nodes and twelve events: a node has twelve successors, its C, 1, and the acceptance 0
 

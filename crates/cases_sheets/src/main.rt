@@ -19,11 +19,15 @@
 // Each case writes its name and its answer. Reading writes `refused` and the number, or `accepted` and E and N. A check
 // writes its number. A count writes how many successors hold the value, how many sets, how many Cs and how many codes
 // hold 0, and E and N. Adding writes the set. Codes are written in order, all twelve.
+#![tactic(auto)]
+
 ghost use Rattle.std.specs.Prelude.{◌≤◌};
 
 use cases_lines::Line;
-use libc::STDIN_FILENO;
 use sheet_spec::{ReadSheet, Row, Sheet};
+
+// The number of standard input.
+const STDIN_FILENO: i32 = 0;
 
 // ---- a sample of 25 bytes, and the same with one or two places changed
 
@@ -118,7 +122,7 @@ fn with_code(s: Sheet, i: usize, x: u16) -> Sheet {
 // A description of a sheet in which every node has the same C, event 0 leads from each node to the next, and every
 // other event leads to node 0; only from node `cut` event 0 leads to itself. `len` is the number of bytes that are
 // there. In version 2 event i has the code 500 + i, but event `twice` has that of event 0.
-#[derive(Drop)]
+#[derive(Clone, Copy)]
 struct Plan {
     version: u8,
     e: u8,
@@ -256,7 +260,7 @@ fn largest(version: u8, len: u16) -> ReadSheet {
 // ---- what the places of an answer hold
 
 // How many successors hold a value, and how many sets and how many Cs hold 0.
-#[derive(Drop)]
+#[derive(Clone, Copy)]
 struct Tally {
     succs: usize,
     sets: usize,

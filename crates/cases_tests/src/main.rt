@@ -12,13 +12,17 @@
 // answer and, after a bar, the record: k, h, traces, ended, node, depth; of a report that is made many times only the
 // last is written. All verdicts at once write how many there are, and after a bar 16 places, of which the first len are
 // lent; all hold 255 before the call.
+#![tactic(auto)]
+
 ghost use Rattle.std.specs.Prelude.{◌≤◌};
 
 use cases_lines::Line;
-use libc::STDIN_FILENO;
 use sheet_spec::Sheet;
 use tests_spec::{Answer, Report, Run, Stepped};
 use verdicts_spec::{Suite, Verdict};
+
+// The number of standard input.
+const STDIN_FILENO: i32 = 0;
 
 // ---- tests
 

@@ -8,12 +8,16 @@
 // Each case writes its name and its answer: `length` and the walk's length, or `denied` and the number. Then comes what
 // the first `front` of the 8,192 places hold, and those that the line names; then how many of all places are as before,
 // and a check number over all: from 0 on, place after place, 31 times the number before plus the byte, modulo 65,521.
+#![tactic(auto)]
+
 ghost use Rattle.std.specs.Prelude.{◌≤◌, ◌<◌};
 
 use cases_lines::Line;
-use libc::STDIN_FILENO;
 use load_spec::Walked;
 use sheet_spec::Sheet;
+
+// The number of standard input.
+const STDIN_FILENO: i32 = 0;
 
 // ---- sheets of 32 nodes and twelve events: a node has twelve successors, its C, 1, and the acceptance 0
 

@@ -8,7 +8,8 @@ use Rattle.base.specs.Table.{up_to}
 use Rattle.base.specs.Gather.{gather, select}
 use Rattle.base.specs.Joined.{joined}
 use Rattle.events.specs.Bit.{bit, set_of}
-use Rattle.events.specs.Sets.{has, inside, meets, meets_not}
+use Rattle.events.specs.Sets.{has, inside, meets}
+use Rattle.events.proofs.Sets.{meets_not}
 use Rattle.events.specs.Size.{size}
 use Rattle.walks.specs.Reach.{nearer, leads}
 use Rattle.sheet_spec.specs.Kept.{successor, acceptance, acceptances, initials, may_stop, step}
@@ -24,7 +25,7 @@ use Rattle.tests_spec.specs.declared.Answer.TheVariants.{Going, Inconclusive}
 use Rattle.tests_spec.specs.Flags.{flag, flag_of}
 use Rattle.tests_spec.specs.Runs.{all_events, outside, probes_at, chosen, offer_of, new_run, open_fault, open_of, record_ok, event_fault, report_fault, moved_by, ended_run, answer_of, step_of}
 use Rattle.verdicts_spec.specs.Verdicts.{CanReport, Failed, device_after, EndsFailed, FailsTest, fails_from}
-use Rattle.verdicts_spec.specs.TestLaws.{tests_complete, refining_unfailed}
+use Rattle.verdicts_spec.proofs.TestLaws.{tests_complete, refining_unfailed}
 use Rattle.sheet_spec.specs.Examples.{example_reference, example_device, must_loop, stopped, sheet}
 
 -- a number below 255 is a successor

@@ -1,5 +1,1 @@
 pub mod Claim
-pub mod Theorem
-pub mod Uses
-pub mod Strays
-pub mod Reached

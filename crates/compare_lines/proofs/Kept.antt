@@ -5,7 +5,7 @@ use Prim.Native.Nat.{ℕ, zero, suc, ◌-◌, ◌≤◌}
 use native.Mathlib.Omega.{arith}
 use lib.ListN.{length, drop, replicate, length-replicate}
 use Rattle.text_spec.specs.Adds.{Adds}
-use Rattle.text_spec.specs.AddsLaws.{over_fits, adds_all}
+use Rattle.text_spec.proofs.AddsLaws.{over_fits, adds_all}
 use Rattle.compare_lines_spec.specs.declared.Text.{Text}
 use Rattle.compare_lines_spec.specs.Program.{kept_text}
 

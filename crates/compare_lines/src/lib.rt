@@ -1,5 +1,7 @@
 // The text of the program `compare` (01, "The program `compare`"): every byte that it prints, from the bytes that it
 // reads.
+#![tactic(auto)]
+
 ghost use Rattle.std.specs.Prelude.{◌≡◌};
 ghost use Rattle.text_spec.specs.Adds.{Adds};
 ghost use Rattle.compare_lines_spec.specs.Lines.{violates_line, refused_probe_line, outcome_lines};

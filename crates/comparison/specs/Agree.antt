@@ -2,9 +2,10 @@
 -- pairs only at the pairs of nodes.
 use Rattle.std.specs.Prelude.{◌≡◌, ◌⊎◌, Bool, List, ℕ, ◌*◌, ◌≤◌, ◌<◌}
 use Rattle.std.proofs.Common.{sym, ◌∙◌, inl, inr, arith}
-use Rattle.base.specs.Truth.{lt_or_ge}
+use Rattle.base.proofs.Truth.{lt_or_ge}
 use Rattle.walks.specs.Graph.{Graph, WellFormed, walk}
-use Rattle.walks.specs.Pairs.{PairLeads, pair_distance, pair_trace, pair_distance_le, pair_trace_length, pair_distance≤, pair_trace_leads, pair_trace_least, pair_trace_unique}
+use Rattle.walks.specs.Pairs.{PairLeads, pair_distance, pair_trace}
+use Rattle.walks.proofs.Pairs.{pair_distance_le, pair_trace_length, pair_distance≤, pair_trace_leads, pair_trace_least, pair_trace_unique}
 
 -- two tests agree at the pairs of nodes of r and d
 abbrev pub Agree : Graph → Graph → (ℕ → ℕ → Bool) → (ℕ → ℕ → Bool) → Type 0

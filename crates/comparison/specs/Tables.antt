@@ -5,25 +5,26 @@ use Rattle.std.specs.Prelude.{◌≡◌, ◌⊎◌, ◌≢◌, Bool, List, ℕ, 
 use Rattle.std.proofs.Math.Path.{sym, fun_ext}
 use Rattle.std.proofs.Common.{ap, ◌∙◌, inl, inr, arith}
 use borrow.Author.Tests.{lt-ltb, le-ltb}
-use Rattle.base.specs.Truth.{lt_or_ge}
-use Rattle.base.specs.Count.{count_le}
+use Rattle.base.proofs.Truth.{lt_or_ge}
+use Rattle.base.proofs.Count.{count_le}
 use Rattle.base.specs.Table.{up_to}
 use Rattle.walks.specs.Graph.{Graph}
 use Rattle.walks.specs.Cleared.{cleared}
 use Rattle.walks.specs.Product.{product}
-use Rattle.walks.specs.Pairs.{pair_distance, pair_trace, pair_cleared, pair_trace_leads, pair_cleared_more}
+use Rattle.walks.specs.Pairs.{pair_distance, pair_trace, pair_cleared}
+use Rattle.walks.proofs.Pairs.{pair_trace_leads, pair_cleared_more}
 use Rattle.sheet_spec.specs.declared.Sheet.{Sheet}
 use Rattle.sheet_spec.specs.Kept.{row, successor, step, graph}
 use Rattle.sheet_spec.specs.Refusals.{sheet_fault}
 use Rattle.sheet_spec.specs.Sound.{Sound}
-use Rattle.sheet_spec.specs.SoundLaws.{nodes_most, check_sound}
+use Rattle.sheet_spec.proofs.SoundLaws.{nodes_most, check_sound}
 use Rattle.refinement_spec.specs.ViolatingPairs.{violating}
 use Rattle.comparison_spec.specs.declared.Outcome.{Outcome}
 use Rattle.comparison_spec.specs.declared.Outcome.TheVariants.{Denied}
 use Rattle.comparison_spec.specs.Comparison.{pair_count, nearest, nearest_trace, cleared_of, last_row, comparison_of, compare_fault, trace_after}
 use Rattle.comparison_spec.specs.Numbers.{compared}
-use Rattle.comparison_spec.specs.NumberLaws.{compared_refusal}
-use Rattle.comparison_spec.specs.CallLaws.{compare_0, denied_outcome, denied_trace, denied_work, given_outcome, given_trace, given_no_trace, given_work}
+use Rattle.comparison_spec.proofs.NumberLaws.{compared_refusal}
+use Rattle.comparison_spec.proofs.CallLaws.{compare_0, denied_outcome, denied_trace, denied_work, given_outcome, given_trace, given_no_trace, given_work}
 use Rattle.search_theory.specs.declared.Found.{Found}
 use Rattle.search_theory.specs.Tables.{table_next, table_graph, bad_in}
 use Rattle.search_theory.specs.Found.{found_of, Searched, trace_found, work_found}

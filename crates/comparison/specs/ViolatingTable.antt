@@ -3,7 +3,8 @@ use Rattle.std.specs.Prelude.{◌≡◌, Bool, false, List, ◌++◌, ℕ, ◌+�
 use Rattle.std.proofs.Common.{◌∙◌, arith}
 use Rattle.std.proofs.Math.Arith.{digits_lt, digits_div, digits_mod}
 use Rattle.std.proofs.Math.ListN.{get_or-append}
-use Rattle.base.specs.Table.{up_to, length_up_to, get_or_up_to}
+use Rattle.base.specs.Table.{up_to}
+use Rattle.base.proofs.Table.{length_up_to, get_or_up_to}
 use Rattle.sheet_spec.specs.declared.Sheet.{Sheet}
 use Rattle.refinement_spec.specs.ViolatingPairs.{violating}
 

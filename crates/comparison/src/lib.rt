@@ -2,6 +2,8 @@
 // "refines", a violation with what is named, or the number of the refusal, and says what the lists then hold. The
 // successors and the violating pairs are laid out in flat tables once, and a search over these finds the nearest
 // violating pair.
+#![tactic(auto)]
+
 mod faults;
 mod named;
 mod violating;

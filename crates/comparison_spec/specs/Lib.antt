@@ -2,10 +2,3 @@ pub mod Comparison
 pub mod Numbers
 pub mod Contract
 pub mod Meaning
-pub mod RefusedLaws
-pub mod ComparisonLaws
-pub mod OutcomeLaws
-pub mod CallLaws
-pub mod AnswerLaws
-pub mod NumberLaws
-pub mod Recoded

@@ -38,14 +38,3 @@ compared (Denied k) = record { refusal = k; kind = 0; d = 0; cleared = 0; event 
 unfoldable pub compared_from : Compared → Outcome
 compared_from n = cond (eqb n.kind 0) (Denied n.refusal) (cond (eqb n.kind refines_number) (Refines n.cleared)
     (cond (eqb n.kind stray_number) (Stray n.d n.cleared n.event) (Refusal n.d n.cleared n.probe n.acceptance)))
-
-pub compared_back : (o : Outcome) → compared_from (compared o) ≡ o
-unfolding compared_from compared
-compared_back (Refines c) = refl
-compared_back (Stray d c i) = refl
-compared_back (Refusal d c X A) = refl
-compared_back (Denied k) = refl
-
--- answers with the same numbers are the same
-pub compared_once : (a b : Outcome) → compared a ≡ compared b → a ≡ b
-compared_once a b e = sym (compared_back a) ∙ ap compared_from e ∙ compared_back b

@@ -1,8 +1,9 @@
 // The comparison of two sheets (01, "A comparison"): the nearest violation. The crate has the type of its answer; its
 // specs say what the answer and the two lent lists are, and what they mean. It has no function.
+#![tactic(auto)]
 
 // What a comparison answers.
-#[derive(Drop)]
+#[derive(Clone, Copy)]
 pub enum Outcome {
     // the device refines the reference: the number of different pairs reached (01's "cleared")
     Refines(u16),

@@ -2,6 +2,8 @@
 // is lent or handed over is answered. Slices arrive as a pointer and a length, a run's record that is lent as a
 // pointer, structs by value; all in the layout of C (include/bench.h). Each result is equated with the definition of
 // the call, in 01's numbers for each case of its answer.
+#![tactic(auto)]
+
 ghost use Rattle.std.specs.Prelude.{◌≡◌};
 ghost use Rattle.sheet_spec.specs.Refusals.{sheet_fault};
 ghost use Rattle.sheet_spec.specs.Reading.{read_sheet};
@@ -57,7 +59,7 @@ pub extern "C" fn bench_check(s: Sheet) -> u8
 
 // The answer of a probe list: the refusal, 0 for none, and how many probes there are.
 #[repr(C)]
-#[derive(Drop)]
+#[derive(Clone, Copy)]
 pub struct BenchListed {
     pub refusal: u8,
     pub count: u16,
@@ -105,7 +107,7 @@ pub extern "C" fn bench_list_nodes(sheet: Sheet, nodes: u32, out: &mut [u16]) ->
 
 // An answer in numbers: the refusal, 0 for none; the kind, 0 for a refusal; the event or set of that kind.
 #[repr(C)]
-#[derive(Drop)]
+#[derive(Clone, Copy)]
 pub struct BenchSaid {
     pub refusal: u8,
     pub kind: u8,
@@ -114,7 +116,7 @@ pub struct BenchSaid {
 
 // An answer and the record after it.
 #[repr(C)]
-#[derive(Drop)]
+#[derive(Clone, Copy)]
 pub struct BenchStepped {
     pub answer: BenchSaid,
     pub run: Run,
@@ -216,7 +218,7 @@ pub extern "C" fn bench_report(run: &mut Run, sheet: Sheet, report: u16) -> Benc
 
 // A verdict in numbers: the refusal, 0 for none; the kind, 0 for a refusal, else the number of the verdict.
 #[repr(C)]
-#[derive(Drop)]
+#[derive(Clone, Copy)]
 pub struct BenchJudged {
     pub refusal: u8,
     pub kind: u8,
@@ -258,7 +260,7 @@ pub extern "C" fn bench_judge(
 
 // The answer on all tests: the refusal, 0 for none, and how many were judged.
 #[repr(C)]
-#[derive(Drop)]
+#[derive(Clone, Copy)]
 pub struct BenchSuited {
     pub refusal: u8,
     pub count: u16,
@@ -301,7 +303,7 @@ pub extern "C" fn bench_judge_all(
 
 // The answer of a comparison in numbers: the refusal, 0 for none; the kind; d; cleared; what is named.
 #[repr(C)]
-#[derive(Drop)]
+#[derive(Clone, Copy)]
 pub struct BenchCompared {
     pub refusal: u8,
     pub kind: u8,
@@ -398,7 +400,7 @@ pub extern "C" fn bench_count(reference: Sheet, device: Sheet, length: u16) -> S
 // The answer of a check of a keypad's table in numbers: the refusal, 0 for none; the kind; the smallest bad code; the
 // two lowest rules that match it.
 #[repr(C)]
-#[derive(Drop)]
+#[derive(Clone, Copy)]
 pub struct BenchKeypad {
     pub refusal: u8,
     pub kind: u8,
@@ -455,7 +457,7 @@ pub extern "C" fn bench_keypad(sheet: Sheet, table: &[u8]) -> BenchKeypad
 
 // The answer of a lookup in a keypad's table in numbers: those of a check, and the event.
 #[repr(C)]
-#[derive(Drop)]
+#[derive(Clone, Copy)]
 pub struct BenchFound {
     pub refusal: u8,
     pub kind: u8,
@@ -519,7 +521,7 @@ pub extern "C" fn bench_find(sheet: Sheet, table: &[u8], code: u8) -> BenchFound
 
 // The answer of a walk: the refusal, 0 for none, and the walk's length.
 #[repr(C)]
-#[derive(Drop)]
+#[derive(Clone, Copy)]
 pub struct BenchWalked {
     pub refusal: u8,
     pub length: u16,
@@ -556,7 +558,7 @@ pub extern "C" fn bench_walk(sheet: Sheet, seed: u32, wish: u16, out: &mut [u8])
 
 // The answer of the call that writes a pair of sheets: the refusal, 0 for none, and the lengths of the two in bytes.
 #[repr(C)]
-#[derive(Drop)]
+#[derive(Clone, Copy)]
 pub struct BenchBounded {
     pub refusal: u8,
     pub reference: u16,

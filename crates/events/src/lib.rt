@@ -1,5 +1,7 @@
 // Sets of events as 16-bit numbers, in which event i adds 2 to the power i: membership, inclusion, adding one event.
 // Each takes every argument, except that `with_event` takes events below 16 only; no event from 16 on is in a set.
+#![tactic(auto)]
+
 ghost use Rattle.std.specs.Prelude.{◌≡◌, ◌<◌};
 ghost use Rattle.events.specs.Sets.{has, inside, insert};
 

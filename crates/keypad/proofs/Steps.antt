@@ -9,10 +9,10 @@ use lib.Bits.{bit_and}
 use lib.Dec.{eqb, ltb, leb}
 use lib.ListN.{length}
 use borrow.Author.Tests.{eq-eqb, ne_eqb, lt-ltb, le-ltb, le-leb, lt-leb, leb-true, not-true, not-false}
-use Rattle.base.specs.Truth.{clash, lt_or_ge, and_l, and_r, and_i, not_i, t_not}
-use Rattle.base.specs.Range.{all→, first_is, first_none}
-use Rattle.base.specs.Refusal.{or_else_some}
-use Rattle.base.specs.Loops.{Passing, stops, goes_on}
+use Rattle.base.proofs.Truth.{clash, lt_or_ge, and_l, and_r, and_i, not_i, t_not}
+use Rattle.base.proofs.Range.{all→, first_is, first_none}
+use Rattle.base.proofs.Refusal.{or_else_some}
+use Rattle.base.proofs.Loops.{Passing, stops, goes_on}
 use Rattle.events.specs.Sets.{inside}
 use Rattle.sheet_spec.specs.declared.Sheet.{Sheet}
 use Rattle.sheet_spec.specs.Refusals.{sheet_fault}
@@ -23,11 +23,11 @@ use Rattle.keypad_spec.specs.declared.Found.TheVariants.{Event, Gap as GapFound,
 use Rattle.keypad_spec.specs.Tables.{rule_count, mask, value, event_of, matches, match_count, bad_code, match_from, lowest, second, bad_answer, table_answer}
 use Rattle.keypad_spec.specs.Calls.{size_ok, values_ok, events_ok, table_fault, keypad_fault, keypad_of, found_from, found_of}
 use Rattle.keypad_spec.specs.Numbers.{keyed, looked}
-use Rattle.keypad_spec.specs.MatchLaws.{no_lowest, has_lowest, no_second, has_second}
-use Rattle.keypad_spec.specs.RefusalLaws.{whole_rules, keypad_0}
-use Rattle.keypad_spec.specs.TellLaws.{told_good, told_bad, told_gap, told_overlap}
-use Rattle.keypad_spec.specs.CallLaws.{keypad_denied, keypad_given, find_gap, find_overlap, find_denied}
-use Rattle.keypad_spec.specs.NumberLaws.{keypad_refusal, found_refusal}
+use Rattle.keypad_spec.proofs.MatchLaws.{no_lowest, has_lowest, no_second, has_second}
+use Rattle.keypad_spec.proofs.RefusalLaws.{whole_rules, keypad_0}
+use Rattle.keypad_spec.proofs.TellLaws.{told_good, told_bad, told_gap, told_overlap}
+use Rattle.keypad_spec.proofs.CallLaws.{keypad_denied, keypad_given, find_gap, find_overlap, find_denied}
+use Rattle.keypad_spec.proofs.NumberLaws.{keypad_refusal, found_refusal}
 
 -- ---- the refusals
 

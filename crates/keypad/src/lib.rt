@@ -1,6 +1,8 @@
 // A keypad's table (02, K6): `check` says whether just one rule matches each code, `find` turns a code into its event.
 // Both take any sheet and any bytes, and answer the number of the refusal, or of a bad table its smallest bad code. A
 // code is looked at rule by rule, and left at the second rule that matches it.
+#![tactic(auto)]
+
 ghost use Rattle.std.specs.Prelude.{◌≡◌, ◌≤◌, ◌<◌, eqb};
 ghost use Rattle.keypad_spec.specs.Tables.{rule_count, event_of, match_count, bad_code, match_from, lowest};
 ghost use Rattle.keypad_spec.specs.Tables.{bad_answer, table_answer};

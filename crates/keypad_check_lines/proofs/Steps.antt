@@ -7,7 +7,7 @@ use borrow.Author.Tests.{eq-eqb, ne_eqb, le-leb, lt-leb}
 use Rattle.sheet_spec.specs.declared.ReadSheet.{ReadSheet}
 use Rattle.sheet_spec.specs.Reading.{read_sheet}
 use Rattle.text_spec.specs.Adds.{Adds}
-use Rattle.text_spec.specs.AddsLaws.{adds_then}
+use Rattle.text_spec.proofs.AddsLaws.{adds_then}
 use Rattle.words_spec.specs.Numbers.{number_in}
 use Rattle.text_sheet_spec.specs.Head.{head_line}
 use Rattle.text_pair_spec.specs.Split.{first_sheet, second_sheet}

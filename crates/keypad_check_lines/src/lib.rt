@@ -1,6 +1,8 @@
 // The text of the program `keypad_check`: every byte that it prints, from the words that it is started with and the
 // bytes that it reads, put over the front of a lent list. A function that puts a piece takes the list and the place
 // where the piece begins and answers the place after it.
+#![tactic(auto)]
+
 ghost use Rattle.std.specs.Prelude.{◌≡◌};
 ghost use Rattle.text_spec.specs.Adds.{Adds, Holds};
 ghost use Rattle.keypad_check_lines_spec.specs.Lines.{rules_line, overlap_line, told_lines, found_line};

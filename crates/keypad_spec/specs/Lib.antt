@@ -2,9 +2,3 @@ pub mod Tables
 pub mod Calls
 pub mod Numbers
 pub mod Meaning
-pub mod MatchLaws
-pub mod RefusalLaws
-pub mod RuleLaws
-pub mod TellLaws
-pub mod CallLaws
-pub mod NumberLaws

@@ -1,7 +1,6 @@
 -- The numbers of each case of the two answers. Parts that a case has not are 0. A gap has the same number whichever
 -- call answers it, and so has an overlap.
-use Rattle.std.specs.Prelude.{◌≡◌, refl, cond, ℕ, eqb}
-use Rattle.std.proofs.Common.{sym, ap, ◌∙◌}
+use Rattle.std.specs.Prelude.{ℕ}
 use Rattle.keypad_spec.specs.declared.Keypad.{Keypad}
 use Rattle.keypad_spec.specs.declared.Keypad.TheVariants.{Good, Gap, Overlap, Denied}
 use Rattle.keypad_spec.specs.declared.Found.{Found}
@@ -54,35 +53,3 @@ looked (Event e) = record { refusal = 0; kind = event_number; event = e; code = 
 looked (GapFound c) = record { refusal = 0; kind = gap_number; event = 0; code = c; first = 0; second = 0 }
 looked (OverlapFound c i k) = record { refusal = 0; kind = overlap_number; event = 0; code = c; first = i; second = k }
 looked (NotFound m) = record { refusal = m; kind = 0; event = 0; code = 0; first = 0; second = 0 }
-
--- the answers that have the given numbers
-keypad_back : Keyed → Keypad
-keypad_back n =
-    cond (eqb n.kind 0) (Denied n.refusal)
-    (cond (eqb n.kind good_number) Good (cond (eqb n.kind gap_number) (Gap n.code) (Overlap n.code n.first n.second)))
-
-found_back : Looked → Found
-found_back n =
-    cond (eqb n.kind 0) (NotFound n.refusal)
-    (cond (eqb n.kind event_number) (Event n.event) (cond (eqb n.kind gap_number) (GapFound n.code) (OverlapFound n.code n.first n.second)))
-
-keyed_back : (a : Keypad) → keypad_back (keyed a) ≡ a
-unfolding keyed keypad_back
-keyed_back Good = refl
-keyed_back (Gap c) = refl
-keyed_back (Overlap c i k) = refl
-keyed_back (Denied m) = refl
-
-looked_back : (a : Found) → found_back (looked a) ≡ a
-unfolding looked found_back
-looked_back (Event e) = refl
-looked_back (GapFound c) = refl
-looked_back (OverlapFound c i k) = refl
-looked_back (NotFound m) = refl
-
--- answers with the same numbers are the same
-pub keyed_once : (a b : Keypad) → keyed a ≡ keyed b → a ≡ b
-keyed_once a b e = sym (keyed_back a) ∙ ap keypad_back e ∙ keyed_back b
-
-pub looked_once : (a b : Found) → looked a ≡ looked b → a ≡ b
-looked_once a b e = sym (looked_back a) ∙ ap found_back e ∙ looked_back b

@@ -1,9 +1,10 @@
 // A keypad's table (02, K6): which rule matches which code, whether each code has just one, and the event of a code.
 // The crate has the types of the two answers; its specs say what a table is, what is refused, what is answered and what
 // that means. It has no function.
+#![tactic(auto)]
 
 // What a check of a table answers.
-#[derive(Drop)]
+#[derive(Clone, Copy)]
 pub enum Keypad {
     // just one rule matches each code
     Good,
@@ -16,7 +17,7 @@ pub enum Keypad {
 }
 
 // What a lookup of a code answers.
-#[derive(Drop)]
+#[derive(Clone, Copy)]
 pub enum Found {
     // the event of the code, in a good table
     Event(u8),

@@ -1,16 +1,37 @@
 // The program `live`, a live run of test k at the bench (01, "Test k and a live run"; 02, K4):
 //   live REF K H [traces]
-// REF names a file with the reference's bytes, of which no more than 4,096 are kept; later bytes count as absent. K and
-// H are numbers in base ten, and `traces` makes the run trace-only. Other counts of words are refused with 14 before
-// the file is opened. It prints a first line, with the test, the choice number, whether it is trace-only and the size
-// of the reference, and the first offer; or one refusal. Then it reads one report a line from standard input, `event e`
-// or `blocked`, and prints the answer to each, until the run ends. A line that is no report is refused with 15, and the
-// offer, which stands, is printed again. A last line without its newline is no line: the input has ended. Where an
-// answer cannot be written, the program says so on standard error and ends.
-use libc::{STDERR_FILENO, STDIN_FILENO, STDOUT_FILENO};
+// REF names a file with the reference's bytes, of which no more than 4,096 are kept; later bytes count as absent. A
+// name that is no UTF-8 counts as a file that cannot be opened. K and H are numbers in base ten, and `traces` makes the
+// run trace-only. Other counts of words are refused with 14 before the file is opened. It prints a first line, with the
+// test, the choice number, whether it is trace-only and the size of the reference, and the first offer; or one refusal.
+// Then it reads one report a line from standard input, `event e` or `blocked`, and prints the answer to each, until the
+// run ends. A line that is no report is refused with 15, and the offer, which stands, is printed again. A last line
+// without its newline is no line: the input has ended. Where an answer cannot be written, the program says so on
+// standard error and ends.
+#![tactic(auto)]
+
 use live_lines_spec::Asked;
 use sheet_spec::Sheet;
+use std::env::{Env, FillError};
+use std::fs::File;
+use std::io::{Error, ErrorKind, Read, Write};
+use std::rt::Files;
 use tests_spec::{Answer, Run};
+
+// The number of standard input.
+const STDIN_FILENO: i32 = 0;
+
+// The number of standard output.
+const STDOUT_FILENO: i32 = 1;
+
+// The number of standard error.
+const STDERR_FILENO: i32 = 2;
+
+// The system's number for a word that is not there.
+const EINVAL: i32 = 22;
+
+// The system's number for a name that is too long.
+const ENAMETOOLONG: i32 = 36;
 
 // The program ends after so many lines.
 const LINES: u32 = 1000000;
@@ -20,87 +41,83 @@ const LONGEST: u32 = 1000000;
 
 // ---- reading
 
-// What was read into a list: how many bytes it holds, and what came after them: the byte that was waited for, 256 for
-// the end of the input, or 257 for a read that failed.
-#[derive(Drop)]
-struct Got {
-    len: usize,
-    end: u16,
-}
-
-// A byte as a 16-bit number.
-fn short(x: u8) -> u16 {
-    x as u16
-}
-
-// The next byte of a file; 256 at the end of the input, 257 where the read fails.
-fn read_byte(fd: i32) -> u16 {
+// The next byte of standard input; none at its end, and where the read fails.
+fn heard_byte() -> Option<u8> {
     let mut one = [0u8; 1];
-    let view: &mut [u8] = &mut one;
-    let got = libc::read(fd, view);
-    if got < 0 {
-        return 257;
+    if io::read_full(STDIN_FILENO, &mut one) == 0 {
+        return None;
     }
-    if got == 0 {
-        return 256;
-    }
-    short(one[0])
+    Some(one[0])
 }
 
-// Reads bytes into the front of a list, up to the byte `stop`; bytes that have no room are dropped.
-fn read_to(fd: i32, stop: u16, list: &mut [u8]) -> Got {
+// Reads a line of standard input into the front of a list, up to its newline, and answers how many bytes of it the list
+// holds; bytes that have no room are dropped. None where the input ends, or cannot be read, before the line ends.
+fn read_line(list: &mut [u8]) -> Option<usize> {
     let mut len = 0;
-    let mut left = LONGEST;
-    while left > 0 {
-        let b = read_byte(fd);
-        if b == stop {
+    for _ in 0..LONGEST {
+        let b = heard_byte()?;
+        if b == b'\n' {
             break;
         }
-        if b > 255 {
-            return Got { len: len, end: b };
+        len = text::put_byte(list, len, b);
+    }
+    Some(len)
+}
+
+// The next byte of a file; none at its end.
+fn read_byte(file: &mut impl Read) -> std::io::Result<Option<u8>> {
+    let mut one = [0u8; 1];
+    if file.read(&mut one)? == 0 {
+        return Ok(None);
+    }
+    Ok(Some(one[0]))
+}
+
+// Reads a file into the front of a list, up to its end, and answers how many bytes of it the list holds; bytes that
+// have no room are dropped.
+fn read_to_end(file: &mut impl Read, list: &mut [u8]) -> std::io::Result<usize> {
+    let mut len = 0;
+    for _ in 0..LONGEST {
+        match read_byte(file)? {
+            None => break,
+            Some(b) => len = text::put_byte(list, len, b),
         }
-        len = text::put_byte(list, len, b as u8);
-        left -= 1;
     }
-    Got {
-        len: len,
-        end: stop,
+    Ok(len)
+}
+
+// Opens the file that some bytes name. A name that is no text is refused.
+fn open_named<R: Files>(rt: &R, name: &[u8]) -> std::io::Result<R::File> {
+    match str::from_utf8(name) {
+        Ok(path) => File::open(rt, path),
+        Err(_) => Err(Error::from(ErrorKind::InvalidFilename)),
     }
 }
 
-// Says on standard error why the file cannot be read.
-fn unread() -> Got {
-    os::fail(b"live");
-    Got { len: 0, end: 257 }
+// Opens the file that the first word names; 4,095 bytes hold every name that the system takes.
+fn open_reference<R: Env + Files>(rt: &R) -> std::io::Result<R::File> {
+    let mut name = [0u8; 4095];
+    match rt.arg(1, &mut name) {
+        Ok(n) => open_named(rt, text::front(&name, n)),
+        Err(FillError::TooLong) => Err(Error::from_raw_os_error(ENAMETOOLONG)),
+        Err(FillError::NotPresent) => Err(Error::from_raw_os_error(EINVAL)),
+    }
 }
 
-// Reads the file that the first word names.
-fn read_file(list: &mut [u8]) -> Got {
-    let mut name = io::buffer();
-    let n = os::arg(1, &mut name);
-    if os::errno() != 0 {
-        return unread();
-    }
-    let fd = os::open_read(&name[..n]);
-    if fd < 0 {
-        return unread();
-    }
-    let got = read_to(fd, 256, list);
-    if got.end > 256 {
-        return unread();
-    }
-    libc::close(fd);
-    got
+// Reads the file that the first word names, and answers how many bytes of it the list holds.
+fn read_file(rt: &(impl Env + Files), list: &mut [u8]) -> std::io::Result<usize> {
+    let mut file = open_reference(rt)?;
+    read_to_end(&mut file, list)
 }
 
 // The test that the words ask for, where `four` says whether there is a fourth.
-fn asked_for(four: bool) -> Asked {
+fn asked_for(rt: &impl Env, four: bool) -> Asked {
     let mut k = [0u8; 64];
     let mut h = [0u8; 64];
     let mut word = [0u8; 64];
-    let a = os::arg(2, &mut k);
-    let b = os::arg(3, &mut h);
-    let c = os::arg(4, &mut word);
+    let a = arguments::put_word(rt, 2, &mut k);
+    let b = arguments::put_word(rt, 3, &mut h);
+    let c = arguments::put_word(rt, 4, &mut word);
     live_words::asked_of(
         text::front(&k, a),
         text::front(&h, b),
@@ -118,6 +135,37 @@ fn written(bytes: &[u8]) -> bool {
     }
     io::write_all(STDERR_FILENO, b"live: the output could not be written\n");
     false
+}
+
+// Puts what an error says over the front of a list, and answers how many bytes of it the list holds.
+fn put_error(list: &mut [u8], error: Error) -> usize {
+    let room = list.len();
+    let mut rest: &mut [u8] = list;
+    match write!(rest, "{error}") {
+        Ok(()) => room.saturating_sub(rest.len()),
+        Err(_) => 0,
+    }
+}
+
+// The system's words for an error, without its number, which std puts after them.
+fn without_number(said: &str) -> &str {
+    match said.split_once(" (os error ") {
+        Some((words, _)) => words,
+        None => said,
+    }
+}
+
+// Says on standard error why the file cannot be read.
+fn unread(error: Error) {
+    let mut list = [0u8; 256];
+    let n = put_error(&mut list, error);
+    let said = match str::from_utf8(text::front(&list, n)) {
+        Ok(said) => without_number(said),
+        Err(_) => "",
+    };
+    io::write_all(STDERR_FILENO, b"live: ");
+    io::write_all(STDERR_FILENO, said.as_bytes());
+    io::write_all(STDERR_FILENO, b"\n");
 }
 
 // Writes what an opening prints, on a reference of n nodes and e events; `fault` is its own refusal.
@@ -154,7 +202,7 @@ fn say_no_test() -> bool {
 // ---- the run
 
 // The run after a line, the set that stands offered, and whether the run goes on.
-#[derive(Drop)]
+#[derive(Clone, Copy)]
 struct Heard {
     going: bool,
     offered: u16,
@@ -197,31 +245,30 @@ fn take_line(sheet: Sheet, run: Run, offered: u16, line: &[u8]) -> Heard {
 // input ends are no line.
 fn next_line(sheet: Sheet, run: Run, offered: u16) -> Heard {
     let mut line = [0u8; 64];
-    let got = read_to(STDIN_FILENO, 10, &mut line);
-    if got.end > 255 {
-        say_stop(false);
-        return Heard {
-            going: false,
-            offered: offered,
-            run: run,
-        };
+    match read_line(&mut line) {
+        Some(len) => take_line(sheet, run, offered, text::front(&line, len)),
+        None => {
+            say_stop(false);
+            Heard {
+                going: false,
+                offered: offered,
+                run: run,
+            }
+        }
     }
-    take_line(sheet, run, offered, text::front(&line, got.len))
 }
 
 // Answers line after line until the run ends; `set` is its first offer.
 fn answer_lines(sheet: Sheet, first: Run, set: u16) {
     let mut run = first;
     let mut offered = set;
-    let mut left = LINES;
-    while left > 0 {
+    for _ in 0..LINES {
         let next = next_line(sheet, run, offered);
         if !next.going {
             return;
         }
         run = next.run;
         offered = next.offered;
-        left -= 1;
     }
     say_stop(true);
 }
@@ -243,8 +290,8 @@ fn run_test(bytes: &[u8], asked: Asked) {
 }
 
 // Reads the file and the words, and runs the test. The program's own name counts as a word.
-fn main() {
-    let words = os::arg_count();
+fn main(rt: HostRuntime) {
+    let words = arguments::word_count(&rt);
     if words < 4 {
         say_no_test();
         return;
@@ -254,9 +301,8 @@ fn main() {
         return;
     }
     let mut space = io::buffer();
-    let got = read_file(&mut space);
-    if got.end > 256 {
-        return;
+    match read_file(&rt, &mut space) {
+        Ok(n) => run_test(text::front(&space, n), asked_for(&rt, words == 5)),
+        Err(error) => unread(error),
     }
-    run_test(text::front(&space, got.len), asked_for(words == 5));
 }

@@ -1,10 +1,12 @@
 // What `live` prints: at an opening, at the answer to a report, and where a run has not ended; the set that stands
 // offered, and whether the run goes on.
+#![tactic(auto)]
+
 ghost use Rattle.std.specs.Prelude.{◌≡◌, ◌++◌};
 ghost use Rattle.text_spec.specs.Adds.{Adds, Holds};
-ghost use Rattle.live_lines_spec.specs.Answers.{kindWords, head_line, offerLine, refusedSetLine};
-ghost use Rattle.live_lines_spec.specs.Answers.{reportWords, reportRefusedLine};
-ghost use Rattle.live_lines_spec.specs.Answers.{answerLines, nextOffer, goesOn, test_lines, openingLines, endedLine};
+ghost use Rattle.live_lines_spec.specs.Answers.{kind_words, head_line, offer_line, refused_set_line};
+ghost use Rattle.live_lines_spec.specs.Answers.{report_words, report_refused_line};
+ghost use Rattle.live_lines_spec.specs.Answers.{answer_lines, next_offer, goes_on, test_lines, opening_lines, ended_line};
 
 use live_lines_spec::Asked;
 use tests_spec::Answer;
@@ -13,7 +15,7 @@ use tests_spec::Answer;
 
 // Puts what the first line says before `test`.
 fn put_kind(out: &mut [u8], trace_only: bool) -> usize
-    ensures { Adds (kindWords trace_only) out.old 0 out.new result }
+    ensures { Adds (kind_words trace_only) out.old 0 out.new result }
 {
     if trace_only {
         return text::put(out, 0, b"trace-only ");
@@ -33,7 +35,7 @@ fn put_head(out: &mut [u8], asked: Asked, n: u16, e: u16) -> usize
 
 // Puts the line of an offer.
 fn put_offer(out: &mut [u8], at: usize, set: u16) -> usize
-    ensures { Adds (offerLine set) out.old at out.new result }
+    ensures { Adds (offer_line set) out.old at out.new result }
 {
     let a = text::put(out, at, b"offer");
     let b = text::put_members(out, a, set);
@@ -42,7 +44,7 @@ fn put_offer(out: &mut [u8], at: usize, set: u16) -> usize
 
 // Puts the line of a failed run, with the set that was offered.
 fn put_refused(out: &mut [u8], set: u16) -> usize
-    ensures { Adds (refusedSetLine set) out.old 0 out.new result }
+    ensures { Adds (refused_set_line set) out.old 0 out.new result }
 {
     let a = text::put(out, 0, b"run failed refused ");
     let b = text::put_set(out, a, set);
@@ -51,7 +53,7 @@ fn put_refused(out: &mut [u8], set: u16) -> usize
 
 // Puts why a report is refused.
 fn put_why(out: &mut [u8], at: usize, number: u8) -> usize
-    ensures { Adds (reportWords number) out.old at out.new result }
+    ensures { Adds (report_words number) out.old at out.new result }
 {
     if number == 15 {
         return text::put(out, at, b"no event of the sheet, or no report");
@@ -64,7 +66,7 @@ fn put_why(out: &mut [u8], at: usize, number: u8) -> usize
 
 // Puts the line of a refused report.
 fn put_report_refused(out: &mut [u8], number: u8) -> usize
-    ensures { Adds (reportRefusedLine number) out.old 0 out.new result }
+    ensures { Adds (report_refused_line number) out.old 0 out.new result }
 {
     let a = text::put(out, 0, b"report refused ");
     let b = text::put_number(out, a, number as u16);
@@ -77,7 +79,7 @@ fn put_report_refused(out: &mut [u8], number: u8) -> usize
 
 // Puts the line of a refused report and the offer again.
 fn put_again(out: &mut [u8], set: u16, number: u8) -> usize
-    ensures { Adds (reportRefusedLine number ++ offerLine set) out.old 0 out.new result }
+    ensures { Adds (report_refused_line number ++ offer_line set) out.old 0 out.new result }
 {
     let a = put_report_refused(out, number);
     put_offer(out, a, set)
@@ -85,7 +87,7 @@ fn put_again(out: &mut [u8], set: u16, number: u8) -> usize
 
 // Puts what the answer to a report prints, where `offered` is the set that stood offered.
 pub fn put_answer(out: &mut [u8], offered: u16, a: Answer) -> usize
-    ensures { Holds out.old (answerLines offered a) out.new result }
+    ensures { Holds out.old (answer_lines offered a) out.new result }
 {
     match a {
         Answer::Going(set) => put_offer(out, 0, set),
@@ -99,7 +101,7 @@ pub fn put_answer(out: &mut [u8], offered: u16, a: Answer) -> usize
 
 // The set that stands offered after an answer, where `offered` stood offered before it.
 pub fn next_offer(offered: u16, a: Answer) -> u16
-    ensures { result ≡ nextOffer offered a }
+    ensures { result ≡ next_offer offered a }
 {
     match a {
         Answer::Going(set) => set,
@@ -114,7 +116,7 @@ pub fn next_offer(offered: u16, a: Answer) -> u16
 // Whether the run goes on after the answer to a report: with the next offer, or with the same one after a refused
 // report.
 pub fn goes_on(a: Answer) -> bool
-    ensures { result ≡ goesOn a }
+    ensures { result ≡ goes_on a }
 {
     match a {
         Answer::Going(set) => true,
@@ -128,7 +130,7 @@ pub fn goes_on(a: Answer) -> bool
 
 // Puts the first line of a run and its first offer.
 fn put_first(out: &mut [u8], asked: Asked, n: u16, e: u16, set: u16) -> usize
-    ensures { Adds (head_line asked.trace_only asked.k asked.h n e ++ offerLine set)
+    ensures { Adds (head_line asked.trace_only asked.k asked.h n e ++ offer_line set)
         out.old 0 out.new result }
 {
     let a = put_head(out, asked, n, e);
@@ -151,7 +153,7 @@ fn put_test(out: &mut [u8], asked: Asked, n: u16, e: u16, a: Answer) -> usize
 
 // Puts what an opening prints, on a reference of n nodes and e events, where `fault` is its own refusal, 0 for none.
 pub fn put_opening(out: &mut [u8], asked: Asked, n: u8, e: u8, fault: u8, a: Answer) -> usize
-    ensures { Holds out.old (openingLines asked n e fault a) out.new result }
+    ensures { Holds out.old (opening_lines asked n e fault a) out.new result }
 {
     if fault != 0 {
         return text::put_number_line(out, 0, b"reference refused ", fault as u16);
@@ -161,7 +163,7 @@ pub fn put_opening(out: &mut [u8], asked: Asked, n: u8, e: u8, fault: u8, a: Ans
 
 // Puts what is printed where the run has not ended: the lines were too many, or the input ended.
 pub fn put_stop(out: &mut [u8], many: bool) -> usize
-    ensures { Holds out.old (endedLine many) out.new result }
+    ensures { Holds out.old (ended_line many) out.new result }
 {
     if many {
         return text::put(out, 0, b"lines ended\n");

@@ -1,7 +1,2 @@
 pub mod Words
 pub mod Answers
-pub mod WordLaws
-pub mod AnswerLaws
-pub mod EndingLaws
-pub mod RefusedLaws
-pub mod Cases

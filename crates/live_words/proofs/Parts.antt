@@ -9,11 +9,11 @@ use lib.Seq.{take_all}
 use borrow.Author.Tests.{eq-eqb, ne_eqb, le-leb, lt-leb}
 use Rattle.text_spec.specs.Lines.{ascii}
 use Rattle.words_spec.specs.Numbers.{number_in, number_of}
-use Rattle.words_spec.specs.NumberLaws.{number_most}
+use Rattle.words_spec.proofs.NumberLaws.{number_most}
 use Rattle.tests_spec.specs.declared.Report.{Report}
 use Rattle.tests_spec.specs.declared.Report.TheVariants.{Event, Blocked}
 use Rattle.words_spec.specs.Same.{same_text}
-use Rattle.words_spec.specs.SameLaws.{same→}
+use Rattle.words_spec.proofs.SameLaws.{same→}
 use Rattle.live_lines_spec.specs.Words.{event_named, report_of, counted_bytes, heard, last_ok, words_ok, asked_of}
 
 -- the ways out for a text that is to begin with `event `

@@ -1,4 +1,6 @@
 // The words and the lines that `live` is given: the words that ask for a test, and the reports of a device.
+#![tactic(auto)]
+
 ghost use Rattle.std.specs.Prelude.{◌≡◌};
 ghost use Rattle.live_lines_spec.specs.Words.{event_named, report_of, counted_bytes, heard};
 ghost use Rattle.live_lines_spec.specs.Words.{last_ok, asked_of};

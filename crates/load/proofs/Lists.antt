@@ -11,12 +11,12 @@ use native.Mathlib.Omega.{arith}
 use lib.ListN.{length, get_or, set, length-set, length-append, get_or-append}
 use lib.Seq.{get_or-set_same, get_or-set_other, get_or_at}
 use borrow.Author.Tests.{eq-eqb, ne_eqb}
-use Rattle.base.specs.Truth.{dec, lt_or_ge}
+use Rattle.base.proofs.Truth.{dec, lt_or_ge}
 use Rattle.base.specs.Gather.{gather, select}
 use Rattle.base.specs.Table.{up_to}
 use Rattle.events.specs.Sets.{has}
 use Rattle.events.specs.Lists.{events_in}
-use Rattle.events.specs.ListLaws.{events_more, events_same, events_few}
+use Rattle.events.proofs.ListLaws.{events_more, events_same, events_few}
 use Rattle.sheet_spec.specs.declared.Row.{Row}
 use Rattle.sheet_spec.specs.declared.Sheet.{Sheet}
 use Rattle.sheet_spec.specs.Kept.{row, successor, Initial, step}
@@ -24,8 +24,8 @@ use Rattle.sheet_spec.specs.Sound.{Sound}
 use Rattle.sheet_rows.specs.Tables.{initials_in, flat_at, flat_holds}
 use Rattle.load_spec.specs.Xorshift.{next_state}
 use Rattle.load_spec.specs.Walks.{initials_at, drawn, walk_from, walk_of}
-use Rattle.load_spec.specs.DrawLaws.{at_initial, drawn_initial}
-use Rattle.load_spec.specs.WalkLaws.{none_or_some, from_ends, from_goes, step_is, drawn_leads}
+use Rattle.load_spec.proofs.DrawLaws.{at_initial, drawn_initial}
+use Rattle.load_spec.proofs.WalkLaws.{none_or_some, from_ends, from_goes, step_is, drawn_leads}
 use Rattle.load.specs.Shapes.{count_with, Listed, Tabled, Leads, table_drawn, table_walk}
 
 -- ---- the events of a set, one by one

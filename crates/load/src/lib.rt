@@ -1,6 +1,8 @@
 // A reproducible load (02, K9). `walk` takes any sheet, seed, wish and list: it writes the walk of the seed to the
 // front of the list and answers its length, or the number of the refusal. The initials of each node are listed once,
 // and its successors laid out in a flat table; the walk goes by these tables alone.
+#![tactic(auto)]
+
 ghost use Rattle.std.specs.Prelude.{◌≡◌, List, ℕ, ◌≤◌, ◌<◌, length};
 ghost use Rattle.base.specs.Front.{at_front};
 ghost use Rattle.events.specs.Lists.{events_in};

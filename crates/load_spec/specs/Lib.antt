@@ -2,8 +2,3 @@ pub mod Xorshift
 pub mod Walks
 pub mod Calls
 pub mod Meaning
-pub mod StateLaws
-pub mod DrawLaws
-pub mod WalkLaws
-pub mod CallLaws
-pub mod Cases

@@ -1,10 +1,11 @@
 -- Nothing to believe: sets of nodes as numbers; inner functions cite these definitions. Who is in a set is `has`, as
 -- for events.
-use Rattle.std.specs.Prelude.{◌≡◌, refl, ℕ, zero, suc, ◌+◌, ◌-◌, ◌*◌, ◌/◌, ◌%◌, ◌^◌, ◌<◌, min, max}
-use Rattle.std.proofs.Common.{ap, ◌∙◌, arith}
+use Rattle.std.specs.Prelude.{◌≡◌, refl, ℕ, zero, suc, ◌+◌, ◌-◌, ◌*◌, ◌/◌, ◌%◌, ◌^◌, ◌<◌, min}
+use Rattle.std.proofs.Common.{◌∙◌, arith}
 use Rattle.std.specs.Int.Bits.{bit_and, bit_or, and_step, and_self}
 use Rattle.std.specs.Int.Count.{under, count_trailing_zeros}
-use Rattle.events.specs.Bit.{bit, bit·zero, bit·suc, bit_or_lem, bit_one, bit_other, bit_le, bit≤1}
+use Rattle.events.specs.Bit.{bit}
+use Rattle.events.proofs.Bit.{bit·zero, bit·suc, bit_or_lem, bit_one, bit_other, bit_le, bit≤1}
 
 -- a set with node v added
 abbrev pub with_node : ℕ → ℕ → ℕ

@@ -1,4 +1,6 @@
 // Sets of nodes as 32-bit numbers, in which node v adds 2 to the power v: membership, adding a node, the least node.
+#![tactic(auto)]
+
 ghost use Rattle.std.specs.Prelude.{◌≡◌, ◌-◌, ◌^◌, ◌<◌};
 ghost use Rattle.events.specs.Sets.{has};
 ghost use Rattle.nodes.specs.NodeSets.{with_node, least_node};

@@ -1,9 +1,19 @@
 // The program `probe_list`: a sheet from standard input, at most 4,096 bytes, and the probes and the optional events of
 // each node on standard output.
+#![tactic(auto)]
+
 ghost use Rattle.std.specs.Prelude.{◌≡◌, length};
 
-use libc::{STDERR_FILENO, STDIN_FILENO, STDOUT_FILENO};
 use sheet_spec::{ReadSheet, Sheet};
+
+// The number of standard input.
+const STDIN_FILENO: i32 = 0;
+
+// The number of standard output.
+const STDOUT_FILENO: i32 = 1;
+
+// The number of standard error.
+const STDERR_FILENO: i32 = 2;
 
 // 262,144 zeros, enough for the text of any node. The `ensures` gives only the length, which lending the array as a
 // slice needs.

@@ -9,20 +9,20 @@ use native.Mathlib.Decide.{ℕ_discrete}
 use lib.ListN.{length, take}
 use lib.Seq.{length-take-le, get_or-take, ext_get_or}
 use borrow.Author.Tests.{eq-eqb, ne_eqb}
-use Rattle.base.specs.Truth.{dec}
+use Rattle.base.proofs.Truth.{dec}
 use Rattle.sheet_spec.specs.declared.Sheet.{Sheet}
 use Rattle.sheet_spec.specs.Kept.{row, may_stop}
 use Rattle.sheet_spec.specs.Refusals.{sheet_fault}
-use Rattle.sheet_spec.specs.SoundLaws.{check_sound}
+use Rattle.sheet_spec.proofs.SoundLaws.{check_sound}
 use Rattle.probes_spec.specs.declared.Listed.{Listed}
 use Rattle.probes_spec.specs.declared.Listed.TheVariants.{Count, Denied}
 use Rattle.probes_spec.specs.Listing.{node_probes, list_fault, listed_numbers, listed_of, list_after}
-use Rattle.probes_spec.specs.ListingLaws.{listed_numbers_count, listed_numbers_denied, list_0, listed_denied, listed_count, after_probe, after_length, node_stop}
+use Rattle.probes_spec.proofs.ListingLaws.{listed_numbers_count, listed_numbers_denied, list_0, listed_denied, listed_count, after_probe, after_length, node_stop}
 use Rattle.text_spec.specs.Adds.{Holds, Adds}
-use Rattle.text_spec.specs.AddsLaws.{adds_then, adds_all}
+use Rattle.text_spec.proofs.AddsLaws.{adds_then, adds_all}
 use Rattle.text_sheet_spec.specs.Node.{probe_space, denied_line, node_line, optional, optional_text, node_text}
-use Rattle.text_sheet_spec.specs.NodeLaws.{space_length, line_stop, line_probes, line_denied, line_some}
-use Rattle.text_sheet_spec.specs.OptionalLaws.{text_denied, text_listed}
+use Rattle.text_sheet_spec.proofs.NodeLaws.{space_length, line_stop, line_probes, line_denied, line_some}
+use Rattle.text_sheet_spec.proofs.OptionalLaws.{text_denied, text_listed}
 use Rattle.probe_list_lines.specs.Shapes.{found_line}
 
 -- whether an answer of the probe call is a count, not a refusal

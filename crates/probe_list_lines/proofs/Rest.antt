@@ -7,11 +7,13 @@ use native.Mathlib.Numerals.{add-one}
 use native.Mathlib.Omega.{arith}
 use lib.Bits.{bit_and, and_step, and_le_l}
 use lib.Dec.{eqb, ltb}
-use Rattle.base.specs.Truth.{lt_or_ge}
+use Rattle.base.proofs.Truth.{lt_or_ge}
 use Rattle.base.specs.Range.{any}
-use Rattle.events.specs.Bit.{bit, bit·zero, bit·suc, bits_ext, bit_high, set_of, set_of_lt, bit_set_of}
-use Rattle.events.specs.Sets.{has, has→, has_not}
-use Rattle.events.specs.Gathered.{has_set_of, set_of_ext}
+use Rattle.events.specs.Bit.{bit, set_of}
+use Rattle.events.proofs.Bit.{bit·zero, bit·suc, bits_ext, bit_high, set_of_lt, bit_set_of}
+use Rattle.events.specs.Sets.{has}
+use Rattle.events.proofs.Sets.{has→, has_not}
+use Rattle.events.proofs.Gathered.{has_set_of, set_of_ext}
 use Rattle.sheet_spec.specs.declared.Row.{Row}
 use Rattle.sheet_spec.specs.Kept.{successor, acceptance, initials}
 use Rattle.text_sheet_spec.specs.Node.{optional}

@@ -1,5 +1,7 @@
 // The lines of the program `probe_list`: the probes of one node, or that it may stop, and its optional events. A
 // function that puts a piece takes the list and the place where the piece begins and answers the place after it.
+#![tactic(auto)]
+
 ghost use Rattle.std.specs.Prelude.{◌≡◌, ◌<◌, length};
 ghost use Rattle.sheet_spec.specs.Kept.{row};
 ghost use Rattle.text_spec.specs.Adds.{Adds, Holds};

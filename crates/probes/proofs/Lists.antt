@@ -1,23 +1,24 @@
 -- The probes as they are found, and the list that is written from them; the four ways out of `list`, each joined to the
 -- definition; and what it knows of a node when the sheet is not refused.
 use Rattle.std.proofs.Common.{◌≡◌, ℕ, suc, ◌<◌, ◌≤◌, ◌≢◌, ◌⊎◌, List, length, take, sym, ap, ◌∙◌, inl, inr, arith}
-use Rattle.base.specs.Truth.{lt_or_ge}
-use Rattle.base.specs.Front.{at_front, at_front_taken}
+use Rattle.base.proofs.Truth.{lt_or_ge}
+use Rattle.base.specs.Front.{at_front}
+use Rattle.base.proofs.Front.{at_front_taken}
 use Rattle.base.specs.Joined.{joined}
 use Rattle.sheet_spec.specs.declared.Sheet.{Sheet}
 use Rattle.sheet_spec.specs.Kept.{row}
 use Rattle.sheet_spec.specs.Form.{RowForm, SheetForm}
-use Rattle.sheet_spec.specs.RowLaws.{acceptances_take, sets_room, sets_taken}
+use Rattle.sheet_spec.proofs.RowLaws.{acceptances_take, sets_room, sets_taken}
 use Rattle.sheet_spec.specs.Refusals.{sheet_fault}
-use Rattle.sheet_spec.specs.SoundLaws.{check_sound}
+use Rattle.sheet_spec.proofs.SoundLaws.{check_sound}
 use Rattle.probes_spec.specs.declared.Listed.{Listed}
 use Rattle.probes_spec.specs.declared.Listed.TheVariants.{Count, Denied}
 use Rattle.probes_spec.specs.Probes.{probes}
-use Rattle.probes_spec.specs.ProbeLaws.{probes_most}
+use Rattle.probes_spec.proofs.ProbeLaws.{probes_most}
 use Rattle.probes_spec.specs.Shapes.{probes_by_number, of_size}
-use Rattle.probes_spec.specs.ShapeLaws.{sized_probes, found_count}
+use Rattle.probes_spec.proofs.ShapeLaws.{sized_probes, found_count}
 use Rattle.probes_spec.specs.Listing.{node_probes, list_fault, list_count, listed_numbers, listed_of, list_after}
-use Rattle.probes_spec.specs.ListingLaws.{list_sheet, list_9, list_10, list_0, listed_denied, after_denied, listed_count, after_front, listed_numbers_lem}
+use Rattle.probes_spec.proofs.ListingLaws.{list_sheet, list_9, list_10, list_0, listed_denied, after_denied, listed_count, after_front, listed_numbers_lem}
 
 -- ---- the probes of some acceptances
 

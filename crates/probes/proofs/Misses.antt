@@ -6,7 +6,7 @@ use Rattle.probes_spec.specs.declared.Missed.{Missed}
 use Rattle.probes_spec.specs.declared.Missed.TheVariants.{Nothing, Found}
 use Rattle.probes_spec.specs.Probes.{probes}
 use Rattle.probes_spec.specs.FirstMissed.{missing, or_next, first_missing, first_missed, missed_numbers, NoneMissed}
-use Rattle.probes_spec.specs.FirstMissedLaws.{found_0}
+use Rattle.probes_spec.proofs.FirstMissedLaws.{found_0}
 use Rattle.probes.proofs.candidates.Passes.{left_some, left_none}
 
 -- the inner loop

@@ -1,8 +1,10 @@
 -- The loop over all sets: where it stands, and which probes it has seen. It goes from one probe to the next.
 use Rattle.std.proofs.Common.{◌≡◌, ℕ, zero, suc, ◌+◌, ◌-◌, ◌^◌, ◌<◌, ◌≤◌, Bool, true, false, cond, ◌⊎◌, List, [], ◌∷◌, ◌++◌, length, take, drop, set, sym, refl, ap, ◌∙◌, inl, inr, append_assoc, le_refl, eq-or-lt_of_le, add-one, arith, length-append, drop-cons}
 use lib.Seq.{set-append_seam}
-use Rattle.base.specs.Front.{at_front, at_front_taken}
-use Rattle.base.specs.Gather.{select, gather, gather_yes, gather_skip, gather_short, gather_room}
+use Rattle.base.specs.Front.{at_front}
+use Rattle.base.proofs.Front.{at_front_taken}
+use Rattle.base.specs.Gather.{select, gather}
+use Rattle.base.proofs.Gather.{gather_yes, gather_skip, gather_short, gather_room}
 use Rattle.probes_spec.specs.Probes.{is_probe}
 use Rattle.probes_spec.specs.Shapes.{probes_by_number, next_in, next_from}
 

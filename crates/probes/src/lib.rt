@@ -1,6 +1,8 @@
 // The probes of a node (01, "Probes"): its minimal hitting sets, listed, those with fewer events first (02, K3), and
 // looked through for the first that a device's acceptances miss. `list` takes any sheet, node and list; the others take
 // any acceptances, and E up to 12.
+#![tactic(auto)]
+
 mod candidates;
 mod several;
 mod sizes;

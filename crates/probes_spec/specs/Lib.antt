@@ -1,14 +1,6 @@
 pub mod Probes
-pub mod HitLaws
-pub mod OrderLaws
-pub mod ProbeLaws
 pub mod Shapes
-pub mod ShapeLaws
 pub mod FirstMissed
-pub mod FirstMissedLaws
 pub mod Listing
-pub mod ListingLaws
 pub mod Nodes
 pub mod Together
-pub mod NodesLaws
-pub mod Recoded

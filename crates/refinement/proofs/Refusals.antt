@@ -9,10 +9,11 @@ use native.Mathlib.Omega.{arith}
 use mir.Val.{Val}
 use denote.Laws.{Is}
 use borrow.Author.Tests.{not-true}
-use Rattle.base.specs.Truth.{dec, clash, not_i, not_t, t_not}
-use Rattle.base.specs.Range.{any→, any←}
-use Rattle.events.specs.Bit.{bits_zero}
-use Rattle.events.specs.Sets.{inside, inside→, inside←}
+use Rattle.base.proofs.Truth.{dec, clash, not_i, not_t, t_not}
+use Rattle.base.proofs.Range.{any→, any←}
+use Rattle.events.proofs.Bit.{bits_zero}
+use Rattle.events.specs.Sets.{inside}
+use Rattle.events.proofs.Sets.{inside→, inside←}
 use Rattle.sheet_spec.specs.declared.Row.{Row}
 use Rattle.sheet_spec.specs.Kept.{acceptance}
 use Rattle.sheet_spec.specs.contracts.Row as R

@@ -1,5 +1,7 @@
 // When a pair of nodes is violating: what the device does or may refuse at its node and the reference does not at its
 // own. Every public function takes every row.
+#![tactic(auto)]
+
 ghost use Rattle.std.specs.Prelude.{◌≡◌, ◌≤◌};
 ghost use Rattle.refinement_spec.specs.ViolatingPairs.{strays, has_refusal};
 ghost use Rattle.refinement.specs.Shapes.{covering, refusing, violates_by};

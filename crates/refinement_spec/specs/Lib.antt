@@ -1,4 +1,2 @@
 pub mod Refinement
 pub mod ViolatingPairs
-pub mod PairLaws
-pub mod RefinementLaws

@@ -7,12 +7,12 @@ use borrow.Author.Tests.{eq-eqb, ne_eqb}
 use Rattle.sheet_spec.specs.declared.Sheet.{Sheet}
 use Rattle.scripts_spec.specs.declared.Scripts.{Scripts}
 use Rattle.scripts_spec.specs.Scripts.{scripts_of}
-use Rattle.scripts_spec.specs.CallLaws.{scripts_refusal, told_sum}
+use Rattle.scripts_spec.proofs.CallLaws.{scripts_refusal, told_sum}
 use Rattle.text_spec.specs.Lines.{ascii, number_line}
 use Rattle.text_spec.specs.Adds.{Adds}
 use Rattle.script_counts_lines_spec.specs.Lines.{count_lines, scripts_lines}
 use Rattle.script_counts_lines_spec.specs.Program.{length_of, counted_lines}
-use Rattle.script_counts_lines_spec.specs.Lengths.{sum_few}
+use Rattle.script_counts_lines_spec.proofs.Lengths.{sum_few}
 
 module _ {a : Scripts} (P Q : Sheet) (L : ℕ) (e : a ≡ scripts_of P Q L) where
   -- the counts of the call's answer sum to a number of 64 bits

@@ -1,5 +1,7 @@
 // The text of the program `script_counts`: every byte that it prints, from the word that it is started with and the
 // bytes that it reads, put over the front of a lent list.
+#![tactic(auto)]
+
 ghost use Rattle.std.specs.Prelude.{◌≡◌, ◌+◌, ◌≤◌};
 ghost use Rattle.text_spec.specs.Adds.{Adds, Holds};
 ghost use Rattle.script_counts_lines_spec.specs.Lines.{total_line, count_lines};

@@ -1,9 +1,3 @@
 pub mod Lines
 pub mod Program
 pub mod Says
-pub mod LineLaws
-pub mod WordLaws
-pub mod ProgramLaws
-pub mod MeaningLaws
-pub mod Lengths
-pub mod Cases

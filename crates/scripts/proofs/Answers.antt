@@ -4,15 +4,14 @@ use mathlib.Core.Logic.{◌⊎◌, inl, inr, ◌≢◌}
 use mathlib.Core.List.{List}
 use Prim.Native.Nat.{ℕ, ◌≤◌, ◌<◌}
 use native.Mathlib.Omega.{arith}
-use Rattle.base.specs.Truth.{lt_or_ge}
+use Rattle.base.proofs.Truth.{lt_or_ge}
 use Rattle.sheet_spec.specs.declared.Sheet.{Sheet}
 use Rattle.sheet_spec.specs.Kept.{first_codes, sheet_with}
-use Rattle.sheet_spec.specs.SoundLaws.{check_sound}
-use Rattle.scripts_spec.specs.declared.Scripts.{Scripts}
-use Rattle.scripts_spec.specs.Scripts.{Fate, Walked, DeviceStops, ReferenceStops, count_from, count_of, scripts_fault, scripts_of}
+use Rattle.sheet_spec.proofs.SoundLaws.{check_sound}
+use Rattle.scripts_spec.specs.Scripts.{Walked, DeviceStops, ReferenceStops, count_of, scripts_fault, scripts_of}
 use Rattle.scripts_spec.specs.Fates.{SameSteps}
-use Rattle.scripts_spec.specs.CallLaws.{scripts_0, scripts_denied, scripts_given}
-use Rattle.scripts_spec.specs.SuccessorLaws.{recoded_steps, same_counts}
+use Rattle.scripts_spec.proofs.CallLaws.{scripts_0, scripts_denied, scripts_given}
+use Rattle.scripts_spec.proofs.SuccessorLaws.{recoded_steps, same_counts}
 use Rattle.scripts.specs.declared.Counts.{Counts}
 use Rattle.scripts.specs.Shapes.{counts_from}
 

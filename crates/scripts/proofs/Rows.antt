@@ -7,16 +7,16 @@ use native.Mathlib.Nat.{pow-zero}
 use native.Mathlib.Omega.{arith}
 use lib.ListN.{length, get_or}
 use borrow.Author.Tests.{lt-ltb, le-ltb}
-use Rattle.base.specs.Truth.{lt_or_ge}
+use Rattle.base.proofs.Truth.{lt_or_ge}
 use Rattle.base.specs.Sum.{sum}
 use Rattle.base.specs.Table.{up_to}
 use Rattle.sheet_spec.specs.declared.Row.{Row}
 use Rattle.sheet_spec.specs.declared.Sheet.{Sheet}
-use Rattle.sheet_spec.specs.Kept.{no_row, successor, sheet_with, step, first_codes}
+use Rattle.sheet_spec.specs.Kept.{sheet_with, step}
 use Rattle.sheet_rows.specs.Tables.{flat_at, flat_holds}
-use Rattle.scripts_spec.specs.Scripts.{Fate, Walked, DeviceStops, ReferenceStops, beginning, count_from, count_of, scripts_fault, scripts_of}
+use Rattle.scripts_spec.specs.Scripts.{Fate, Walked, DeviceStops, ReferenceStops, beginning, count_from}
 use Rattle.scripts.specs.declared.Counts.{Counts}
-use Rattle.scripts.specs.Shapes.{one, counts_from, plus, event_counts, sums, table_counts, cell, cell_in, Filled, Begun}
+use Rattle.scripts.specs.Shapes.{counts_from, plus, event_counts, sums, table_counts}
 use Rattle.scripts.proofs.tables.Sums.{event_both, event_reference, event_device}
 
 -- the flat table has the step of each node on each event

@@ -1,6 +1,8 @@
 // How many key scripts of a length go where (02, K2). `count` takes any two sheets and any length: it answers the three
 // counts, or the number of the refusal. The successors are laid out in flat tables once; the counts of all pairs of
 // nodes for one event more are worked from those for one event fewer, and no script is enumerated.
+#![tactic(auto)]
+
 mod tables;
 
 ghost use Rattle.std.specs.Prelude.{◌≡◌, ◌≤◌, ◌<◌};
@@ -12,7 +14,7 @@ use scripts_spec::Scripts;
 use sheet_spec::{Row, Sheet};
 
 // How many scripts go each way from a pair of nodes on.
-#[derive(Drop)]
+#[derive(Clone, Copy)]
 struct Counts {
     walked: u64,
     device: u64,

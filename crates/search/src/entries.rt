@@ -8,7 +8,7 @@ ghost use Rattle.search_theory.specs.Words.{st, node_at, visited, tried, VisitOk
 ghost use Rattle.search_theory.specs.Steps.{StepOk};
 
 // An entry of the queue: its place and its two nodes.
-#[derive(Drop)]
+#[derive(Clone, Copy)]
 pub(crate) struct Entry {
     pub place: usize,
     pub reference: usize,

@@ -1,5 +1,7 @@
 // A breadth-first search over the pairs of nodes of two graphs that are given as flat tables of successors, for the
 // nearest pair of a given table of bad ones, in a lent work list (module `entries`).
+#![tactic(auto)]
+
 mod entries;
 mod queue;
 mod trace_back;

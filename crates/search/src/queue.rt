@@ -12,7 +12,7 @@ use super::entries::Entry;
 
 // Where a search ended: the entry at which it did and how many entries there are; and, where that entry is a bad one,
 // its distance and how many are nearer.
-#[derive(Drop)]
+#[derive(Clone, Copy)]
 pub(crate) struct Stop {
     pub head: usize,
     pub tail: usize,
@@ -21,7 +21,7 @@ pub(crate) struct Stop {
 }
 
 // A level of the queue: the entries at one distance, from one place to another.
-#[derive(Drop)]
+#[derive(Clone, Copy)]
 struct Level {
     distance: usize,
     start: usize,

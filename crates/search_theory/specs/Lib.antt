@@ -5,4 +5,3 @@ pub mod Words
 pub mod Found
 pub mod Steps
 pub mod Read
-pub mod Cases

@@ -4,14 +4,15 @@ use mathlib.Core.List.{List}
 use Prim.Native.Nat.{ℕ, ◌≤◌}
 use native.Mathlib.Omega.{arith}
 use borrow.Author.Tests.{ne_eqb}
-use Rattle.base.specs.Refusal.{or_else, or_else→, or_else_some, or_else_assoc}
+use Rattle.base.specs.Refusal.{or_else}
+use Rattle.base.proofs.Refusal.{or_else→, or_else_some, or_else_assoc}
 use Rattle.sheet_spec.specs.declared.Sheet.{Sheet}
 use Rattle.sheet_spec.specs.declared.ReadSheet.{ReadSheet}
 use Rattle.sheet_spec.specs.Reading.{zero_sheet, answer, read_sheet}
 use Rattle.sheet_spec.specs.Spelling.{byte, nodes_at, sheet_of}
 use Rattle.sheet_spec.specs.Refusals.{head_fault, codes_fault, layout_fault, graph_fault, bytes_fault}
-use Rattle.sheet_spec.specs.RuleLaws.{ranges→}
-use Rattle.sheet_spec.specs.Places.{head}
+use Rattle.sheet_spec.proofs.RuleLaws.{ranges→}
+use Rattle.sheet_spec.proofs.Places.{head}
 use Rattle.sheet_bytes.proofs.Passes.{passes}
 
 refuse : (k : ℕ) (s : Sheet) → (k ≡ 0 → ⊥) → answer k zero_sheet ≡ answer k s
@@ -28,14 +29,14 @@ module _ (b : List ℕ) {k : ℕ} (p : k ≡ passes b) where
       ap (or_else (head_fault b)) (or_else_assoc (codes_fault b) f (graph_fault (sheet_of b)))
       ∙ or_else_assoc (head_fault b) (or_else (codes_fault b) f) (graph_fault (sheet_of b)) ∙ rw p
 
-  pub read-bytes : {o : ReadSheet} → (k ≡ 0 → ⊥) → o ≡ answer k zero_sheet → o ≡ read_sheet b
+  pub read_bytes : {o : ReadSheet} → (k ≡ 0 → ⊥) → o ≡ answer k zero_sheet → o ≡ read_sheet b
   unfolding read_sheet
-  read-bytes h q = q ∙ refuse k (sheet_of b) h ∙ rw (whole, or_else_some k (graph_fault (sheet_of b)) (omega arith))
+  read_bytes h q = q ∙ refuse k (sheet_of b) h ∙ rw (whole, or_else_some k (graph_fault (sheet_of b)) (omega arith))
 
   module _ {s : Sheet} {g : ℕ} (z : k ≡ 0) (u : s ≡ sheet_of b) (v : g ≡ graph_fault s) where
-    pub read-graph : {o : ReadSheet} → (g ≡ 0 → ⊥) → o ≡ answer g zero_sheet → o ≡ read_sheet b
+    pub read_graph : {o : ReadSheet} → (g ≡ 0 → ⊥) → o ≡ answer g zero_sheet → o ≡ read_sheet b
     unfolding read_sheet
-    read-graph h q = q ∙ refuse g (sheet_of b) h ∙ rw (whole, z, ← u, ← v)
+    read_graph h q = q ∙ refuse g (sheet_of b) h ∙ rw (whole, z, ← u, ← v)
 
     pub read_whole : g ≡ 0 → record { refusal = 0; sheet = s } ≡ read_sheet b
     unfolding read_sheet answer

@@ -1,6 +1,8 @@
 // A sheet read from bytes, and a kept sheet checked (01, "A sheet" and the refusals 1 to 8; 02, K1, the refusal 18).
 // Both entry points take any content: `read` answers with the sheet or the number of the refusal, `check` with the
 // number, 0 for none.
+#![tactic(auto)]
+
 ghost use Rattle.std.specs.Prelude.{◌≡◌, ◌<◌};
 ghost use Rattle.sheet_spec.specs.Refusals.{sheet_fault};
 ghost use Rattle.sheet_spec.specs.Reading.{zero_sheet, answer, read_sheet};

@@ -3,10 +3,11 @@ use mathlib.Core.Path.{◌≡◌, sym, ◌∙◌}
 use mathlib.Core.List.{List}
 use Prim.Native.Nat.{ℕ, ◌≤◌}
 use native.Mathlib.Omega.{arith}
-use Rattle.base.specs.Refusal.{or_else, or_else_some}
-use Rattle.sheet_spec.specs.RuleLaws.{ranges→}
+use Rattle.base.specs.Refusal.{or_else}
+use Rattle.base.proofs.Refusal.{or_else_some}
+use Rattle.sheet_spec.proofs.RuleLaws.{ranges→}
 use Rattle.sheet_spec.specs.Spelling.{byte, nodes_at}
-use Rattle.sheet_spec.specs.Places.{head}
+use Rattle.sheet_spec.proofs.Places.{head}
 use Rattle.sheet_spec.specs.Refusals.{head_fault, codes_fault, layout_fault}
 
 -- the refusal by the three passes

@@ -1,5 +1,7 @@
 // The bytes of a sheet (01, "A sheet"; 02, K1): the refusals 1 to 5 and 18, and the sheet that they spell, whatever
 // they are: each row from its place, the codes, unused places as 01 and 02 have them.
+#![tactic(auto)]
+
 mod codes;
 mod layout;
 

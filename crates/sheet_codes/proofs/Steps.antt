@@ -5,7 +5,7 @@ use mathlib.Core.List.{List}
 use Prim.Native.Nat.{ℕ, ◌+◌, ◌<◌}
 use lib.Dec.{eqb}
 use borrow.Author.Tests.{eq-eqb, ne_eqb, not-true, not-false}
-use Rattle.base.specs.Loops.{Passing, stops, goes_on}
+use Rattle.base.proofs.Loops.{Passing, stops, goes_on}
 use Rattle.sheet_spec.specs.Kept.{code_at}
 use Rattle.sheet_spec.specs.Rules.{code_new, codes_agree, first_codes_ok}
 use Rattle.sheet_spec.specs.Refusals.{shared_fault}

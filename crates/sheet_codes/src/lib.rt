@@ -1,5 +1,7 @@
 // The catalogue codes of events (02, K1): all that is tested of them, over lent lists. A code may be any number. The
 // proofs do not know that a lent list has twelve places, so the tests of the first `e` events ask for an E up to 12.
+#![tactic(auto)]
+
 ghost use Rattle.std.specs.Prelude.{◌≡◌, ◌||◌, ◌≤◌, ◌<◌, eqb, ltb};
 ghost use Rattle.sheet_spec.specs.Kept.{code_at};
 ghost use Rattle.sheet_spec.specs.Rules.{code_new, codes_ok, codes_blank, codes_agree, first_codes_ok};

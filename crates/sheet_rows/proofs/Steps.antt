@@ -6,8 +6,10 @@ use native.Mathlib.Omega.{arith}
 use native.Mathlib.Numerals.{add-one}
 use native.Mathlib.Nat.{add-zero}
 use lib.Dec.{eqb, ltb}
-use Rattle.events.specs.Bit.{set_of, set_of_lt}
-use Rattle.events.specs.Sets.{insert, insert_top}
+use Rattle.events.specs.Bit.{set_of}
+use Rattle.events.proofs.Bit.{set_of_lt}
+use Rattle.events.specs.Sets.{insert}
+use Rattle.events.proofs.Sets.{insert_top}
 use Rattle.sheet_spec.specs.declared.Row.{Row}
 use Rattle.sheet_spec.specs.Kept.{successor}
 use Rattle.sheet_rows.specs.Shapes.{initial_added}

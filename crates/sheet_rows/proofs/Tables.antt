@@ -7,7 +7,7 @@ use native.Mathlib.Nat.{add-zero}
 use native.Mathlib.Numerals.{add-one}
 use lib.Arith.{digits_div, digits_mod}
 use lib.ListN.{get_or, set}
-use Rattle.base.specs.Loops.{Filling, stored}
+use Rattle.base.proofs.Loops.{Filling, stored}
 use Rattle.sheet_spec.specs.declared.Row.{Row}
 use Rattle.sheet_spec.specs.Kept.{no_row, successor}
 use Rattle.sheet_rows.specs.Tables.{flat_at, row_put}

@@ -3,7 +3,8 @@
 use Rattle.std.specs.Prelude.{◌≡◌, List, ℕ, zero, suc, ◌+◌, ◌*◌, ◌/◌, ◌%◌, ◌<◌, get_or, set}
 use Rattle.std.proofs.Common.{◌∙◌, arith}
 use Rattle.std.proofs.Math.Arith.{digits_div, digits_mod}
-use Rattle.base.specs.Table.{up_to, get_or_up_to}
+use Rattle.base.specs.Table.{up_to}
+use Rattle.base.proofs.Table.{get_or_up_to}
 use Rattle.sheet_spec.specs.declared.Row.{Row}
 use Rattle.sheet_spec.specs.Kept.{no_row, successor, initials}
 

@@ -1,5 +1,7 @@
 // The row of one node: its successors, sets and initials, and whether it may stop there. Every public function takes
 // every row, event and place. And the tables of all rows: the successors of each node, and its initials.
+#![tactic(auto)]
+
 ghost use Rattle.std.specs.Prelude.{◌≡◌, ◌<◌};
 ghost use Rattle.sheet_spec.specs.Kept.{successor, acceptance, initials, may_stop};
 ghost use Rattle.base.specs.Table.{up_to};

@@ -6,7 +6,7 @@ use borrow.Author.Tests.{not-true, not-false}
 use Rattle.base.specs.Refusal.{unless}
 use Rattle.sheet_spec.specs.declared.Sheet.{Sheet}
 use Rattle.sheet_spec.specs.Rules.{ranges_ok}
-use Rattle.sheet_spec.specs.RuleLaws.{ranges→}
+use Rattle.sheet_spec.proofs.RuleLaws.{ranges→}
 
 -- a rule whose test t passes leaves the number to what follows; one whose test fails gives its own
 pub kept : (a : Bool) {t : Bool} (k m r : ℕ) → t ≡ a → not t ≡ false → m ≡ r → m ≡ unless a k r

@@ -4,9 +4,10 @@ use Rattle.std.specs.Prelude.{◌≡◌, refl, ◌⊎◌, Bool, true, false, ◌
 use Rattle.std.proofs.Common.{sym, ap, ◌∙◌, inl, inr, arith, lt-ltb, le-ltb, eq-eqb, ne_eqb}
 use Rattle.std.proofs.Math.Decide.{ℕ_discrete}
 use Rattle.std.specs.Int.Bits.{bit_or}
-use Rattle.base.specs.Truth.{lt_or_ge}
+use Rattle.base.proofs.Truth.{lt_or_ge}
 use Rattle.base.specs.Range.{any}
-use Rattle.events.specs.Bit.{bit, bits_ext, bits_zero, bit_or_lem, bit_one, bit_other, bit_high, set_of, set_of_lt, bit_set_of}
+use Rattle.events.specs.Bit.{bit, set_of}
+use Rattle.events.proofs.Bit.{bits_ext, bits_zero, bit_or_lem, bit_one, bit_other, bit_high, set_of_lt, bit_set_of}
 use Rattle.sheet_spec.specs.declared.Row.{Row}
 use Rattle.sheet_spec.specs.Kept.{successor}
 use Rattle.sheet_rules.specs.RowShapes.{node_added, targets}

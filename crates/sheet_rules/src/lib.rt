@@ -1,6 +1,8 @@
 // The rules of a sheet (01, "Who can cause a refusal"; 02, K1): 3 of E and N, 18 of the codes, 5 of a row's count, 6
 // and 7 of its successors, sets and unused places, 8 of the graph. And the refusals that they give, of a kept sheet and
 // of one that was just read.
+#![tactic(auto)]
+
 mod reached;
 mod rows;
 mod sets;

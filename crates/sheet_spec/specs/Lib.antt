@@ -13,26 +13,6 @@ pub mod Refusals
 -- reading: what is answered, and the sheets of 01's cases
 pub mod Reading
 pub mod Examples
+
 -- laws
-pub mod AnswerLaws
-pub mod ReadLaws
-pub mod CheckLaws
-pub mod PairFaults
-pub mod EncodingLaws
-pub mod PieceLaws
-pub mod RuleLaws
-pub mod RowLaws
-pub mod SoundLaws
-pub mod MadeLaws
-pub mod CodeLaws
 -- steps of their proofs
-pub mod Chains
-pub mod Slices
-pub mod Places
-pub mod Accepted
-pub mod Spelled
-pub mod Written
-pub mod Octets
-pub mod Formed
-pub mod Walked
-pub mod Ends

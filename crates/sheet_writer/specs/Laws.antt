@@ -13,13 +13,13 @@ use Rattle.sheet_spec.specs.Kept.{row, successor, acceptance}
 use Rattle.sheet_spec.specs.Form.{SheetForm}
 use Rattle.sheet_spec.specs.Refusals.{sheet_fault}
 use Rattle.sheet_spec.specs.Sound.{Sound}
-use Rattle.sheet_spec.specs.SoundLaws.{check_sound}
+use Rattle.sheet_spec.proofs.SoundLaws.{check_sound}
 use Rattle.sheet_spec.specs.Encoding.{two, four, encode_words, encode_row, encode_rows, encode_codes, encode_body, encode, written_version, sheet_bytes}
-use Rattle.sheet_spec.specs.PieceLaws.{words_none, rows_none, words_more, rows_more, words_length, row_length}
-use Rattle.sheet_spec.specs.EncodingLaws.{bytes_read}
+use Rattle.sheet_spec.proofs.PieceLaws.{words_none, rows_none, words_more, rows_more, words_length, row_length}
+use Rattle.sheet_spec.proofs.EncodingLaws.{bytes_read}
 use Rattle.sheet_spec.specs.Reading.{read_sheet, accepted}
 use Rattle.text_spec.specs.Adds.{Adds}
-use Rattle.text_spec.specs.AddsLaws.{adds_all, over_fits}
+use Rattle.text_spec.proofs.AddsLaws.{adds_all, over_fits}
 use Rattle.sheet_writer.specs.Shapes.{version_of, code_bytes, codes_bytes, codes_size, succ_byte, set_bytes, row_bytes, node_bytes, row_size, size_to, body_size, head_bytes, all_bytes, Small}
 
 -- ---- steps of the loop that counts

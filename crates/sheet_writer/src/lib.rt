@@ -1,6 +1,8 @@
 // The bytes of a kept sheet (01, "A sheet"; 02, K1) into a lent list: version 1 where its codes are 1 to E, else
 // version 2. A function that puts a piece takes the list and the place where the piece begins and answers the place
 // after it; what has no room is left out.
+#![tactic(auto)]
+
 ghost use Rattle.std.specs.Prelude.{◌≡◌, ◌≤◌, ◌<◌};
 ghost use Rattle.base.specs.Joined.{joined};
 ghost use Rattle.sheet_spec.specs.Encoding.{two, sheet_bytes};

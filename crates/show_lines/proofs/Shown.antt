@@ -10,10 +10,10 @@ use Rattle.sheet_spec.specs.declared.ReadSheet.{ReadSheet}
 use Rattle.sheet_spec.specs.Reading.{read_sheet}
 use Rattle.text_spec.specs.Input.{cut_input}
 use Rattle.text_spec.specs.Adds.{Holds, Adds}
-use Rattle.text_spec.specs.AddsLaws.{adds_then, adds_all}
+use Rattle.text_spec.proofs.AddsLaws.{adds_then, adds_all}
 use Rattle.text_sheet_spec.specs.Head.{head_line}
 use Rattle.text_sheet_spec.specs.Show.{codes_lines, node_lines, show_lines, show_text}
-use Rattle.text_sheet_spec.specs.ShowLaws.{show_accepted, show_refused, read_events, read_nodes}
+use Rattle.text_sheet_spec.proofs.ShowLaws.{show_accepted, show_refused, read_events, read_nodes}
 
 module _ (input : List ℕ) {a : ReadSheet} (e : a ≡ read_sheet (take 4096 input)) where
   shown : show_lines a ≡ show_text input

@@ -1,5 +1,7 @@
 // The text of the program `show`: every byte that it prints, from the bytes that it reads. A function that puts a piece
 // takes the list and the place where the piece begins and answers the place after it.
+#![tactic(auto)]
+
 ghost use Rattle.std.specs.Prelude.{◌≤◌, ◌<◌};
 ghost use Rattle.base.specs.Joined.{joined};
 ghost use Rattle.text_spec.specs.Adds.{Adds, Holds};

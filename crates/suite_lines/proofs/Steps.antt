@@ -14,7 +14,7 @@ use Rattle.verdicts_spec.specs.declared.Suite.{Suite}
 use Rattle.verdicts_spec.specs.declared.Suite.TheVariants.{Judged, Denied}
 use Rattle.verdicts_spec.specs.Numbers.{passes_number}
 use Rattle.verdicts_spec.specs.Suites.{test_count, suite_fault, suite_of, verdicts_after}
-use Rattle.verdicts_spec.specs.SuiteLaws.{given_room, verdicts_length}
+use Rattle.verdicts_spec.proofs.SuiteLaws.{given_room, verdicts_length}
 use Rattle.suite_lines_spec.specs.Lines.{passed_of, suite_lines}
 use Rattle.suite_lines_spec.specs.Program.{verdict_list, judged_lines}
 use Rattle.suite_lines.specs.Shapes.{Room}

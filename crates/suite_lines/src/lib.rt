@@ -1,5 +1,7 @@
 // The text of the program `suite`: every byte that it prints, from the bytes that it reads, put over the front of a
 // lent list.
+#![tactic(auto)]
+
 ghost use Rattle.std.specs.Prelude.{◌≡◌, cond, ◌+◌, ◌*◌, ◌≤◌, ◌<◌, eqb, length};
 ghost use Rattle.text_spec.specs.Adds.{Adds, Holds};
 ghost use Rattle.verdicts_spec.specs.Numbers.{passes_number};

@@ -1,5 +1,2 @@
 pub mod Lines
 pub mod Program
-pub mod ProgramLaws
-pub mod Lengths
-pub mod Cases

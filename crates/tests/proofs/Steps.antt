@@ -5,23 +5,24 @@ use Prim.Native.Nat.{ℕ, ◌≤◌, ◌<◌}
 use native.Mathlib.Omega.{arith}
 use lib.Dec.{ltb, leb}
 use borrow.Author.Tests.{le-leb, lt-leb, ne_eqb}
-use Rattle.base.specs.Refusal.{unless, or_else_some}
+use Rattle.base.specs.Refusal.{unless}
+use Rattle.base.proofs.Refusal.{or_else_some}
 use Rattle.sheet_spec.specs.declared.Sheet.{Sheet}
 use Rattle.sheet_spec.specs.Kept.{row, first_codes, sheet_with}
 use Rattle.sheet_spec.specs.Refusals.{sheet_fault}
-use Rattle.sheet_spec.specs.CodeLaws.{first_accepted}
+use Rattle.sheet_spec.proofs.CodeLaws.{first_accepted}
 use Rattle.tests_spec.specs.declared.Run.{Run}
 use Rattle.tests_spec.specs.declared.Report.{Report}
 use Rattle.tests_spec.specs.declared.Answer.TheVariants.{Going, Denied}
 use Rattle.tests_spec.specs.declared.Stepped.{Stepped}
 use Rattle.tests_spec.specs.Flags.{flag, flag_of}
 use Rattle.tests_spec.specs.Runs.{new_run, answered, open_fault, open_of, record_ok, event_fault, report_fault, step_of}
-use Rattle.tests_spec.specs.Recoded.{recoded_step}
+use Rattle.tests_spec.proofs.Recoded.{recoded_step}
 use Rattle.tests_spec.specs.Numbers.{said}
-use Rattle.tests_spec.specs.NumberLaws.{opening_refusal, report_refusal}
+use Rattle.tests_spec.proofs.NumberLaws.{opening_refusal, report_refusal}
 use Rattle.tests.specs.OfferShapes.{offer_at}
 use Rattle.tests.specs.ReportShapes.{record_fault}
-use Rattle.tests.proofs.reports.Answers.{offer-is, sound, refused}
+use Rattle.tests.proofs.reports.Answers.{offer_is, sound, refused}
 use Rattle.tests.specs.OpenShapes.{not_opened}
 
 -- the answer of the definition says the refusal of the call: of an opening, and of a report
@@ -48,7 +49,7 @@ module _ (s : Sheet) (k h : ℕ) (trace_only : Bool) {f : ℕ} (p : f ≡ sheet_
 
   pub opened : {e x b : ℕ} → f ≡ 0 → k ≤ 1023 → e ≡ s.e → b ≡ flag_of trace_only → x ≡ offer_at e (row s 0) (started b) → answered (Going x) (started b) ≡ open_of trace_only s k h
   unfolding open_of open_fault new_run
-  opened z l d c q = rw (← p, z, le-leb k 1023 l, q, d, c, ← offer-is s (new_run trace_only k h))
+  opened z l d c q = rw (← p, z, le-leb k 1023 l, q, d, c, ← offer_is s (new_run trace_only k h))
 
 -- an accepted sheet has a first node
 module _ (s : Sheet) {f : ℕ} (p : f ≡ sheet_fault s) (z : f ≡ 0) where

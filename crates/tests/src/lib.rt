@@ -1,5 +1,7 @@
 // Test k as a live run (01, "Test k and a live run"). The three entry points, `open_test`, `step` and `take_report`,
 // take any content and answer, or refuse with a number.
+#![tactic(auto)]
+
 mod offers;
 mod reports;
 

@@ -2,10 +2,3 @@ pub mod Flags
 pub mod Runs
 pub mod Numbers
 pub mod Reports
-pub mod Offers
-pub mod RunLaws
-pub mod RunRecords
-pub mod NumberLaws
-pub mod Endings
-pub mod Recoded
-pub mod Cases

@@ -1,11 +1,12 @@
 // Numbered tests as live runs (01, "Test k and a live run"; 001's adaptive tests): the record of a run, the reports of
 // a device and the answers. The crate has the types; its specs say what each call answers. It has no function.
+#![tactic(auto)]
 
 // A live run: the test's number k, the choice number h, whether it is trace-only, whether it has ended, the node
 // reached on the reference and how many events were accepted on the way. A flag is a byte: 0 is false, any other value
 // is true.
 #[repr(C)]
-#[derive(Drop)]
+#[derive(Clone, Copy)]
 pub struct Run {
     pub k: u16,
     pub h: u16,
@@ -16,7 +17,7 @@ pub struct Run {
 }
 
 // What the device did with the last offer: one of its events, or nothing.
-#[derive(Drop)]
+#[derive(Clone, Copy)]
 pub enum Report {
     Event(u8),
     Blocked,
@@ -24,7 +25,7 @@ pub enum Report {
 
 // The answer to an opening or a report: the run goes on with the next offer, or has ended failed as stray with the
 // event, failed as refused with the set offered, passed, or inconclusive; or the call is refused with a number.
-#[derive(Drop)]
+#[derive(Clone, Copy)]
 pub enum Answer {
     Going(u16),
     Stray(u8),
@@ -35,7 +36,7 @@ pub enum Answer {
 }
 
 // An answer and the record beside it.
-#[derive(Drop)]
+#[derive(Clone, Copy)]
 pub struct Stepped {
     pub answer: Answer,
     pub run: Run,

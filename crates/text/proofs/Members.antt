@@ -7,9 +7,9 @@ use native.Mathlib.Numerals.{add-one}
 use Rattle.events.specs.Sets.{has}
 use Rattle.text_spec.specs.Lines.{ascii, decimal, event_list}
 use Rattle.events.specs.Lists.{events_in}
-use Rattle.text_spec.specs.SetLaws.{members_more, members_same}
+use Rattle.text_spec.proofs.SetLaws.{members_more, members_same}
 use Rattle.text_spec.specs.Adds.{Adds}
-use Rattle.text_spec.specs.AddsLaws.{adds_none, adds_then}
+use Rattle.text_spec.proofs.AddsLaws.{adds_none, adds_then}
 use Rattle.text.specs.Shapes.{member_words}
 
 -- what is put of an event that is in the set, and of one that is not

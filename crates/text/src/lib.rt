@@ -1,6 +1,8 @@
 // Text into a lent list, piece by piece, and the front of a list. A function that puts a piece takes the list and the
 // place where the piece begins and answers the place after it; what has no room is left out. Every public function
 // takes every argument.
+#![tactic(auto)]
+
 ghost use Rattle.std.specs.Prelude.{◌≡◌, [], ◌∷◌, ◌≤◌, ◌<◌, length, take};
 ghost use Rattle.text_spec.specs.Lines.{decimal, number_line, numbers_text, sheet_line, event_list, trace_line};
 ghost use Rattle.text_spec.specs.Sets.{members, set_words};

@@ -12,7 +12,7 @@ use Rattle.sheet_spec.specs.Reading.{read_sheet}
 use Rattle.sheet_spec.specs.Spelling.{length_field}
 use Rattle.text_spec.specs.Adds.{Adds}
 use Rattle.text_pair_spec.specs.Split.{first_end, first_sheet, second_sheet}
-use Rattle.text_pair_spec.specs.SplitLaws.{end_all, end_two}
+use Rattle.text_pair_spec.proofs.SplitLaws.{end_all, end_two}
 use Rattle.text_pair_spec.specs.Program.{sheets_lines, input_lines}
 use Rattle.text_pair_spec.specs.Opening.{silent, both_read, Opens}
 

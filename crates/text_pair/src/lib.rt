@@ -1,5 +1,7 @@
 // An input of two sheets, split, and their lines as `compare` and `suite` print them before their own: the size of
 // each, or the refusal that ends the text. `keypad_check` asks where the first sheet ends.
+#![tactic(auto)]
+
 ghost use Rattle.std.specs.Prelude.{◌≡◌, ◌&&◌, ◌≤◌, ◌<◌, eqb, length};
 ghost use Rattle.sheet_spec.specs.declared.Sheet.{Sheet};
 ghost use Rattle.sheet_spec.specs.Spelling.{length_field};

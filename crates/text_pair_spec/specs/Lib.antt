@@ -1,9 +1,4 @@
 pub mod Split
 pub mod Program
 pub mod Opening
-pub mod SplitLaws
-pub mod ProgramLaws
-pub mod OpeningLaws
 pub mod BackToBack
-pub mod BackToBackLaws
-pub mod Cases

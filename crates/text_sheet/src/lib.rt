@@ -1,6 +1,8 @@
 // The first line of the programs `show`, `probe_list`, `keypad_check` and `walk`: the size of an accepted sheet, or the
 // refusal of another with its meaning. A function takes the list and the place where the line begins and answers the
 // place after it; what has no room is left out.
+#![tactic(auto)]
+
 ghost use Rattle.text_spec.specs.Adds.{Adds};
 ghost use Rattle.text_sheet_spec.specs.Head.{rule_words, refusal_words, refused_sheet_line, head_line};
 

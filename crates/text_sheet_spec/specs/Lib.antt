@@ -1,8 +1,4 @@
 pub mod Head
 pub mod Show
 pub mod Node
-pub mod ShowLaws
-pub mod NodeLaws
-pub mod OptionalLaws
-pub mod Lengths
 pub mod Cases

@@ -2,12 +2,3 @@ pub mod Lines
 pub mod Sets
 pub mod Input
 pub mod Adds
-pub mod DecimalLaws
-pub mod TellLaws
-pub mod SetLaws
-pub mod InputLaws
-pub mod AddsLaws
-pub mod JoinedLaws
-pub mod HoldsLaws
-pub mod LengthLaws
-pub mod Cases

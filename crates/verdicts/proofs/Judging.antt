@@ -5,26 +5,27 @@ use mathlib.Core.List.{List, ◌++◌}
 use Prim.Native.Nat.{ℕ, ◌*◌, ◌≤◌, ◌<◌}
 use native.Mathlib.Omega.{arith}
 use lib.ListN.{length, drop}
-use Rattle.base.specs.Refusal.{or_else_some}
-use Rattle.base.specs.Table.{up_to, length_up_to, up_to_ext}
-use Rattle.base.specs.Front.{at_front_count}
+use Rattle.base.proofs.Refusal.{or_else_some}
+use Rattle.base.specs.Table.{up_to}
+use Rattle.base.proofs.Table.{length_up_to, up_to_ext}
+use Rattle.base.proofs.Front.{at_front_count}
 use Rattle.sheet_spec.specs.declared.Sheet.{Sheet}
 use Rattle.sheet_spec.specs.Refusals.{sheet_fault, shared_fault, Agree}
-use Rattle.sheet_spec.specs.PairFaults.{shared_0}
+use Rattle.sheet_spec.proofs.PairFaults.{shared_0}
 use Rattle.sheet_spec.specs.Sound.{Sound}
-use Rattle.sheet_spec.specs.SoundLaws.{nodes_most, check_sound}
+use Rattle.sheet_spec.proofs.SoundLaws.{nodes_most, check_sound}
 use Rattle.verdicts_spec.specs.declared.Verdict.{Verdict}
 use Rattle.verdicts_spec.specs.declared.Verdict.TheVariants.{Passes, Fails}
 use Rattle.verdicts_spec.specs.Verdicts.{fails_from}
 use Rattle.verdicts_spec.specs.Numbers.{judged, suited}
-use Rattle.verdicts_spec.specs.VerdictLaws.{verdict_given}
+use Rattle.verdicts_spec.proofs.VerdictLaws.{verdict_given}
 use Rattle.sheet_spec.specs.Kept.{sheet_with}
 use Rattle.verdicts_layers.specs.LayerShapes.{kind_of}
 use Rattle.verdicts_spec.specs.declared.Suite.{Suite}
 use Rattle.verdicts_spec.specs.declared.Suite.TheVariants.{Judged, Denied}
 use Rattle.verdicts_spec.specs.Suites.{test_count, verdict_number, suite_fault, suite_of, verdicts_after}
-use Rattle.verdicts_spec.specs.SuiteLaws.{suite_reference, suite_device, suite_10, suite_fits, denied_suite, denied_verdicts, given_suite, given_verdicts, suited_refusal}
-use Rattle.verdicts_spec.specs.Complete.{none_refused}
+use Rattle.verdicts_spec.proofs.SuiteLaws.{suite_reference, suite_device, suite_10, suite_fits, denied_suite, denied_verdicts, given_suite, given_verdicts, suited_refusal}
+use Rattle.verdicts_spec.proofs.Complete.{none_refused}
 use Rattle.verdicts.proofs.Verdicts.{test_apart}
 
 -- a verdict's number is that of its test

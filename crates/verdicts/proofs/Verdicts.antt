@@ -4,17 +4,17 @@ use mathlib.Core.Bool.{Bool, true, false, cond}
 use Prim.Native.Nat.{ℕ, ◌≤◌, ◌<◌}
 use native.Mathlib.Omega.{arith}
 use borrow.Author.Tests.{le-leb, lt-leb, ne_eqb}
-use Rattle.base.specs.Refusal.{or_else_some}
+use Rattle.base.proofs.Refusal.{or_else_some}
 use Rattle.sheet_spec.specs.declared.Sheet.{Sheet}
 use Rattle.sheet_spec.specs.Kept.{first_codes, sheet_with}
 use Rattle.sheet_spec.specs.Refusals.{sheet_fault, shared_fault}
-use Rattle.sheet_spec.specs.PairFaults.{shared_0}
+use Rattle.sheet_spec.proofs.PairFaults.{shared_0}
 use Rattle.verdicts_spec.specs.declared.Verdict.{Verdict}
 use Rattle.verdicts_spec.specs.declared.Verdict.TheVariants.{Passes, Fails, Denied}
 use Rattle.verdicts_spec.specs.Verdicts.{fails_from, verdict_fault, verdict_of}
 use Rattle.verdicts_spec.specs.Numbers.{judged}
-use Rattle.verdicts_spec.specs.NumberLaws.{verdict_refusal}
-use Rattle.verdicts_spec.specs.Recoded.{recoded_fails}
+use Rattle.verdicts_spec.proofs.NumberLaws.{verdict_refusal}
+use Rattle.verdicts_spec.proofs.Recoded.{recoded_fails}
 
 -- the verdict of the definition says the refusal of the call
 pub told : (P Q : Sheet) (k : ℕ) (trace_only : Bool) {v : Verdict} → v ≡ verdict_of trace_only P Q k → (v ≡ verdict_of trace_only P Q k) × ((judged v).refusal ≡ verdict_fault P Q k)

@@ -1,5 +1,7 @@
 // The verdict of a reference on a device: for one test, and for all tests from one pass over the layers of node pairs.
 // The entry points, `judge` and `judge_all`, take any content and answer, or refuse with a number.
+#![tactic(auto)]
+
 ghost use Rattle.std.specs.Prelude.{◌≡◌};
 ghost use Rattle.verdicts_spec.specs.Verdicts.{verdict_fault, verdict_of};
 ghost use Rattle.verdicts_spec.specs.Numbers.{judged};

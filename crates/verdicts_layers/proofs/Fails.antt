@@ -8,10 +8,12 @@ use native.Mathlib.Omega.{arith}
 use lib.Dec.{eqb, ltb}
 use lib.ListN.{get_or, drop}
 use borrow.Author.Tests.{lt-ltb, ltb-true, eqb-true, eq-eqb}
-use Rattle.base.specs.Truth.{clash, and_l, and_r, and_i, or_e, or_l, or_r, or_assoc, same}
-use Rattle.base.specs.Range.{any, any→, any←}
-use Rattle.base.specs.Table.{up_to, up_to_ext}
-use Rattle.events.specs.Bit.{bit·zero}
+use Rattle.base.proofs.Truth.{clash, and_l, and_r, and_i, or_e, or_l, or_r, or_assoc, same}
+use Rattle.base.specs.Range.{any}
+use Rattle.base.proofs.Range.{any→, any←}
+use Rattle.base.specs.Table.{up_to}
+use Rattle.base.proofs.Table.{up_to_ext}
+use Rattle.events.proofs.Bit.{bit·zero}
 use Rattle.events.specs.Sets.{has}
 use Rattle.sheet_spec.specs.declared.Row.{Row}
 use Rattle.sheet_spec.specs.declared.Sheet.{Sheet}

@@ -9,8 +9,9 @@ use native.Mathlib.Nat.{sub-zero, zero-add, add-zero}
 use native.Mathlib.Numerals.{add-one}
 use lib.ListN.{length, get_or, set, drop, length-set}
 use lib.Seq.{set_at, drop-cons}
-use Rattle.base.specs.Truth.{or_assoc}
-use Rattle.base.specs.Table.{up_to, length_up_to}
+use Rattle.base.proofs.Truth.{or_assoc}
+use Rattle.base.specs.Table.{up_to}
+use Rattle.base.proofs.Table.{length_up_to}
 use Rattle.verdicts_layers.specs.ImageShapes.{next, layer_hits, start}
 use Rattle.verdicts_layers.specs.LayerShapes.{fails_on, kind_of}
 

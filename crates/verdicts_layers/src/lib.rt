@@ -1,5 +1,7 @@
 // The verdict on a device, worked out layer by layer of node pairs over the tables of the two sheets' rows. Nothing
 // here takes a sheet: rows and tables do.
+#![tactic(auto)]
+
 mod images;
 
 ghost use Rattle.std.specs.Prelude.{◌≡◌, ◌||◌, ◌++◌, ◌≤◌, ◌<◌, length, drop};

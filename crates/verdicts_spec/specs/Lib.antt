@@ -2,13 +2,3 @@ pub mod Verdicts
 pub mod Numbers
 pub mod Suites
 pub mod Failures
-pub mod Blocks
-pub mod FaultyPairs
-pub mod VerdictLaws
-pub mod NumberLaws
-pub mod TestLaws
-pub mod SuiteLaws
-pub mod Complete
-pub mod Recoded
-pub mod Reported
-pub mod Cases

@@ -1,6 +1,5 @@
 -- The numbers of a verdict and of the answer for all tests. Of a refusal every other part is 0.
-use Rattle.std.specs.Prelude.{◌≡◌, refl, cond, ℕ, eqb}
-use Rattle.std.proofs.Common.{sym, ap, ◌∙◌}
+use Rattle.std.specs.Prelude.{ℕ}
 use Rattle.verdicts_spec.specs.declared.Verdict.{Verdict}
 use Rattle.verdicts_spec.specs.declared.Verdict.TheVariants.{Passes, Fails, Denied as NoVerdict}
 use Rattle.verdicts_spec.specs.declared.Suite.{Suite}
@@ -26,20 +25,6 @@ unfoldable pub judged : Verdict → Judgement
 judged (NoVerdict m) = record { refusal = m; kind = 0 }
 judged Passes = record { refusal = 0; kind = passes_number }
 judged Fails = record { refusal = 0; kind = fails_number }
-
--- the verdict that has the given numbers
-verdict_from : Judgement → Verdict
-verdict_from n = cond (eqb n.kind 0) (NoVerdict n.refusal) (cond (eqb n.kind passes_number) Passes Fails)
-
-verdict_back : (a : Verdict) → verdict_from (judged a) ≡ a
-unfolding judged verdict_from
-verdict_back (NoVerdict m) = refl
-verdict_back Passes = refl
-verdict_back Fails = refl
-
--- two verdicts with the same numbers are one
-pub judged_once : (a b : Verdict) → judged a ≡ judged b → a ≡ b
-judged_once a b e = sym (verdict_back a) ∙ ap verdict_from e ∙ verdict_back b
 
 -- the numbers of an answer for all tests: the refusal's, 0 for none; how many tests were judged
 pub record Suited : Type 0 where

@@ -6,15 +6,16 @@ use Prim.Native.Nat.{ℕ, ◌≤◌, ◌<◌}
 use native.Mathlib.Omega.{arith}
 use lib.Bits.{bit_or}
 use lib.ListN.{get_or}
-use Rattle.base.specs.Truth.{or_false}
-use Rattle.base.specs.Table.{up_to, get_or_up_to}
+use Rattle.base.proofs.Truth.{or_false}
+use Rattle.base.specs.Table.{up_to}
+use Rattle.base.proofs.Table.{get_or_up_to}
 use Rattle.events.specs.Bit.{set_of}
 use Rattle.sheet_spec.specs.declared.Row.{Row}
 use Rattle.sheet_spec.specs.Kept.{may_stop}
 use Rattle.refinement_spec.specs.ViolatingPairs.{has_stray, has_refusal, violates}
 use Rattle.sheet_rows.specs.Tables.{row_in, initials_in}
 use Rattle.verdicts_tables.specs.Shapes.{stray_word, stop_word, refusal_word, early_word, late_word, stray_words, early_words, late_words, stray_table, early_table, late_table}
-use Rattle.events.specs.Gathered.{or_set_of, set_of_ext}
+use Rattle.events.proofs.Gathered.{or_set_of, set_of_ext}
 
 -- "or" and "and" where one side is known
 none : (x y : Bool) → x ≡ (x || (true && (y && false)))

@@ -11,8 +11,10 @@ use lib.Arith.{digits_div, digits_mod}
 use lib.Dec.{eqb, ltb}
 use lib.Bits.{bit_or, or_zero_l}
 use borrow.Author.Tests.{eq-eqb, ne_eqb}
-use Rattle.base.specs.Table.{up_to, get_or_up_to}
-use Rattle.events.specs.Bit.{bit, bit≤1, bits_ext, bits_zero, bit_or_lem, bit_one, bit_other, bit_top, bit_below, set_of, set_of_lt}
+use Rattle.base.specs.Table.{up_to}
+use Rattle.base.proofs.Table.{get_or_up_to}
+use Rattle.events.specs.Bit.{bit, set_of}
+use Rattle.events.proofs.Bit.{bit≤1, bits_ext, bits_zero, bit_or_lem, bit_one, bit_other, bit_top, bit_below, set_of_lt}
 use Rattle.events.specs.Sets.{has}
 use Rattle.verdicts_tables.specs.Shapes.{node_if, leads_to, bit_at, leads_into}
 

@@ -1,6 +1,8 @@
 // The tables from which a verdict on a device is worked out, each filled once from the rows of the two sheets: where
 // the events lead, and at which pairs of nodes a test fails. A set of the device's nodes is a word with a bit for each
 // node.
+#![tactic(auto)]
+
 ghost use Rattle.std.specs.Prelude.{◌≡◌, ◌≤◌, ◌<◌};
 ghost use Rattle.base.specs.Table.{up_to};
 ghost use Rattle.verdicts_tables.specs.Shapes.{node_if, stray_word, stop_word, refusal_word, early_word, late_word};
@@ -10,7 +12,7 @@ use sheet_spec::Row;
 
 // What a verdict is worked out from: the successors of both sheets' nodes, the device's as sets of one, and where a
 // test fails early and late.
-#[derive(Drop)]
+#[derive(Clone, Copy)]
 pub struct Tables {
     pub mine: [u8; 384],
     pub theirs: [u32; 384],

@@ -14,7 +14,7 @@ use Rattle.load_spec.specs.Calls.{walked_of, walk_after}
 use Rattle.text_spec.specs.Lines.{ascii, number_line, numbers_text, trace_line}
 use Rattle.text_spec.specs.Input.{cut_input}
 use Rattle.text_spec.specs.Adds.{Adds, Holds}
-use Rattle.text_spec.specs.AddsLaws.{adds_then, adds_all}
+use Rattle.text_spec.proofs.AddsLaws.{adds_then, adds_all}
 use Rattle.words_spec.specs.Numbers.{number_in}
 use Rattle.text_sheet_spec.specs.Head.{head_line}
 use Rattle.walk_lines_spec.specs.Lines.{length_line, walk_lines}

@@ -1,6 +1,8 @@
 // The text of the program `walk`: every byte that it prints, from the two words that it is started with and the bytes
 // that it reads, put over the front of a lent list. A function that puts a piece takes the list and the place where the
 // piece begins and answers the place after it.
+#![tactic(auto)]
+
 ghost use Rattle.std.specs.Prelude.{◌≡◌};
 ghost use Rattle.text_spec.specs.Adds.{Adds, Holds};
 ghost use Rattle.walk_lines_spec.specs.Lines.{walk_lines};

@@ -1,5 +1,4 @@
 pub mod Graph
-pub mod Bound
 pub mod Reach
 pub mod Order
 pub mod Near

@@ -1,1 +1,2 @@
 // Walks in finite labelled graphs. This crate has definitions and theorems (specs/) and no function.
+#![tactic(auto)]

@@ -8,7 +8,8 @@ use native.Mathlib.Numerals.{add-one}
 use native.Mathlib.Omega.{arith}
 use lib.ListN.{length, get_or, drop, drop_of_length-le}
 use lib.Seq.{drop-cons}
-use Rattle.base.specs.Range.{all, all_more, all_stop, all_done}
+use Rattle.base.specs.Range.{all}
+use Rattle.base.proofs.Range.{all_more, all_stop, all_done}
 use Rattle.text_spec.specs.Lines.{value_from}
 use Rattle.words_spec.specs.Numbers.{is_digit, digit_at, all_digits}
 

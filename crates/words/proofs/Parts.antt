@@ -8,7 +8,7 @@ use lib.ListN.{length}
 use borrow.Author.Tests.{le-leb, lt-leb}
 use Rattle.text_spec.specs.Lines.{value_from}
 use Rattle.words_spec.specs.Numbers.{all_digits, few_digits, number_in, Digits}
-use Rattle.words_spec.specs.NumberLaws.{digits→}
+use Rattle.words_spec.proofs.NumberLaws.{digits→}
 
 -- the ways out for no byte, for too many, and for as many as there may be
 module _ (most : ℕ) (w : List ℕ) where

@@ -5,8 +5,9 @@ use mathlib.Core.List.{List}
 use Prim.Native.Nat.{ℕ, ◌+◌, ◌≤◌, ◌<◌}
 use lib.ListN.{length, get_or}
 use borrow.Author.Tests.{eq-eqb, ne_eqb}
-use Rattle.base.specs.Truth.{and_i}
-use Rattle.base.specs.Range.{all, all_more, all_stop, all_done}
+use Rattle.base.proofs.Truth.{and_i}
+use Rattle.base.specs.Range.{all}
+use Rattle.base.proofs.Range.{all_more, all_stop, all_done}
 use Rattle.words_spec.specs.Same.{agree_at, same_text}
 
 -- their lengths differ; or the loop stops where a byte differs, goes on, and ends

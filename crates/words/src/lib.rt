@@ -1,5 +1,7 @@
 // Numbers from words: the number that some digits write in base ten, if they are few enough and it is not too large;
 // and whether a word is one that a program knows.
+#![tactic(auto)]
+
 ghost use Rattle.std.specs.Prelude.{◌≡◌, ◌+◌, ◌-◌, ◌*◌, ◌≤◌, ◌<◌};
 ghost use Rattle.text_spec.specs.Lines.{value_from};
 ghost use Rattle.words_spec.specs.Same.{same_text};

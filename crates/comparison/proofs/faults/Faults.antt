@@ -5,10 +5,10 @@ use Prim.Native.Nat.{ℕ, ◌-◌, ◌*◌, ◌≤◌, ◌<◌}
 use native.Mathlib.Omega.{arith}
 use native.Mathlib.Nat.{mul-pos}
 use borrow.Author.Tests.{le-leb, lt-leb}
-use Rattle.base.specs.Refusal.{or_else_some}
+use Rattle.base.proofs.Refusal.{or_else_some}
 use Rattle.sheet_spec.specs.declared.Sheet.{Sheet}
 use Rattle.sheet_spec.specs.Refusals.{sheet_fault, shared_fault}
-use Rattle.sheet_spec.specs.SoundLaws.{nodes_most, check_sound}
+use Rattle.sheet_spec.proofs.SoundLaws.{nodes_most, check_sound}
 use Rattle.comparison_spec.specs.Comparison.{pair_count}
 use Rattle.comparison.specs.FaultOn.{fault_on}
 

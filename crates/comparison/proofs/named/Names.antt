@@ -9,12 +9,12 @@ use lib.ListN.{take}
 use mir.Val.{Val}
 use denote.Laws.{Is}
 use borrow.Author.Tests.{eq-eqb, ne_eqb}
-use Rattle.base.specs.Truth.{lt_or_ge}
+use Rattle.base.proofs.Truth.{lt_or_ge}
 use Rattle.base.specs.Range.{first}
 use Rattle.events.specs.Sets.{has}
 use Rattle.sheet_spec.specs.declared.Row.{Row}
 use Rattle.sheet_spec.specs.Kept.{initials, acceptances}
-use Rattle.sheet_spec.specs.RowLaws.{acceptances_take}
+use Rattle.sheet_spec.proofs.RowLaws.{acceptances_take}
 use Rattle.sheet_spec.specs.contracts.Row as R
 use Rattle.sheet_rows.proofs.Shape.{row_form}
 use Rattle.probes_spec.specs.declared.Missed.{Missed}

@@ -5,7 +5,7 @@ use native.Mathlib.Omega.{arith}
 use Rattle.sheet_spec.specs.declared.Sheet.{Sheet}
 use Rattle.sheet_spec.specs.Kept.{row}
 use Rattle.sheet_spec.specs.Refusals.{sheet_fault}
-use Rattle.sheet_spec.specs.SoundLaws.{check_sound}
+use Rattle.sheet_spec.proofs.SoundLaws.{check_sound}
 use Rattle.comparison_spec.specs.declared.Outcome.{Outcome}
 use Rattle.comparison_spec.specs.declared.Outcome.TheVariants.{Refines}
 use Rattle.comparison_spec.specs.Comparison.{named}

@@ -6,13 +6,14 @@ use Prim.Native.Nat.{ℕ, ◌*◌, ◌/◌, ◌%◌, ◌≤◌, ◌<◌}
 use native.Mathlib.Omega.{arith}
 use native.Mathlib.Nat.{mod-lt, div-lt_iff_lt-mul}
 use lib.ListN.{get_or}
-use Rattle.base.specs.Table.{up_to, get_or_up_to}
+use Rattle.base.specs.Table.{up_to}
+use Rattle.base.proofs.Table.{get_or_up_to}
 use Rattle.sheet_spec.specs.declared.Sheet.{Sheet}
 use Rattle.sheet_spec.specs.Kept.{row, initials}
 use Rattle.sheet_spec.specs.Refusals.{sheet_fault}
 use Rattle.sheet_spec.specs.Sound.{Ranges}
-use Rattle.sheet_spec.specs.SoundLaws.{nodes_most, check_sound}
-use Rattle.base.specs.Loops.{Filling}
+use Rattle.sheet_spec.proofs.SoundLaws.{nodes_most, check_sound}
+use Rattle.base.proofs.Loops.{Filling}
 use Rattle.refinement_spec.specs.ViolatingPairs.{violates, violating}
 use Rattle.refinement.specs.Shapes.{violates_by, violates_by_lem}
 use Rattle.sheet_rows.specs.Tables.{initials_in}

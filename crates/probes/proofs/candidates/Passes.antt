@@ -1,7 +1,7 @@
 -- The single pass over the acceptances, from its place k on.
 use Rattle.std.proofs.Common.{◌≡◌, ℕ, ◌+◌, ◌-◌, ◌<◌, ◌≤◌, Bool, true, false, cond, not, ◌&&◌, eqb, ◌≢◌, ◌⊎◌, List, [], ◌∷◌, length, get_or, drop, refl, ◌∙◌, inl, inr, add-one, arith, drop_of_length-le, drop-cons, eq-eqb, ne_eqb}
 use lib.Bits.{bit_and, bit_or}
-use Rattle.base.specs.Truth.{lt_or_ge}
+use Rattle.base.proofs.Truth.{lt_or_ge}
 use Rattle.probes_spec.specs.Shapes.{lone, one_pass}
 
 -- what is left of a list at place k

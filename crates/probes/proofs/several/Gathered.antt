@@ -1,22 +1,23 @@
 -- Sets that are written one after another, and lists of them; the acceptances of several nodes; and the ways out of
 -- `list_nodes`.
 use Rattle.std.proofs.Common.{◌≡◌, ℕ, ◌+◌, ◌*◌, ◌%◌, ◌^◌, ◌<◌, ◌≤◌, Bool, true, false, cond, not, eqb, ltb, ◌≢◌, ◌⊎◌, List, [], ◌∷◌, ◌++◌, length, get_or, take, drop, set, sym, refl, ap, ◌∙◌, inl, inr, append_assoc, append-nil, mod-eq_of_lt, add-one, arith, length-append, take-append-drop, length-take-le, take_all, take-suc, pow_mono, eq-eqb, ne_eqb}
-use Rattle.base.specs.Truth.{dec, clash, lt_or_ge}
-use Rattle.base.specs.Front.{at_front, at_front_taken}
+use Rattle.base.proofs.Truth.{dec, clash, lt_or_ge}
+use Rattle.base.specs.Front.{at_front}
+use Rattle.base.proofs.Front.{at_front_taken}
 use Rattle.base.specs.Joined.{joined}
-use Rattle.base.specs.JoinedLaws.{joined_more, joined_length}
+use Rattle.base.proofs.JoinedLaws.{joined_more, joined_length}
 use Rattle.events.specs.Sets.{has}
 use Rattle.sheet_spec.specs.declared.Sheet.{Sheet}
 use Rattle.sheet_spec.specs.Kept.{row, acceptances}
 use Rattle.sheet_spec.specs.Refusals.{sheet_fault}
-use Rattle.sheet_spec.specs.SoundLaws.{check_sound}
-use Rattle.sheet_spec.specs.RowLaws.{acceptances_length}
+use Rattle.sheet_spec.proofs.SoundLaws.{check_sound}
+use Rattle.sheet_spec.proofs.RowLaws.{acceptances_length}
 use Rattle.probes_spec.specs.declared.Listed.{Listed}
 use Rattle.probes_spec.specs.declared.Listed.TheVariants.{Count, Denied}
 use Rattle.probes_spec.specs.Probes.{probes}
 use Rattle.probes_spec.specs.Listing.{listed_numbers}
 use Rattle.probes_spec.specs.Nodes.{set_acceptances, nodes_probes, node_set_ok, nodes_fault, nodes_count, nodes_listed, nodes_list_after}
-use Rattle.probes_spec.specs.NodesLaws.{nodes_sheet, nodes_finds, nodes_29, nodes_10, nodes_0, nodes_denied, nodes_untouched, nodes_listed_lem, nodes_front, nodes_numbers}
+use Rattle.probes_spec.proofs.NodesLaws.{nodes_sheet, nodes_finds, nodes_29, nodes_10, nodes_0, nodes_denied, nodes_untouched, nodes_listed_lem, nodes_front, nodes_numbers}
 use Rattle.probes.proofs.Seen.{front_put}
 use Rattle.probes.proofs.sizes.Sized.{front_again}
 

@@ -1,12 +1,13 @@
 -- The sets of a size that are written: one more, the room for them, and one size after another.
 use Rattle.std.proofs.Common.{◌≡◌, ℕ, ◌+◌, ◌<◌, ◌≤◌, ◌≢◌, List, [], ◌∷◌, ◌++◌, length, get_or, take, drop, set, sym, refl, ap, ◌∙◌, append_assoc, append-nil, add-one, arith, length-append, take-append-drop, length-take-le, take_all, take-suc, drop-drop}
 use lib.Seq.{drop-append-add}
-use Rattle.base.specs.Front.{at_front, at_front_taken}
+use Rattle.base.specs.Front.{at_front}
+use Rattle.base.proofs.Front.{at_front_taken}
 use Rattle.base.specs.Joined.{joined}
-use Rattle.base.specs.JoinedLaws.{joined_more}
+use Rattle.base.proofs.JoinedLaws.{joined_more}
 use Rattle.events.specs.Size.{size}
 use Rattle.probes_spec.specs.Shapes.{of_size}
-use Rattle.probes_spec.specs.ShapeLaws.{of_size_append, of_size_yes, of_size_no, sized_short}
+use Rattle.probes_spec.proofs.ShapeLaws.{of_size_append, of_size_yes, of_size_no, sized_short}
 use Rattle.probes.proofs.Seen.{front_put}
 
 -- the sets of j events among the first i

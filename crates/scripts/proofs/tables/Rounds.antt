@@ -8,7 +8,7 @@ use native.Mathlib.Numerals.{add-one}
 use native.Mathlib.Omega.{arith}
 use lib.Arith.{digits_lt}
 use lib.ListN.{length}
-use Rattle.base.specs.Truth.{lt_or_ge}
+use Rattle.base.proofs.Truth.{lt_or_ge}
 use Rattle.scripts.specs.declared.Counts.{Counts}
 use Rattle.scripts.specs.Shapes.{one, most, cell, cell_in, sums, table_counts, next_cell, Most, Small, Sizes, Stopped, Filled, Begun}
 use Rattle.scripts.proofs.tables.Cells.{next_pair}

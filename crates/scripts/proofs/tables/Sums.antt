@@ -11,7 +11,7 @@ use native.Mathlib.Omega.{arith}
 use lib.Dec.{ltb}
 use lib.ListN.{get_or}
 use borrow.Author.Tests.{lt-ltb, le-ltb}
-use Rattle.base.specs.Truth.{lt_or_ge}
+use Rattle.base.proofs.Truth.{lt_or_ge}
 use Rattle.scripts.specs.declared.Counts.{Counts}
 use Rattle.scripts.specs.Shapes.{none, most, plus, cell, cell_in, event_counts, sums, place, place_sums, table_counts, Most, Small}
 use Rattle.scripts.proofs.tables.Cells.{place_both, place_reference, place_device, place_lt}

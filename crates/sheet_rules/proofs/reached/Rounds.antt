@@ -8,11 +8,13 @@ use lib.Dec.{eqb}
 use lib.Bits.{bit_or}
 use lib.ListN.{get_or}
 use borrow.Author.Tests.{lt-ltb}
-use Rattle.base.specs.Range.{any, all, any_ext, all_ext}
-use Rattle.base.specs.Table.{up_to, get_or_up_to}
+use Rattle.base.specs.Range.{any, all}
+use Rattle.base.proofs.Range.{any_ext, all_ext}
+use Rattle.base.specs.Table.{up_to}
+use Rattle.base.proofs.Table.{get_or_up_to}
 use Rattle.events.specs.Bit.{set_of}
 use Rattle.events.specs.Sets.{has}
-use Rattle.events.specs.Gathered.{has_set_of, or_set_of, set_of_ext}
+use Rattle.events.proofs.Gathered.{has_set_of, or_set_of, set_of_ext}
 use Rattle.walks.specs.Reach.{leads, nearer}
 use Rattle.sheet_spec.specs.declared.Sheet.{Sheet}
 use Rattle.sheet_spec.specs.Kept.{row, successor, step, graph}

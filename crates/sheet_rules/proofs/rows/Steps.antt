@@ -10,7 +10,7 @@ use lib.ListN.{get_or}
 use mir.Val.{Val}
 use denote.Laws.{Is}
 use borrow.Author.Tests.{lt-ltb, le-ltb}
-use Rattle.base.specs.Truth.{lt_or_ge}
+use Rattle.base.proofs.Truth.{lt_or_ge}
 use Rattle.sheet_spec.specs.declared.Row.{Row}
 use Rattle.sheet_spec.specs.Kept.{successor}
 use Rattle.sheet_spec.specs.contracts.Row as R

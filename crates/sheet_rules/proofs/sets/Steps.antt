@@ -8,7 +8,7 @@ use lib.ListN.{get_or}
 use mir.Val.{Val}
 use denote.Laws.{Is}
 use borrow.Author.Tests.{le-ltb}
-use Rattle.base.specs.Range.{all_stop}
+use Rattle.base.proofs.Range.{all_stop}
 use Rattle.sheet_spec.specs.declared.Row.{Row}
 use Rattle.sheet_spec.specs.Kept.{acceptance, initials}
 use Rattle.sheet_spec.specs.Rules.{ascends, none_inside, set_ok, row_sets_ok}

@@ -11,18 +11,19 @@ use lib.ListN.{length, get_or, take}
 use borrow.Author.Tests.{lt-ltb, le-ltb, ne_eqb}
 use mir.Val.{Val}
 use denote.Laws.{Is}
-use Rattle.base.specs.Truth.{or_r, or_false}
-use Rattle.base.specs.Front.{at_front, at_front_before}
+use Rattle.base.proofs.Truth.{or_r, or_false}
+use Rattle.base.specs.Front.{at_front}
+use Rattle.base.proofs.Front.{at_front_before}
 use Rattle.sheet_spec.specs.declared.Row.{Row}
 use Rattle.sheet_spec.specs.Kept.{initials}
-use Rattle.sheet_spec.specs.RowLaws.{acceptances_take}
+use Rattle.sheet_spec.proofs.RowLaws.{acceptances_take}
 use Rattle.sheet_spec.specs.contracts.Row as R
 use Rattle.sheet_rows.proofs.Shape.{row_form}
 use Rattle.probes_spec.specs.Probes.{probes}
 use Rattle.tests_spec.specs.declared.Run.{Run}
 use Rattle.tests_spec.specs.Flags.{flag}
 use Rattle.tests_spec.specs.Runs.{all_events, chosen}
-use Rattle.tests_spec.specs.Offers.{initials_small}
+use Rattle.tests_spec.proofs.Offers.{initials_small}
 use Rattle.tests.specs.OfferShapes.{offers_all, offer_at}
 
 -- no initial is outside the e events

@@ -4,29 +4,31 @@ use mathlib.Core.Logic.{◌⊎◌, inl, inr, ◌≢◌}
 use mathlib.Core.Bool.{Bool, true, false, not, cond}
 use Prim.Native.Nat.{ℕ, ◌≤◌, ◌<◌}
 use native.Mathlib.Omega.{arith}
-use borrow.Author.Tests.{lt-ltb, le-ltb, ne_eqb, not-true, not-false}
-use Rattle.events.specs.Sets.{has, has→}
+use borrow.Author.Tests.{lt-ltb, le-ltb, ne_eqb}
+use Rattle.events.specs.Sets.{has}
+use Rattle.events.proofs.Sets.{has→}
 use Rattle.sheet_spec.specs.declared.Sheet.{Sheet}
 use Rattle.sheet_spec.specs.Kept.{row, successor, initials, may_stop}
 use Rattle.sheet_spec.specs.Refusals.{sheet_fault}
-use Rattle.sheet_spec.specs.RuleLaws.{initials→}
+use Rattle.sheet_spec.proofs.RuleLaws.{initials→}
 use Rattle.sheet_spec.specs.Sound.{Sound}
-use Rattle.sheet_spec.specs.SoundLaws.{check_sound}
+use Rattle.sheet_spec.proofs.SoundLaws.{check_sound}
 use Rattle.tests_spec.specs.declared.Run.{Run}
 use Rattle.tests_spec.specs.declared.Report.{Report}
 use Rattle.tests_spec.specs.declared.Report.TheVariants.{Event, Blocked}
 use Rattle.tests_spec.specs.declared.Answer.TheVariants.{Going, Stray, Refused, Passed, Inconclusive, Denied}
 use Rattle.tests_spec.specs.declared.Stepped.{Stepped}
-use Rattle.tests_spec.specs.Flags.{flag, flag_clear, flag_set}
+use Rattle.tests_spec.specs.Flags.{flag}
+use Rattle.tests_spec.proofs.Flags.{flag_clear, flag_set}
 use Rattle.tests_spec.specs.Runs.{outside, probes_at, offer_of, answered, record_ok, event_fault, report_fault, moved_by, ended_run, answer_of, step_of}
 use Rattle.tests.specs.OfferShapes.{offer_at}
 use Rattle.tests.specs.ReportShapes.{record_fault, event_fault_at, moved_to}
 use Rattle.tests.proofs.reports.Refusals.{right}
 
 -- the offer at a row is that of the sheet at its node
-pub offer-is : (s : Sheet) (r : Run) → offer_at s.e (row s r.node) r ≡ offer_of s r
+pub offer_is : (s : Sheet) (r : Run) → offer_at s.e (row s r.node) r ≡ offer_of s r
 unfolding offer_at offer_of outside probes_at
-offer-is s r = refl
+offer_is s r = refl
 
 -- node v of an accepted sheet has at most 16 sets, and the sheet at most 12 events and 32 nodes
 module _ (s : Sheet) {f : ℕ} (p : f ≡ sheet_fault s) (z : f ≡ 0) where
@@ -50,9 +52,9 @@ module _ (s : Sheet) (r : Run) (report : Report) where
 
 -- a report on an accepted sheet with a right record
 module _ (s : Sheet) (r : Run) (z : sheet_fault s ≡ 0) (y : record_fault s.n r ≡ 0) where
-  fault-rest : (report : Report) → report_fault s r report ≡ event_fault s r report
+  fault_rest : (report : Report) → report_fault s r report ≡ event_fault s r report
   unfolding report_fault record_ok
-  fault-rest report = let g = right s.n r y in rw (z, g.going, g.ok)
+  fault_rest report = let g = right s.n r y in rw (z, g.going, g.ok)
 
   pub node_in : r.node < s.n
   node_in = (right s.n r y).node
@@ -60,22 +62,22 @@ module _ (s : Sheet) (r : Run) (z : sheet_fault s ≡ 0) (y : record_fault s.n r
   pub node_fits : {v : ℕ} → v ≡ r.node → ((row s v).c ≤ 16) × (s.e ≤ 12)
   node_fits e = fits s {f = 0} (sym z) refl refl (omega (arith, node_in))
 
-  pub node-32 : {v : ℕ} → v ≡ r.node → v < 32
-  node-32 e = omega (arith, node_in, few s {f = 0} (sym z) refl)
+  pub node_32 : {v : ℕ} → v ≡ r.node → v < 32
+  node_32 e = omega (arith, node_in, few s {f = 0} (sym z) refl)
 
   -- a node to which an event leads is one of the sheet's
-  pub there-32 : {x v : ℕ} → v < s.n → x ≡ v → x < 32
-  there-32 l e = omega (arith, few s {f = 0} (sym z) refl)
+  pub there_32 : {x v : ℕ} → v < s.n → x ≡ v → x < 32
+  there_32 l e = omega (arith, few s {f = 0} (sym z) refl)
 
-  pub there-fits : {x v : ℕ} → v < s.n → x ≡ v → ((row s x).c ≤ 16) × (s.e ≤ 12)
-  there-fits l e = fits s {f = 0} (sym z) refl refl (omega arith)
+  pub there_fits : {x v : ℕ} → v < s.n → x ≡ v → ((row s x).c ≤ 16) × (s.e ≤ 12)
+  there_fits l e = fits s {f = 0} (sym z) refl refl (omega arith)
 
   pub shallow : r.depth < r.k → r.depth < 1024
   shallow l = omega (arith, (right s.n r y).k)
 
   answers : (report : Report) {o : Stepped} → event_fault s r report ≡ 0 → o ≡ answer_of s r report → o ≡ step_of s r report
   unfolding step_of
-  answers report p q = q ∙ rw (fault-rest report, p)
+  answers report p q = q ∙ rw (fault_rest report, p)
 
   module _ {v : ℕ} (e : v ≡ r.node) where
     -- the answers to "blocked"
@@ -94,7 +96,7 @@ module _ (s : Sheet) (r : Run) (z : sheet_fault s ≡ 0) (y : record_fault s.n r
       blocked_refused {t} {x} f p d u = answers Blocked (unfold event_fault in refl) (rw (q, offered) goes)
         where
           offered : x ≡ offer_of s r
-          offered = subst (λ (y : ℕ). x ≡ offer_at s.e (row s y) r) e u ∙ offer-is s r
+          offered = subst (λ (y : ℕ). x ≡ offer_at s.e (row s y) r) e u ∙ offer_is s r
 
           stays : may_stop (row s r.node) ≡ false
           stays = sym (subst (λ (y : ℕ). t ≡ may_stop (row s y)) e p) ∙ d
@@ -104,32 +106,32 @@ module _ (s : Sheet) (r : Run) (z : sheet_fault s ≡ 0) (y : record_fault s.n r
 
     -- the answers to event i
     module _ (i : ℕ) {m : ℕ} (u : m ≡ event_fault_at s.e (row s v) r i) where
-      event-fault : event_fault s r (Event i) ≡ m
+      event_fault_lem : event_fault s r (Event i) ≡ m
       unfolding event_fault event_fault_at
-      event-fault = rw (← offer-is s r) (sym (subst (λ (y : ℕ). m ≡ event_fault_at s.e (row s y) r i) e u))
+      event_fault_lem = rw (← offer_is s r) (sym (subst (λ (y : ℕ). m ≡ event_fault_at s.e (row s y) r i) e u))
 
-      pub by-event : (m ≡ 0 → ⊥) → answered (Denied m) r ≡ step_of s r (Event i)
-      by-event n = refused s r (Event i) (fault-rest (Event i) ∙ event-fault) n
+      pub by_event : (m ≡ 0 → ⊥) → answered (Denied m) r ≡ step_of s r (Event i)
+      by_event n = refused s r (Event i) (fault_rest (Event i) ∙ event_fault_lem) n
 
       module _ (w : m ≡ 0) {x j : ℕ} {t : Bool} (d : j ≡ i) (a : x ≡ initials s.e (row s v)) (b : t ≡ has x j) where
         accepted : event_fault s r (Event i) ≡ 0
-        accepted = event-fault ∙ w
+        accepted = event_fault_lem ∙ w
 
-        has-is : has (initials s.e (row s r.node)) i ≡ t
-        has-is = rw (← e, ← a, ← d) (sym b)
+        has_is : has (initials s.e (row s r.node)) i ≡ t
+        has_is = rw (← e, ← a, ← d) (sym b)
 
-        pub by_stray : {o : Run} → not t ≡ true → o ≡ ended_run r → answered (Stray i) o ≡ step_of s r (Event i)
-        by_stray n q = answers (Event i) accepted (unfold answer_of in rw (q, has-is, not-true t n))
+        pub by_stray : {o : Run} → t ≡ false → o ≡ ended_run r → answered (Stray i) o ≡ step_of s r (Event i)
+        by_stray n q = answers (Event i) accepted (unfold answer_of in rw (q, has_is, n))
 
-        module _ (n : not t ≡ false) where
+        module _ (n : t ≡ true) where
           pub by_end : {o : Run} → r.k ≤ r.depth → o ≡ ended_run r → answered Passed o ≡ step_of s r (Event i)
-          by_end l q = answers (Event i) accepted (unfold answer_of in rw (q, has-is, not-false t n, le-ltb r.depth r.k l))
+          by_end l q = answers (Event i) accepted (unfold answer_of in rw (q, has_is, n, le-ltb r.depth r.k l))
 
           -- the event leads to a node
           pub lands : {y : ℕ} → y ≡ successor (row s v) j → y < s.n
           lands {y} c =
               let o = sound s {f = 0} (sym z) refl in
-              let h = initials→ s.e (row s v) o.ranges.e_high j (rw (← a) (has→ x j (sym b ∙ not-false t n))) in
+              let h = initials→ s.e (row s v) o.ranges.e_high j (rw (← a) (has→ x j (sym b ∙ n))) in
               go h (o.successors v j (omega (arith, node_in)) h.0)
             where
               go : (j < s.e) × (successor (row s v) j ≢ 255) → (successor (row s v) j ≡ 255) ⊎ (successor (row s v) j < s.n) → y < s.n
@@ -141,7 +143,7 @@ module _ (s : Sheet) (r : Run) (z : sheet_fault s ≡ 0) (y : record_fault s.n r
           by_move {y} l c f q k = answers (Event i) accepted (rw (k, q, f) (move ∙ sym goes))
             where
               goes : answer_of s r (Event i) ≡ answered (Going (offer_of s (moved_by s r i))) (moved_by s r i)
-              goes = unfold answer_of in rw (has-is, not-false t n, lt-ltb r.depth r.k l)
+              goes = unfold answer_of in rw (has_is, n, lt-ltb r.depth r.k l)
 
               move : answered (Going (offer_at s.e (row s y) (moved_to r y))) (moved_to r y) ≡ answered (Going (offer_of s (moved_by s r i))) (moved_by s r i)
-              move = unfold moved_to moved_by in rw (c, d, e) (ap (λ (g : ℕ). answered (Going g) (moved_to r (successor (row s r.node) i))) (offer-is s (moved_to r (successor (row s r.node) i))))
+              move = unfold moved_to moved_by in rw (c, d, e) (ap (λ (g : ℕ). answered (Going g) (moved_to r (successor (row s r.node) i))) (offer_is s (moved_to r (successor (row s r.node) i))))

@@ -6,13 +6,14 @@ use mathlib.Core.Bool.{Bool, true, false, not, ◌&&◌}
 use Prim.Native.Nat.{ℕ, ◌≤◌, ◌<◌}
 use native.Mathlib.Omega.{arith}
 use lib.Dec.{ltb, leb}
-use borrow.Author.Tests.{lt-ltb, le-ltb, le-leb, lt-leb, ltb-true, leb-true, not-true, not-false}
-use Rattle.base.specs.Truth.{and_l, and_r}
-use Rattle.base.specs.Refusal.{unless→}
+use borrow.Author.Tests.{lt-ltb, le-ltb, le-leb, lt-leb, ltb-true, leb-true}
+use Rattle.base.proofs.Truth.{and_l, and_r}
+use Rattle.base.proofs.Refusal.{unless→}
 use Rattle.events.specs.Sets.{has}
 use Rattle.sheet_spec.specs.declared.Row.{Row}
 use Rattle.tests_spec.specs.declared.Run.{Run}
-use Rattle.tests_spec.specs.Flags.{flag, flag_clear, flag_set}
+use Rattle.tests_spec.specs.Flags.{flag}
+use Rattle.tests_spec.proofs.Flags.{flag_clear, flag_set}
 use Rattle.tests.specs.OfferShapes.{offer_at}
 use Rattle.tests.specs.ReportShapes.{record_fault, event_fault_at}
 
@@ -69,10 +70,10 @@ module _ (e : ℕ) (w : Row) (r : Run) (i : ℕ) {j : ℕ} (d : j ≡ i) where
   fault_15 l = rw (le-ltb i e (omega arith))
 
   module _ (l : j < e) {x : ℕ} {t : Bool} (a : x ≡ offer_at e w r) (b : t ≡ has x j) where
-    pub fault_17 : not t ≡ true → 17 ≡ event_fault_at e w r i
+    pub fault_17 : t ≡ false → 17 ≡ event_fault_at e w r i
     unfolding event_fault_at
-    fault_17 n = rw (lt-ltb i e (omega arith), ← a, ← d, ← b, not-true t n)
+    fault_17 n = rw (lt-ltb i e (omega arith), ← a, ← d, ← b, n)
 
-    pub fault_0 : not t ≡ false → 0 ≡ event_fault_at e w r i
+    pub fault_0 : t ≡ true → 0 ≡ event_fault_at e w r i
     unfolding event_fault_at
-    fault_0 n = rw (lt-ltb i e (omega arith), ← a, ← d, ← b, not-false t n)
+    fault_0 n = rw (lt-ltb i e (omega arith), ← a, ← d, ← b, n)

@@ -6,11 +6,14 @@ use mathlib.Core.List.{List}
 use Prim.Native.Nat.{ℕ, ◌≤◌, ◌<◌}
 use native.Mathlib.Omega.{arith}
 use lib.ListN.{get_or}
-use Rattle.base.specs.Truth.{lt_or_ge, and_l, and_r, and_i, same}
-use Rattle.base.specs.Range.{any, any→, any←, any_ext}
-use Rattle.events.specs.Bit.{bit, bit_high, set_of, set_of_lt}
-use Rattle.events.specs.Sets.{has, has→, has←, meets, meets→, meets←}
-use Rattle.events.specs.Gathered.{has_set_of}
+use Rattle.base.proofs.Truth.{lt_or_ge, and_l, and_r, and_i, same}
+use Rattle.base.specs.Range.{any}
+use Rattle.base.proofs.Range.{any→, any←, any_ext}
+use Rattle.events.specs.Bit.{bit, set_of}
+use Rattle.events.proofs.Bit.{bit_high, set_of_lt}
+use Rattle.events.specs.Sets.{has, meets}
+use Rattle.events.proofs.Sets.{has→, has←, meets→, meets←}
+use Rattle.events.proofs.Gathered.{has_set_of}
 use Rattle.verdicts_layers.specs.ImageShapes.{layer_hits}
 
 -- a set meets a gathered one exactly if some node is in it and passes the test

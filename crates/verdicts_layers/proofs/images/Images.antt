@@ -8,10 +8,13 @@ use Prim.Native.Nat.{ℕ, zero, suc, ◌-◌, ◌^◌, ◌≤◌, ◌<◌}
 use native.Mathlib.Omega.{arith}
 use native.Mathlib.Decide.{ℕ_discrete}
 use lib.Bits.{bit_or, or_zero_l, or_zero_r}
-use Rattle.base.specs.Truth.{dec, and_l, and_r, and_i, or_e, or_l, or_r, same}
-use Rattle.base.specs.Range.{any, any→, any←}
-use Rattle.events.specs.Bit.{bit, bit≤1, bits_ext, bit_or_lem, bit_drop, bit_keep}
-use Rattle.events.specs.Sets.{has, has→, has←, has_not}
+use Rattle.base.proofs.Truth.{dec, and_l, and_r, and_i, or_e, or_l, or_r, same}
+use Rattle.base.specs.Range.{any}
+use Rattle.base.proofs.Range.{any→, any←}
+use Rattle.events.specs.Bit.{bit}
+use Rattle.events.proofs.Bit.{bit≤1, bits_ext, bit_or_lem, bit_drop, bit_keep}
+use Rattle.events.specs.Sets.{has}
+use Rattle.events.proofs.Sets.{has→, has←, has_not}
 use Rattle.verdicts_tables.specs.Shapes.{leads_into}
 use Rattle.verdicts_tables.proofs.Words.{has_zero}
 use Rattle.nodes.specs.NodeSets.{least_node, least_lt, least_in}

@@ -11,7 +11,7 @@ use lib.Bits.{bit_or, or_zero_r}
 use lib.ListN.{length, get_or, set, replicate, length-set, length-replicate}
 use lib.Seq.{get_or-set_same, get_or-set_other, set-get_or}
 use borrow.Author.Tests.{ltb-true, eq-eqb, ne_eqb}
-use Rattle.base.specs.Truth.{or_false, or_assoc}
+use Rattle.base.proofs.Truth.{or_false, or_assoc}
 use Rattle.base.specs.Range.{any}
 use Rattle.events.specs.Sets.{has}
 use Rattle.verdicts_tables.specs.Shapes.{leads_to}

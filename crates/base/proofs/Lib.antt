@@ -1,0 +1,14 @@
+pub mod Truth
+pub mod Range
+pub mod Count
+pub mod Sum
+pub mod Pigeon
+pub mod CountedLaws
+pub mod Gather
+pub mod JoinedLaws
+pub mod SortedLaws
+pub mod Table
+pub mod Front
+pub mod Finds
+pub mod Refusal
+pub mod Loops

@@ -1,0 +1,5 @@
+pub mod WordLaws
+pub mod LineLaws
+pub mod ProgramLaws
+pub mod Lengths
+pub mod Cases

@@ -1,0 +1,8 @@
+pub mod SheetLaws
+pub mod MeaningLaws
+pub mod ByteLaws
+pub mod CallLaws
+pub mod PairLaws
+pub mod Theorem
+pub mod Uses
+pub mod Cases

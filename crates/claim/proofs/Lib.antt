@@ -1,0 +1,4 @@
+pub mod Theorem
+pub mod Uses
+pub mod Strays
+pub mod Reached

@@ -1,0 +1,4 @@
+pub mod FateLaws
+pub mod CountLaws
+pub mod CallLaws
+pub mod SuccessorLaws

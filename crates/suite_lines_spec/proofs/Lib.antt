@@ -1,0 +1,3 @@
+pub mod ProgramLaws
+pub mod Lengths
+pub mod Cases

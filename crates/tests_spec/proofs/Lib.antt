@@ -1,0 +1,9 @@
+pub mod Flags
+pub mod Numbers
+pub mod Offers
+pub mod RunLaws
+pub mod RunRecords
+pub mod NumberLaws
+pub mod Endings
+pub mod Recoded
+pub mod Cases

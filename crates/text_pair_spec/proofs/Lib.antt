@@ -1,0 +1,5 @@
+pub mod SplitLaws
+pub mod ProgramLaws
+pub mod OpeningLaws
+pub mod BackToBackLaws
+pub mod Cases

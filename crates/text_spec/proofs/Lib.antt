@@ -1,0 +1,9 @@
+pub mod DecimalLaws
+pub mod TellLaws
+pub mod SetLaws
+pub mod InputLaws
+pub mod AddsLaws
+pub mod JoinedLaws
+pub mod HoldsLaws
+pub mod LengthLaws
+pub mod Cases

@@ -1,0 +1,11 @@
+pub mod Numbers
+pub mod Blocks
+pub mod FaultyPairs
+pub mod VerdictLaws
+pub mod NumberLaws
+pub mod TestLaws
+pub mod SuiteLaws
+pub mod Complete
+pub mod Recoded
+pub mod Reported
+pub mod Cases

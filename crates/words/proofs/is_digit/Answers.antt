@@ -1,0 +1,12 @@
+-- Below 48, or up to 57.
+use borrow.Author.Tests.{lt-leb, le-leb}
+use Rattle.words_spec.specs.Numbers.{is_digit}
+use Rattle.words.proofs.is_digit.Goals as goal
+
+pub returns-then-b-lt48 : goal.returns-then-b-lt48
+unfolding is_digit
+returns-then-b-lt48 c = rw (lt-leb 48 c.args.b c.if-b-lt48.true)
+
+pub returns : goal.returns
+unfolding is_digit
+returns c = rw (le-leb 48 c.args.b c.if-b-lt48.false)
