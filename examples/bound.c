@@ -1,6 +1,6 @@
 /* Pairs of sheets that reach the bound: the first test that fails is the last of all.
  *
- *     rt staticlib edge
+ *     ./bench library
  *     gcc -std=c11 -Iinclude examples/bound.c target/staticlib/libedge.a -o bound
  */
 #include <stdio.h>

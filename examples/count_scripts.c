@@ -1,6 +1,6 @@
 /* Counts scripts: how many both sheets walk to the end, how many the device stops and how many the reference stops.
  *
- *     rt staticlib edge
+ *     ./bench library
  *     gcc -std=c11 -Iinclude examples/count_scripts.c target/staticlib/libedge.a -o count_scripts
  */
 #include <inttypes.h>

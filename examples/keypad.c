@@ -1,6 +1,6 @@
 /* Checks tables of keypads, and turns codes into events.
  *
- *     rt staticlib edge
+ *     ./bench library
  *     gcc -std=c11 -Iinclude examples/keypad.c target/staticlib/libedge.a -o keypad
  */
 #include <stdio.h>

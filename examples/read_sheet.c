@@ -1,6 +1,6 @@
 /* Reads sheets of both versions and prints them, reads damaged bytes, and checks kept sheets.
  *
- *     rt staticlib edge
+ *     ./bench library
  *     gcc -std=c11 -Iinclude examples/read_sheet.c target/staticlib/libedge.a -o read_sheet
  */
 #include <stdio.h>

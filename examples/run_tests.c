@@ -1,6 +1,6 @@
 /* Lists probes, runs tests, judges a device and compares it with its reference.
  *
- *     rt staticlib edge
+ *     ./bench library
  *     gcc -std=c11 -Iinclude examples/run_tests.c target/staticlib/libedge.a -o run_tests
  */
 #include <stdio.h>

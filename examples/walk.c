@@ -1,6 +1,6 @@
 /* Walks on sheets as seeds say.
  *
- *     rt staticlib edge
+ *     ./bench library
  *     gcc -std=c11 -Iinclude examples/walk.c target/staticlib/libedge.a -o walk
  */
 #include <stdio.h>

@@ -1,6 +1,6 @@
 /* The dialogue bench: sheets, probes, tests, comparisons, counts of scripts, tables of keypads, walks that can be
  * repeated, and pairs of sheets that reach the bound. The functions are those of the proved library libedge.a, which
- * `rt staticlib edge` writes below target/staticlib. It is for Linux on x86-64 and needs nothing but the C library, of
+ * `./bench library` puts below target/staticlib. It is for Linux on x86-64 and needs nothing but the C library, of
  * which it calls memcpy and memset alone: it takes no memory but the stack and what it is lent.
  *
  * An event is a number below E, a node a number below N. The catalogue code of an event says what the event is. A set

@@ -708,9 +708,9 @@ ends_with 2 'a live run to a full device' \
 # a program that is cut off before its last line, or that ends badly, is never status 0
 copy() { # a copy of the script, with a crate and a stand-in for each program
     rm -rf "$scratch/copy"
-    mkdir -p "$scratch/copy/crates/show" "$scratch/copy/target/bin" "$scratch/copy/include"
+    mkdir -p "$scratch/copy/crates/show" "$scratch/copy/crates/edge" "$scratch/copy/target/bin" "$scratch/copy/include"
     cp bench "$scratch/copy/"
-    printf 'base:\nshow: base\nedge: base\n' > "$scratch/copy/crates.txt"
+    printf 'events:\nbase: events\nshow: base\nedge staticlib: base\n' > "$scratch/copy/crates.txt"
 }
 stand_in() { # PROGRAM LINE..: a program that runs these lines
     name=$1
@@ -933,11 +933,14 @@ runs=$((runs + 1))
 # ---- proving and building, with a stand-in for the toolchain
 copy
 mkdir "$scratch/tools"
-lines '#!/bin/sh' '[ "$1" = version ] && { echo "stand-in 1"; exit; }' \
-    'echo "rt: base proved (1 s)"' ": > '$scratch/running'" "until [ -e '$scratch/go' ]; do sleep 0.2; done" \
-    'mkdir -p target/bin target/staticlib; echo "#!/bin/sh" > target/bin/show' \
-    'echo "echo sheet 1 nodes 1 events" >> target/bin/show; chmod +x target/bin/show; : > target/staticlib/libedge.a' \
-    'echo "rt: $2 proved (2 s)"' 'echo "rt: ok, 2 crates proved"' > "$scratch/tools/rt"
+lines '#!/bin/sh' '[ "$1" = version ] && { echo "stand-in 1"; exit; }' 'mkdir -p out' 'case $1 in' 'all)' \
+    '    printf "== events\nrt: events: begins with what an earlier check left\n"' \
+    '    printf "== base\nfn base::wide: proved\nlogic=proved functions=1\n"' \
+    "    : > '$scratch/running'" "    until [ -e '$scratch/go' ]; do sleep 0.2; done" \
+    '    printf "== %s\nlogic=proved functions=2\n== summary\n3 of 3 crates ok\n" "${PWD##*/}"' '    ;;' 'run)' \
+    '    printf "#!/bin/sh\necho sheet 1 nodes 1 events\n" > out/show' '    chmod +x out/show' \
+    '    printf "logic=proved functions=2\nrt: running out/show\n"' '    exit 3' '    ;;' \
+    'lib) : > out/libedge.a ;;' 'esac' > "$scratch/tools/rt"
 chmod +x "$scratch/tools/rt"
 PATH=$scratch/tools:$PATH
 export PATH
@@ -955,7 +958,7 @@ cat "$scratch/first" "$scratch/second" > "$scratch/printed"
 held 'two at once' 'sheet 1 nodes 1 events' 'sheet 1 nodes 1 events'
 cat "$scratch/first.said" "$scratch/second.said" > "$scratch/printed"
 sort -o "$scratch/printed" "$scratch/printed"
-held 'two at once: what they said' 'bench: 1 of 2 proved: base' 'bench: 2 of 2 proved: show' \
+held 'two at once: what they said' 'bench: 2 of 3 proved: base' 'bench: 3 of 3 proved: show' \
     'bench: proving and building show; the first time this takes some minutes' \
     'bench: waiting for another ./bench that proves in this folder'
 # an edit made while a program is proved makes it stale
@@ -981,7 +984,7 @@ recorded() { # COMMIT: the record of the program that was built
 recorded unknown
 if command -v git > /dev/null 2>&1; then
     (
-        cd "$scratch/copy" && echo target > .gitignore && git init -q && git add . &&
+        cd "$scratch/copy" && lines target out > .gitignore && git init -q && git add . &&
             git -c user.name=bench -c user.email=bench commit -qm built
     )
     commit=$(git -C "$scratch/copy" rev-parse HEAD)
@@ -1017,6 +1020,18 @@ ln -s 999999999 "$scratch/copy/target/bench.lock"
 lines '#!/bin/sh' 'echo "rt: FAILED: show"; exit 1' > "$scratch/tools/rt"
 ends_with 2 'a program that is not proved' "$scratch/copy/bench" show $example/reference.sheet
 grep -q 'show was not proved' "$scratch/said" || fails 'a program that is not proved: not told'
+# what is proved but not built leaves the program that is there as it was, and stale
+stand_in show 'echo "sheet 9 nodes 1 events"'
+touch "$scratch/copy/crates/show/lib.rt"
+lines '#!/bin/sh' 'case $1 in version | all) exit ;; esac' 'mkdir -p out' 'echo half > out/show' 'exit 1' \
+    > "$scratch/tools/rt"
+for time in first second; do
+    ends_with 2 "a program that is not built, the $time time" "$scratch/copy/bench" show $example/reference.sheet
+    grep -q 'show was not proved' "$scratch/said" || fails "a program that is not built, the $time time: not told"
+done
+stand_in other 'echo "sheet 9 nodes 1 events"'
+cmp -s "$scratch/copy/target/bin/show" "$scratch/copy/target/bin/other" ||
+    fails 'a program that is not built: the one before it is gone'
 # a live run is ended too
 mkfifo "$scratch/silent"
 exec 5<> "$scratch/silent"

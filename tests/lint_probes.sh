@@ -2,12 +2,14 @@
 # A lint: it only reads the text of the crates, and proves and runs nothing. The probe lists are used by their promise
 # alone: no crate but probes_spec, probes, cases and cases_worked unfolds a definition of probes_spec, and none of its
 # definitions is an `abbrev`, which would unfold everywhere without a line that shows it. Statements in words are
-# excepted; they are named here.
+# excepted; they are named here. It reads the files of specs/ and of proofs/, and the code, where an attribute may name
+# what is unfolded.
 set -eu
 cd "$(dirname "$0")/.."
 statements='Hits Narrow NoneMissed Alone Before Named SomeRefuses NoneNamed Foreign'
+files=$(find crates/probes_spec/specs crates/probes_spec/proofs -name '*.antt')
 
-abbreviated=$(sed -n 's/^ *abbrev pub \([^ ]*\) :.*/\1/p' crates/probes_spec/specs/*.antt)
+abbreviated=$(cat $files | sed -n 's/^ *abbrev pub \([^ ]*\) :.*/\1/p')
 for name in $abbreviated; do
     case " $statements " in
         *" $name "*) ;;
@@ -18,16 +20,23 @@ for name in $abbreviated; do
     esac
 done
 
-names=$(sed -n 's/^ *unfoldable pub \([^ ]*\) :.*/\1/p' crates/probes_spec/specs/*.antt)
+names=$(cat $files | sed -n 's/^ *unfoldable pub \([^ ]*\) :.*/\1/p')
 [ -n "$names" ] || {
     echo "lint_probes: no definition found in probes_spec"
     exit 1
 }
 for crate in crates/*/; do
     case "$crate" in crates/probes_spec/ | crates/probes/ | crates/cases/ | crates/cases_worked/) continue ;; esac
+    # an attribute of the code names a definition by its path
+    for file in $(find "$crate/src" -name '*.rt'); do
+        if tr '\n' ' ' < "$file" | grep -qE 'unfolding\([^()]*probes_spec::'; then
+            echo "lint_probes: $file unfolds a definition of probes_spec"
+            exit 1
+        fi
+    done
     # a definition of another crate may have the same name; only what is brought in from probes_spec counts
-    for file in $(find "$crate" -name '*.antt' -exec grep -l 'use Rattle·probes_spec\.specs\.' {} +); do
-        brought=$(sed -n 's/^use Rattle·probes_spec\.specs\.[^{]*{\(.*\)}$/\1/p' "$file" | tr ',' '\n' | tr -d ' ')
+    for file in $(find "$crate" -name out -prune -o -name '*.antt' -exec grep -l 'use Rattle\.probes_spec\.' {} +); do
+        brought=$(sed -n 's/^use Rattle\.probes_spec\.[^{]*{\(.*\)}$/\1/p' "$file" | tr ',' '\n' | tr -d ' ')
         for name in $names; do
             echo "$brought" | grep -qx "$name" || continue
             if grep -nE "unfold(ing)?( [^ ]+)* $name( |\$)" "$file" | grep -v ':[[:space:]]*--'; then

@@ -9,12 +9,7 @@ cd "$(dirname "$0")/.."
 . tests/shared
 
 sh tests/archive
-mkdir -p target/random
-
-for program in compare suite show probe_list live script_counts keypad_check walk bound_pair; do
-    echo "random: rt check $program"
-    logged "target/random/$program.out" rt check "$program"
-done
+sh tests/programs
 
 echo "random: building the comparison"
 cargo_here

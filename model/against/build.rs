@@ -1,4 +1,4 @@
-//! Links the proved library that `rt staticlib edge` writes below the repository's target/.
+//! Links the proved library that `./bench library` puts below the repository's target/.
 
 use std::path::Path;
 

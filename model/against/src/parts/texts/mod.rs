@@ -53,7 +53,7 @@ fn after(text: &str, words: &str) -> Option<u64> {
     rest.split(' ').next()?.parse().ok()
 }
 
-/// The repository's target/, where `rt check` writes the programs below bin/.
+/// The repository's target/, where `./bench build` puts the programs, below bin/.
 fn target() -> PathBuf {
     Path::new(env!("CARGO_MANIFEST_DIR")).join("../../target")
 }
