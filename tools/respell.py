@@ -17,7 +17,7 @@ TOKEN = re.compile(r'[^\s(){}\[\];,."⌜⌝]+')
 # Lemmas that would fall together with a definition, of this repository or of the library: these get `_lem`.
 LEMMAS = """
     after-head after-sheet all-bytes answer-of bit-and bit-or bit-xor blank-sets blank-succs bound-numbers
-    codes-bytes codes-size denied-line device-bytes device-length first-stray flag-of flat-at found-from
+    codes-bytes codes-size denied-line device-bytes device-length event-fault first-stray flag-of flat-at found-from
     is-blocked kept-text leads-to listed-numbers member-words next-from next-in node-count nodes-at
     nodes-listed number-line offer-at pair-text read-back read-numbers reference-bytes reference-length
     refused-line row-bytes sets-alone sheet-bytes sheet-line sheet-of succ-byte told-lines trace-line
@@ -52,7 +52,11 @@ def source_files():
 
 
 def is_proof(path):
-    return os.path.basename(path) in ("Proof.antt", "Answers.antt", "Invariants.antt")
+    """Whether the file answers the goals of a function; a file of definitions or lemmas may have such a name too."""
+    name = os.path.basename(path)
+    if name == "Proof.antt":
+        return True
+    return name in ("Answers.antt", "Invariants.antt") and re.search(r"\.(Goals|Given) as goal$", open(path, encoding="utf-8").read(), re.M) is not None
 
 
 def code_of(line):
