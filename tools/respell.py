@@ -56,7 +56,10 @@ def is_proof(path):
     name = os.path.basename(path)
     if name == "Proof.antt":
         return True
-    return name in ("Answers.antt", "Invariants.antt") and re.search(r"\.(Goals|Given) as goal$", open(path, encoding="utf-8").read(), re.M) is not None
+    if name not in ("Answers.antt", "Invariants.antt"):
+        return False
+    with open(path, encoding="utf-8") as file:
+        return re.search(r"\.(Goals|Given) as goal$", file.read(), re.M) is not None
 
 
 def code_of(line):

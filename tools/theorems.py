@@ -12,8 +12,19 @@ import re
 import sys
 
 
+DECLARED = re.compile(
+    r"((?:pub |abbrev |unfoldable |private )*)(record |data )?([^\s(){}\[\],;.]+)((?: [^\s:=]+)*) ?:(?: |$)"
+)
+
+
 def strip(line):
     return re.sub(r"(^|\s)--(\s.*)?$", "", line)
+
+
+def is_of_function(path):
+    """Whether the file has invariants, or answers to goals, of one function: neither theorems nor definitions."""
+    with open(path, encoding="utf-8") as file:
+        return " as goal\n" in file.read()
 
 
 def files(top, parts):
@@ -22,10 +33,9 @@ def files(top, parts):
             for folder, dirs, names in os.walk(f"{top}/crates/{crate}/{part}"):
                 dirs.sort()
                 for name in sorted(names):
-                    if name.endswith(".antt") and name not in ("Lib.antt", "Answers.antt", "Invariants.antt", "Proof.antt") or (
-                        name == "Answers.antt" and " as goal" not in open(f"{folder}/{name}", encoding="utf-8").read()
-                    ):
-                        yield crate, part, os.path.join(folder, name)
+                    path = os.path.join(folder, name)
+                    if name.endswith(".antt") and name not in ("Lib.antt", "Proof.antt") and not is_of_function(path):
+                        yield crate, part, path
 
 
 def declarations(path):
@@ -58,7 +68,7 @@ def declarations(path):
         while i < len(lines) and (not lines[i].strip() or len(lines[i]) - len(lines[i].lstrip()) > indent):
             i += 1
         head = " ".join(" ".join(lines[begin:i]).split())
-        found = re.match(r"((?:pub |abbrev |unfoldable |private )*)(record |data )?([^\s(){}\[\],;.]+)((?: [^\s:=]+)*) ?:(?: |$)", head)
+        found = DECLARED.match(head)
         if found is None:
             if re.match(r"(pub )?(record|data) ", head):
                 name = re.match(r"(?:pub )?(?:record|data) (\S+)", head).group(1)

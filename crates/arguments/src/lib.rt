@@ -18,7 +18,7 @@ pub fn put_word(rt: &impl Env, i: usize, list: &mut [u8]) -> usize
 }
 
 // Whether there is a word i. No byte of it is copied.
-pub fn has_word(rt: &impl Env, i: usize) -> bool {
+fn has_word(rt: &impl Env, i: usize) -> bool {
     let mut none = [0u8; 0];
     match rt.arg(i, &mut none) {
         Ok(_) => true,
