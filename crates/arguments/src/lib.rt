@@ -11,28 +11,17 @@ use std::env::{Env, FillError};
 pub fn put_word(rt: &impl Env, i: usize, list: &mut [u8]) -> usize
     ensures { IsPrefixLen result list.new }
 {
-    match rt.arg(i, list) {
-        Ok(n) => n,
-        Err(_) => 0,
-    }
+    rt.arg(i, list).unwrap_or(0)
 }
 
 // Whether there is a word i. No byte of it is copied.
 fn has_word(rt: &impl Env, i: usize) -> bool {
-    let mut none = [0u8; 0];
-    match rt.arg(i, &mut none) {
-        Ok(_) => true,
-        Err(FillError::TooLong) => true,
-        Err(FillError::NotPresent) => false,
-    }
+    !matches!(rt.arg(i, &mut []), Err(FillError::NotPresent))
 }
 
 // How many words there are, the program's own name among them.
 pub fn word_count(rt: &impl Env) -> usize {
-    for i in 0..usize::MAX {
-        if !has_word(rt, i) {
-            return i;
-        }
-    }
-    usize::MAX
+    (0..usize::MAX)
+        .find(|i| !has_word(rt, *i))
+        .unwrap_or(usize::MAX)
 }

@@ -12,3 +12,4 @@ pub mod Front
 pub mod Finds
 pub mod Refusal
 pub mod Loops
+pub mod Chains

@@ -1,8 +1,7 @@
 -- Nothing to believe: laws. The lines of an answer, in pieces; those of different pairs differ, and so do those of a
 -- pair and of a refusal.
-use Rattle.std.specs.Prelude.{◌≡◌, refl, ◌≢◌, List, [], ◌++◌, ℕ, ◌+◌, ◌-◌, ◌*◌, get_or, take}
+use Rattle.std.specs.Prelude.{◌≡◌, refl, ◌≢◌, List, [], ◌++◌, ℕ, Ok, Err, ◌+◌, ◌-◌, ◌*◌, get_or, take}
 use Rattle.std.proofs.Common.{ap, ◌∙◌, append_assoc, arith}
-use Rattle.bound_spec.specs.declared.Bounded.TheVariants.{Lengths, Denied}
 use Rattle.text_spec.specs.Lines.{ascii, decimal_in, decimal, number_line}
 use Rattle.text_spec.proofs.TellLaws.{same_rest, after_number}
 use Rattle.bound_lines_spec.specs.Lines.{bytes_line, refused_line, bound_lines, reference_part, device_part, refusal_part}
@@ -17,7 +16,7 @@ bytes_parts who n b x =
     ∙ ap (λ (l : List ℕ). decimal n ++ (ascii " nodes " ++ l)) (append_assoc (decimal b) (ascii " bytes\n") x))
 
 -- the lines of the two lengths
-pub lengths_parts : (p q r d : ℕ) → bound_lines p q (Lengths r d)
+pub lengths_parts : (p q r d : ℕ) → bound_lines p q (Ok (record { reference = r; device = d }))
     ≡ ascii "reference " ++ (decimal p ++ (ascii " nodes " ++ (decimal r ++ (ascii " bytes\ndevice "
     ++ (decimal q ++ (ascii " nodes " ++ (decimal d ++ (ascii " bytes\nfirst failing test " ++ (decimal (p * q - 1) ++ ascii "\n")))))))))
 unfolding bound_lines number_line
@@ -27,24 +26,24 @@ lengths_parts p q r d =
     (bytes_parts (ascii "device ") q d (ascii "first failing test " ++ (decimal (p * q - 1) ++ ascii "\n")))
 
 -- so those of a pair
-pub pair_parts : (p q : ℕ) → bound_lines p q (Lengths (7 * p + 5) (5 * q + 7)) ≡ pair_text p q
+pub pair_parts : (p q : ℕ) → bound_lines p q (Ok (record { reference = 7 * p + 5; device = 5 * q + 7 })) ≡ pair_text p q
 pair_parts p q = lengths_parts p q (7 * p + 5) (5 * q + 7)
 
 -- those of a refusal
-pub denied_parts : (p q k : ℕ) → bound_lines p q (Denied k) ≡ ascii "bound refused " ++ (decimal k ++ ascii "\n")
+pub denied_parts : (p q k : ℕ) → bound_lines p q (Err k) ≡ ascii "bound refused " ++ (decimal k ++ ascii "\n")
 unfolding bound_lines refused_line number_line
 denied_parts p q k = refl
 
-pub thirty_parts : (p q : ℕ) → bound_lines p q (Denied 30) ≡ refused_text
+pub thirty_parts : (p q : ℕ) → bound_lines p q (Err 30) ≡ refused_text
 unfolding bound_lines refused_line number_line decimal decimal_in
 thirty_parts p q = refl
 
 -- bytes, and what is said where they are refused
-pub part_lengths : (r d : ℕ) (list : List ℕ) → (reference_part (Lengths r d) list ≡ take r list) × (device_part (Lengths r d) list ≡ take d list) × (refusal_part (Lengths r d) ≡ [])
+pub part_lengths : (r d : ℕ) (list : List ℕ) → (reference_part (Ok (record { reference = r; device = d })) list ≡ take r list) × (device_part (Ok (record { reference = r; device = d })) list ≡ take d list) × (refusal_part (Ok (record { reference = r; device = d })) ≡ [])
 unfolding reference_part device_part refusal_part
 part_lengths r d list = (refl, refl, refl)
 
-pub part_denied : (list : List ℕ) → (reference_part (Denied 30) list ≡ []) × (device_part (Denied 30) list ≡ []) × (refusal_part (Denied 30) ≡ refused_text)
+pub part_denied : (list : List ℕ) → (reference_part (Err 30) list ≡ []) × (device_part (Err 30) list ≡ []) × (refusal_part (Err 30) ≡ refused_text)
 unfolding reference_part device_part refusal_part refused_line number_line decimal decimal_in
 part_denied list = (refl, refl, refl)
 

@@ -1,11 +1,10 @@
 -- Nothing to believe: laws. What `bound_pair` writes: the lines of a pair exactly for the words of its two numbers, the
 -- refusal exactly where one of the words is none; the bytes of the two sheets, which reach the bound; and the lines
 -- tell their lengths and the first test of theirs that fails.
-use Rattle.std.specs.Prelude.{◌≡◌, ◌⊎◌, ◌↔◌, ◌≢◌, Bool, List, [], ◌++◌, ℕ, ◌+◌, ◌-◌, ◌*◌, ◌<◌, length, get_or}
+use Rattle.std.specs.Prelude.{◌≡◌, ◌⊎◌, ◌↔◌, ◌≢◌, Bool, List, [], ◌++◌, ℕ, Ok, Err, ◌+◌, ◌-◌, ◌*◌, ◌<◌, length, get_or}
 use Rattle.std.proofs.Common.{sym, ◌∙◌, inl, inr, arith}
 use Rattle.std.proofs.Math.Path.{ap}
 use Rattle.std.proofs.Math.ListN.{length-replicate}
-use Rattle.bound_spec.specs.declared.Bounded.TheVariants.{Lengths, Denied}
 use Rattle.bound_spec.specs.Sheets.{reference_bytes, device_bytes}
 use Rattle.bound_spec.specs.Calls.{bound_fault, reference_after, device_after}
 use Rattle.bound_spec.proofs.CallLaws.{InRange, OutOfRange, bound_30, bound_0, bound_denied, bound_given, reference_front, device_front}
@@ -30,16 +29,16 @@ module _ (p q : ℕ) where
   given_room x y =
       (bound_0 p q lent_reference lent_device).1 ((x, y), (omega (arith, x.1, length-replicate {A = ℕ} 229 0), omega (arith, y.1, length-replicate {A = ℕ} 167 0)))
 
-  pub answered_given : InRange p → InRange q → answered p q ≡ Lengths (7 * p + 5) (5 * q + 7)
+  pub answered_given : InRange p → InRange q → answered p q ≡ Ok (record { reference = 7 * p + 5; device = 5 * q + 7 })
   unfolding answered
   answered_given x y = bound_given p q lent_reference lent_device (given_room x y)
 
   -- else it is, with 30
-  pub answered_denied : OutOfRange p ⊎ OutOfRange q → answered p q ≡ Denied 30
+  pub answered_denied : OutOfRange p ⊎ OutOfRange q → answered p q ≡ Err 30
   unfolding answered
   answered_denied f =
       let e = (bound_30 p q lent_reference lent_device).1 f in
-      bound_denied p q lent_reference lent_device (λ z. omega (arith, e, z)) ∙ ap Denied e
+      bound_denied p q lent_reference lent_device (λ z. omega (arith, e, z)) ∙ ap Err e
 
   -- the bytes at the fronts of its lists
   pub reference_taken : InRange p → InRange q → reference_part (answered p q) (reference_after p q lent_reference lent_device) ≡ reference_bytes p
@@ -99,8 +98,8 @@ module _ (p q : List ℕ) where
         × (bound_text p q (ascii "lines")
         ≡ ascii "reference " ++ (decimal written_reach.P.n ++ (ascii " nodes " ++ (decimal (length (bound_text p q (ascii "reference"))) ++ (ascii " bytes\ndevice "
         ++ (decimal written_reach.Q.n ++ (ascii " nodes " ++ (decimal (length (bound_text p q (ascii "device"))) ++ (ascii " bytes\nfirst failing test " ++ (decimal k ++ ascii "\n"))))))))))
-        × (verdict_of trace_only written_reach.P written_reach.Q k ≡ Fails)
-        × ((j : ℕ) → j < k → verdict_of trace_only written_reach.P written_reach.Q j ≡ Passes)
+        × (verdict_of trace_only written_reach.P written_reach.Q k ≡ Ok Fails)
+        × ((j : ℕ) → j < k → verdict_of trace_only written_reach.P written_reach.Q j ≡ Ok Passes)
     lines_true trace_only = (
       n * m - 1,
       good_lines ∙ rw (

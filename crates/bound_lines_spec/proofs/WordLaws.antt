@@ -1,5 +1,5 @@
 -- Nothing to believe: laws. Which words are a number of nodes, and which number each is; what each third word asks for.
-use Rattle.std.specs.Prelude.{◌≡◌, refl, ◌⊎◌, ◌↔◌, ◌≢◌, List, ℕ, ◌≤◌, ◌<◌, get_or}
+use Rattle.std.specs.Prelude.{◌≡◌, refl, ◌⊎◌, ◌↔◌, ◌≢◌, List, ℕ, Some, None, ◌≤◌, ◌<◌, get_or}
 use Rattle.std.proofs.Common.{sym, ap, ◌∙◌, inl, inr, arith}
 use Rattle.base.proofs.Truth.{lt_or_ge}
 use Rattle.text_spec.specs.Lines.{ascii, decimal, value_from}
@@ -7,7 +7,7 @@ use Rattle.words_spec.specs.Numbers.{Digits, number_in}
 use Rattle.words_spec.proofs.NumberLaws.{number_is, number_from, number_most, number_decimal}
 use Rattle.words_spec.proofs.SameLaws.{same←, same_not}
 use Rattle.bound_spec.proofs.CallLaws.{InRange, OutOfRange}
-use Rattle.bound_lines_spec.specs.declared.Asked.TheVariants.{Lines, Reference, Device, Nothing}
+use Rattle.bound_lines_spec.specs.declared.Asked.TheVariants.{Lines, Reference, Device}
 use Rattle.bound_lines_spec.specs.Program.{size_of, asked_of}
 use Rattle.bound_lines_spec.specs.Says.{IsSize, NoSize}
 
@@ -78,19 +78,19 @@ lines_device e = omega (arith, ap (λ (t : List ℕ). get_or t 0 0) e)
 reference_device : ascii "reference" ≢ ascii "device"
 reference_device e = omega (arith, ap (λ (t : List ℕ). get_or t 0 0) e)
 
-pub asked_lines : asked_of (ascii "lines") ≡ Lines
+pub asked_lines : asked_of (ascii "lines") ≡ Some Lines
 unfolding asked_of
 asked_lines = rw (same← (ascii "lines") (ascii "lines") refl)
 
-pub asked_reference : asked_of (ascii "reference") ≡ Reference
+pub asked_reference : asked_of (ascii "reference") ≡ Some Reference
 unfolding asked_of
 asked_reference = rw (same_not (ascii "reference") (ascii "lines") (λ e. lines_reference (sym e)), same← (ascii "reference") (ascii "reference") refl)
 
-pub asked_device : asked_of (ascii "device") ≡ Device
+pub asked_device : asked_of (ascii "device") ≡ Some Device
 unfolding asked_of
 asked_device =
     rw (same_not (ascii "device") (ascii "lines") (λ e. lines_device (sym e)), same_not (ascii "device") (ascii "reference") (λ e. reference_device (sym e)), same← (ascii "device") (ascii "device") refl)
 
-pub asked_nothing : (word : List ℕ) → word ≢ ascii "lines" → word ≢ ascii "reference" → word ≢ ascii "device" → asked_of word ≡ Nothing
+pub asked_nothing : (word : List ℕ) → word ≢ ascii "lines" → word ≢ ascii "reference" → word ≢ ascii "device" → asked_of word ≡ None
 unfolding asked_of
 asked_nothing word l r d = rw (same_not word (ascii "lines") l, same_not word (ascii "reference") r, same_not word (ascii "device") d)

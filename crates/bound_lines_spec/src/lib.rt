@@ -2,7 +2,7 @@
 // three words that it is started with. The crate has the type of what is asked for; it has no function.
 #![tactic(auto)]
 
-// What the third word asks for.
+// What the third word asks for, if it is one that the program knows.
 #[derive(Clone, Copy)]
 pub enum Asked {
     // the lines: nodes, bytes, the first failing test
@@ -11,6 +11,4 @@ pub enum Asked {
     Reference,
     // the device's bytes
     Device,
-    // nothing that the program knows
-    Nothing,
 }

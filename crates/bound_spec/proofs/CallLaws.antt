@@ -1,5 +1,5 @@
 -- Nothing to believe: laws. The call: when each refusal is given, what is answered, and what stands in the two lists.
-use Rattle.std.specs.Prelude.{◌≡◌, ◌⊎◌, ◌↔◌, ◌≢◌, Bool, List, ℕ, ◌+◌, ◌*◌, ◌≤◌, ◌<◌, eqb, length, get_or, take}
+use Rattle.std.specs.Prelude.{◌≡◌, ◌⊎◌, ◌↔◌, ◌≢◌, Bool, List, ℕ, ◌+◌, ◌*◌, ◌≤◌, ◌<◌, Ok, Err, eqb, length, get_or, take}
 use Rattle.std.proofs.Math.Path.{refl}
 use Rattle.std.proofs.Common.{ap, arith}
 use Rattle.std.proofs.Math.Logic.{inl, inr}
@@ -14,17 +14,16 @@ use Rattle.base.specs.Front.{at_front}
 use Rattle.base.proofs.Front.{at_front_length, at_front_before, at_front_behind, at_front_taken}
 use Rattle.sheet_spec.specs.Rules.{between}
 use Rattle.sheet_spec.proofs.Chains.{finally}
-use Rattle.bound_spec.specs.declared.Bounded.TheVariants.{Lengths, Denied}
 use Rattle.bound_spec.specs.Sheets.{reference_bytes, device_bytes}
 use Rattle.bound_spec.specs.Calls.{sizes_ok, room_ok, bound_fault, bound_numbers, reference_length, device_length, bound_of, reference_after, device_after}
 use Rattle.bound_spec.proofs.ByteLaws.{reference_length_lem, device_length_lem}
 
 -- the numbers of each case of an answer, for crates that may not unfold them
-pub bound_numbers_lengths : (r d : ℕ) → bound_numbers (Lengths r d) ≡ (0, r, d)
+pub bound_numbers_lengths : (r d : ℕ) → bound_numbers (Ok (record { reference = r; device = d })) ≡ (0, r, d)
 unfolding bound_numbers
 bound_numbers_lengths r d = refl
 
-pub bound_numbers_denied : (k : ℕ) → bound_numbers (Denied k) ≡ (k, 0, 0)
+pub bound_numbers_denied : (k : ℕ) → bound_numbers (Err k) ≡ (k, 0, 0)
 unfolding bound_numbers
 bound_numbers_denied k = refl
 
@@ -133,7 +132,7 @@ module _ (p q : ℕ) (reference device : List ℕ) where
 
   module _ (n : bound_fault p q reference device ≢ 0) where
     -- a refusal answers its number and no length, and alters neither list
-    pub bound_denied : bound_of p q reference device ≡ Denied (bound_fault p q reference device)
+    pub bound_denied : bound_of p q reference device ≡ Err (bound_fault p q reference device)
     unfolding bound_of
     bound_denied = rw (ne_eqb (bound_fault p q reference device) 0 n)
 
@@ -160,7 +159,7 @@ module _ (p q : ℕ) (reference device : List ℕ) where
     device_bytes_lem = device_length_lem q sizes.1.0 sizes.1.1
 
     -- without a refusal the two lengths are answered, the reference's first
-    pub bound_given : bound_of p q reference device ≡ Lengths (7 * p + 5) (5 * q + 7)
+    pub bound_given : bound_of p q reference device ≡ Ok (record { reference = 7 * p + 5; device = 5 * q + 7 })
     unfolding bound_of
     bound_given = rw (eq-eqb (bound_fault p q reference device) 0 z, reference_bytes_lem, device_bytes_lem)
 

@@ -1,10 +1,9 @@
 -- Nothing to believe: cases. The bytes of the pair of 1 and 1, which is 01's pair of loops, those of 2 and 2 and of
 -- 3 and 4, and the longest pair.
-use Rattle.std.specs.Prelude.{◌≡◌, refl, [], ◌∷◌, replicate}
+use Rattle.std.specs.Prelude.{◌≡◌, refl, [], ◌∷◌, Ok, replicate}
 use Rattle.base.specs.Table.{up_to}
 use Rattle.sheet_spec.specs.Encoding.{two, four, encode_words, encode_row, encode_rows, encode_codes, encode_body, encode}
 use Rattle.sheet_spec.specs.Examples.{only_zero, only_one}
-use Rattle.bound_spec.specs.declared.Bounded.TheVariants.{Lengths}
 use Rattle.bound_spec.specs.Sheets.{reference_row, device_row, bound_reference, bound_device, reference_bytes, device_bytes}
 use Rattle.bound_spec.specs.Calls.{sizes_ok, room_ok, bound_fault, bound_of}
 
@@ -30,6 +29,6 @@ unfolding bound_device device_row up_to encode encode_body encode_codes encode_r
 four_nodes = refl
 
 -- the longest: 229 and 167 bytes, in lists of just that room
-longest : bound_of 32 32 (replicate 229 0) (replicate 167 0) ≡ Lengths 229 167
+longest : bound_of 32 32 (replicate 229 0) (replicate 167 0) ≡ Ok (record { reference = 229; device = 167 })
 unfolding bound_of bound_fault sizes_ok room_ok bound_reference bound_device reference_row device_row up_to encode encode_body encode_codes encode_rows encode_row encode_words four two
 longest = refl

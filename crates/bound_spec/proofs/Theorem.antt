@@ -1,7 +1,7 @@
 -- Nothing to believe: laws. The bound is reached (02, K11): for every p and q from 1 to 32 the bytes that the call
 -- writes are two sheets whose first failing test is number p q - 1 (`bound_reached`), so no smaller bound than p q
 -- serves all sheets of those counts (`no_smaller`), and p q does (`serves_exactly`).
-use Rattle.std.specs.Prelude.{◌≡◌, ◌⊎◌, ◌↔◌, Bool, cond, List, ℕ, ◌+◌, ◌-◌, ◌*◌, ◌≤◌, ◌<◌, length, take}
+use Rattle.std.specs.Prelude.{◌≡◌, ◌⊎◌, ◌↔◌, Bool, cond, List, ℕ, Ok, ◌+◌, ◌-◌, ◌*◌, ◌≤◌, ◌<◌, length, take}
 use Rattle.std.proofs.Common.{sym, ◌∙◌, inl, inr, mul-le-mul, arith}
 use Rattle.base.proofs.Truth.{lt_or_ge}
 use Rattle.walks.specs.Pairs.{pair_distance, pair_trace}
@@ -71,16 +71,16 @@ module _ (p q : ℕ) (in_p : InRange p) (in_q : InRange q) where
     few : p * q ≤ 1024
     few = mul-le-mul in_p.1 in_q.1
 
-    given : (k : ℕ) → k ≤ 1023 → verdict_of trace_only (bound_reference p) (bound_device q) k ≡ cond (fails_from trace_only (bound_reference p) (bound_device q) k 0 0) Fails Passes
+    given : (k : ℕ) → k ≤ 1023 → verdict_of trace_only (bound_reference p) (bound_device q) k ≡ Ok (cond (fails_from trace_only (bound_reference p) (bound_device q) k 0 0) Fails Passes)
     given k l = verdict_given (bound_reference p) (bound_device q) k trace_only ((verdict_0 (bound_reference p) (bound_device q) k).1 (((acc_p, acc_q), agrees), λ h. omega arith))
 
     -- test p q - 1 fails, and every test before it passes
-    last_fails : verdict_of trace_only (bound_reference p) (bound_device q) (p * q - 1) ≡ Fails
+    last_fails : verdict_of trace_only (bound_reference p) (bound_device q) (p * q - 1) ≡ Ok Fails
     last_fails =
         let f = first_failing (bound_reference p) (bound_device q) acc_p acc_q agrees.0 trace_only not_refined in
         given (p * q - 1) (omega (arith, few)) ∙ rw (rw distance_is at f.1)
 
-    earlier_pass : (k : ℕ) → k < p * q - 1 → verdict_of trace_only (bound_reference p) (bound_device q) k ≡ Passes
+    earlier_pass : (k : ℕ) → k < p * q - 1 → verdict_of trace_only (bound_reference p) (bound_device q) k ≡ Ok Passes
     earlier_pass k l =
         let f = first_failing (bound_reference p) (bound_device q) acc_p acc_q agrees.0 trace_only not_refined in
         given k (omega (arith, few)) ∙ rw (f.2 k (omega (arith, distance_is)))

@@ -1,6 +1,6 @@
 -- Nothing to believe: laws. What follows from the claim alone, each of its fields used, so that a claim that said less
 -- would not give them; and the words of `Serves` spelled out.
-use Rattle.std.specs.Prelude.{◌≡◌, ◌↔◌, Bool, List, ℕ, ◌+◌, ◌-◌, ◌*◌, ◌≤◌, ◌<◌, length, take}
+use Rattle.std.specs.Prelude.{◌≡◌, ◌↔◌, Bool, List, ℕ, Ok, ◌+◌, ◌-◌, ◌*◌, ◌≤◌, ◌<◌, length, take}
 use Rattle.std.proofs.Common.{◌∙◌, sym, arith}
 use Rattle.sheet_spec.specs.declared.Sheet.{Sheet}
 use Rattle.sheet_spec.specs.Refusals.{Agree}
@@ -48,14 +48,14 @@ written_means p q reference device z =
 -- what it says that a bound serves, spelled out
 pub serves_means : (trace_only : Bool) (p q b : ℕ) → Serves trace_only p q b
     ↔ ((reference device : List ℕ) (P Q : Sheet) → read_sheet reference ≡ accepted P → read_sheet device ≡ accepted Q → Agree P Q
-    → P.n ≡ p → Q.n ≡ q → ((k : ℕ) → k < b → verdict_of trace_only P Q k ≡ Passes) → RefinesIn trace_only P Q)
+    → P.n ≡ p → Q.n ≡ q → ((k : ℕ) → k < b → verdict_of trace_only P Q k ≡ Ok Passes) → RefinesIn trace_only P Q)
 serves_means trace_only p q b = (λ f. f, λ f. f)
 
 -- and what it says that a smaller one does not: there are bytes of two sheets of p and q nodes that agree, of which the
 -- device passes tests 0 to b - 1 and does not refine the reference
 pub unserved : (trace_only : Bool) (p q : ℕ) → 1 ≤ p → p ≤ 32 → 1 ≤ q → q ≤ 32 → (b : ℕ) → b < p * q
     → (reference : List ℕ) × (device : List ℕ) × (P : Sheet) × (Q : Sheet) × (read_sheet reference ≡ accepted P) × (read_sheet device ≡ accepted Q)
-    × Agree P Q × (P.n ≡ p) × (Q.n ≡ q) × ((k : ℕ) → k < b → verdict_of trace_only P Q k ≡ Passes) × (¬ RefinesIn trace_only P Q)
+    × Agree P Q × (P.n ≡ p) × (Q.n ≡ q) × ((k : ℕ) → k < b → verdict_of trace_only P Q k ≡ Ok Passes) × (¬ RefinesIn trace_only P Q)
 unserved trace_only p q pl ph ql qh b l =
     let c = bytes_reach p q (pl, ph) (ql, qh) in
     (_, _, c.P, c.Q, c.reference_read, c.device_read, c.agree, c.reference_nodes, c.device_nodes, (λ k h. c.passes trace_only k (omega arith)), c.unrefined trace_only)

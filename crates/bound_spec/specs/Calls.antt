@@ -1,11 +1,10 @@
 -- The call (02, K11): what it refuses, what it answers, and what the two lent lists then hold. `reference` and `device`
 -- are the lists.
-use Rattle.std.specs.Prelude.{Bool, ◌&&◌, cond, List, ℕ, eqb, leb, length}
+use Rattle.std.specs.Prelude.{Bool, ◌&&◌, cond, List, ℕ, Result, Ok, Err, eqb, leb, length}
 use Rattle.base.specs.Refusal.{unless}
 use Rattle.base.specs.Front.{at_front}
 use Rattle.sheet_spec.specs.Rules.{between}
-use Rattle.bound_spec.specs.declared.Bounded.{Bounded}
-use Rattle.bound_spec.specs.declared.Bounded.TheVariants.{Lengths, Denied}
+use Rattle.bound_spec.specs.declared.Lengths.{Lengths}
 use Rattle.bound_spec.specs.Sheets.{reference_bytes, device_bytes}
 
 -- 30: p and q are 1 to 32
@@ -21,9 +20,9 @@ unfoldable pub bound_fault : ℕ → ℕ → List ℕ → List ℕ → ℕ
 bound_fault p q reference device = unless (sizes_ok p q) 30 (unless (room_ok p q reference device) 31 0)
 
 -- the three numbers of each answer: the refusal, 0 for none, and the two lengths, 0 where it is refused
-unfoldable pub bound_numbers : Bounded → ℕ × ℕ × ℕ
-bound_numbers (Lengths r d) = (0, r, d)
-bound_numbers (Denied k) = (k, 0, 0)
+unfoldable pub bound_numbers : Result Lengths ℕ → ℕ × ℕ × ℕ
+bound_numbers (Ok l) = (0, l.reference, l.device)
+bound_numbers (Err k) = (k, 0, 0)
 
 -- what a call has where it is not refused, and else something in its place
 abbrev pub unless_refused : {A : Type 0} → ℕ → ℕ → List ℕ → List ℕ → A → A → A
@@ -37,10 +36,11 @@ unfoldable pub device_length : ℕ → ℕ → List ℕ → List ℕ → ℕ
 device_length p q reference device = unless_refused p q reference device (length (device_bytes q)) 0
 
 -- the answer of a call: the two lengths, the reference's first, or the refusal
-unfoldable pub bound_of : ℕ → ℕ → List ℕ → List ℕ → Bounded
+unfoldable pub bound_of : ℕ → ℕ → List ℕ → List ℕ → Result Lengths ℕ
 bound_of p q reference device =
-    unless_refused p q reference device (Lengths (length (reference_bytes p)) (length (device_bytes q)))
-    (Denied (bound_fault p q reference device))
+    unless_refused p q reference device
+    (Ok (record { reference = length (reference_bytes p); device = length (device_bytes q) }))
+    (Err (bound_fault p q reference device))
 
 -- the lists after a call: each sheet at the front of its own and the rest untouched; after a refusal both as they were
 unfoldable pub reference_after : ℕ → ℕ → List ℕ → List ℕ → List ℕ

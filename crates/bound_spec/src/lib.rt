@@ -4,11 +4,9 @@
 // no function.
 #![tactic(auto)]
 
-// What the call answers.
+// What the call answers: the lengths of the two sheets in bytes; each stands at the front of its lent list.
 #[derive(Clone, Copy)]
-pub enum Bounded {
-    // the lengths of the two sheets in bytes, the reference's first; each stands at the front of its lent list
-    Lengths(u16, u16),
-    // the number of the refusal of the call
-    Denied(u8),
+pub struct Lengths {
+    pub reference: u16,
+    pub device: u16,
 }

@@ -15,8 +15,9 @@
 
 ghost use Rattle.std.specs.Prelude.{◌≤◌, ◌<◌};
 
-use bound_spec::Bounded;
+use bound_spec::Lengths;
 use cases_lines::Line;
+use refusals::Refusal;
 
 // The number of standard input.
 const STDIN_FILENO: i32 = 0;
@@ -27,8 +28,7 @@ const STDIN_FILENO: i32 = 0;
 fn at_most(x: u16) -> usize
     ensures { result ≤ 256 }
 {
-    let n = x as usize;
-    if n < 256 { n } else { 256 }
+    usize::from(x).min(256)
 }
 
 // Number i of a line as a count of places, at most all.
@@ -52,29 +52,21 @@ fn before(line: Line, device: bool, i: usize) -> u8
 {
     let first = cases_lines::small(line, 5);
     if cases_lines::flag(line, 6) {
-        return (((first as usize) + risen(device, i)) % 256) as u8;
+        return ((usize::from(first) + risen(device, i)) % 256) as u8;
     }
     first
 }
 
 // The places of a line's list before the call.
 fn places(line: Line, device: bool) -> [u8; 256] {
-    let mut list = [0u8; 256];
-    for i in 0..256 {
-        let x = before(line, device, i);
-        list[i] = x;
-    }
-    list
+    std::array::from_fn(|i| before(line, device, i))
 }
 
 // How many places of a line's list are as before.
-fn left(list: [u8; 256], line: Line, device: bool) -> usize {
-    let mut count: usize = 0;
-    for i in 0..256 {
-        let x = before(line, device, i);
-        count += cases_lines::alike(list[i], x);
-    }
-    count
+fn left(list: &[u8; 256], line: Line, device: bool) -> usize {
+    (0..256)
+        .filter(|i| list[*i] == before(line, device, *i))
+        .count()
 }
 
 // ---- a call
@@ -82,7 +74,7 @@ fn left(list: [u8; 256], line: Line, device: bool) -> usize {
 // What a call answers, and what the two lists then hold.
 #[derive(Clone, Copy)]
 struct Made {
-    answer: Bounded,
+    answer: Result<Lengths, Refusal>,
     reference: [u8; 256],
     device: [u8; 256],
 }
@@ -93,35 +85,35 @@ fn make(line: Line, p: u8, q: u8) -> Made {
     let mut device = places(line, true);
     let n = count_at(line, 3);
     let m = count_at(line, 4);
-    let a = bound::write_pair(p, q, &mut reference[..n], &mut device[..m]);
+    let answer = bound::write_pair(p, q, &mut reference[..n], &mut device[..m]);
     Made {
-        answer: a,
-        reference: reference,
-        device: device,
+        answer,
+        reference,
+        device,
     }
 }
 
 // ---- 1: a call
 
 // Writes the answer of a call.
-fn say_bounded(a: Bounded) {
-    match a {
-        Bounded::Lengths(r, d) => {
+fn say_bounded(answer: Result<Lengths, Refusal>) {
+    match answer {
+        Ok(l) => {
             cases_lines::say(b" lengths");
-            cases_lines::say_number(r);
-            cases_lines::say_number(d);
+            cases_lines::say_number(l.reference);
+            cases_lines::say_number(l.device);
         }
-        Bounded::Denied(m) => cases_lines::say_denied(m),
+        Err(cause) => cases_lines::say_denied(u8::from(cause)),
     }
 }
 
 // Writes what a line's list then holds: the first n places, how many are as before, and the check number.
-fn say_list(list: [u8; 256], line: Line, device: bool, n: usize) {
-    cases_lines::say_front(&list, n);
+fn say_list(list: &[u8; 256], line: Line, device: bool, n: usize) {
+    cases_lines::say_front(list, n);
     cases_lines::say(b", left");
     cases_lines::say_count(left(list, line, device));
     cases_lines::say(b", check");
-    cases_lines::say_count(cases_lines::check_of(&list, 0));
+    cases_lines::say_count(cases_lines::check_of(list, 0));
 }
 
 // Makes the call of a line.
@@ -131,14 +123,11 @@ fn call(line: Line) {
         cases_lines::small(line, 1),
         cases_lines::small(line, 2),
     );
-    let a = made.answer;
-    let reference = made.reference;
-    let device = made.device;
-    say_bounded(a);
+    say_bounded(made.answer);
     cases_lines::say(b", reference");
-    say_list(reference, line, false, count_at(line, 7));
+    say_list(&made.reference, line, false, count_at(line, 7));
     cases_lines::say(b", device");
-    say_list(device, line, true, count_at(line, 8));
+    say_list(&made.device, line, true, count_at(line, 8));
 }
 
 // ---- 3: calls for many p and q
@@ -165,14 +154,14 @@ fn with_answer(check: usize, refusal: u16, r: u16, d: u16) -> usize {
 }
 
 // A tally with a refusal more.
-fn with_denied(t: Tally, refusal: u8) -> Tally {
+fn with_denied(t: Tally, cause: Refusal) -> Tally {
     let mut u = t;
-    u.check = with_answer(t.check, refusal as u16, 0, 0);
-    match refusal {
-        30 => {
+    u.check = with_answer(t.check, u16::from(u8::from(cause)), 0, 0);
+    match cause {
+        Refusal::BoundNodes => {
             u.sizes = more(t.sizes);
         }
-        31 => {
+        Refusal::BoundList => {
             u.short = more(t.short);
         }
         _ => {}
@@ -181,37 +170,34 @@ fn with_denied(t: Tally, refusal: u8) -> Tally {
 }
 
 // A tally with two lengths more.
-fn with_lengths(t: Tally, r: u16, d: u16) -> Tally {
+fn with_lengths(t: Tally, l: Lengths) -> Tally {
     let mut u = t;
     u.written = more(t.written);
-    u.check = with_answer(t.check, 0, r, d);
+    u.check = with_answer(t.check, 0, l.reference, l.device);
     u
 }
 
 // A tally with an answer more.
-fn with_bounded(t: Tally, a: Bounded) -> Tally {
-    match a {
-        Bounded::Lengths(r, d) => with_lengths(t, r, d),
-        Bounded::Denied(m) => with_denied(t, m),
+fn with_bounded(t: Tally, answer: Result<Lengths, Refusal>) -> Tally {
+    match answer {
+        Ok(l) => with_lengths(t, l),
+        Err(cause) => with_denied(t, cause),
     }
 }
 
 // A tally with all places of two lists more.
-fn with_lists(t: Tally, reference: [u8; 256], device: [u8; 256]) -> Tally {
+fn with_lists(t: Tally, reference: &[u8; 256], device: &[u8; 256]) -> Tally {
     let mut u = t;
-    let c = cases_lines::check_of(&reference, t.check);
-    u.check = cases_lines::check_of(&device, c);
+    let c = cases_lines::check_of(reference, t.check);
+    u.check = cases_lines::check_of(device, c);
     u
 }
 
 // A tally with a call more: its answer, and both lists.
 fn with_call(line: Line, t: Tally, p: u8, q: u8) -> Tally {
     let made = make(line, p, q);
-    let a = made.answer;
-    let reference = made.reference;
-    let device = made.device;
-    let u = with_bounded(t, a);
-    with_lists(u, reference, device)
+    let u = with_bounded(t, made.answer);
+    with_lists(u, &made.reference, &made.device)
 }
 
 // A tally with the calls of a line for p more.
@@ -220,8 +206,7 @@ fn with_row(line: Line, t: Tally, p: u8) -> Tally {
     let begin = count_at(line, 2);
     let end = count_at(line, 8);
     for q in begin..end {
-        let v = with_call(line, u, p, q as u8);
-        u = v;
+        u = with_call(line, u, p, q as u8);
     }
     u
 }
@@ -237,8 +222,7 @@ fn tally_of(line: Line) -> Tally {
     let begin = count_at(line, 1);
     let end = count_at(line, 7);
     for p in begin..end {
-        let v = with_row(line, u, p as u8);
-        u = v;
+        u = with_row(line, u, p as u8);
     }
     u
 }
@@ -267,28 +251,9 @@ fn answer(line: Line) {
     cases_lines::say(b"\n");
 }
 
-// The line after one byte more; at its end it is answered.
-fn next(line: Line, b: u8) -> Line {
-    let l = cases_lines::heard(line, b);
-    if cases_lines::is_end(line, b) {
-        answer(l);
-        return cases_lines::new_line();
-    }
-    l
-}
-
-// Answers every line.
-fn run_all(cases: &[u8]) {
-    let mut line = cases_lines::new_line();
-    for i in 0..cases.len() {
-        let l = next(line, cases[i]);
-        line = l;
-    }
-}
-
 // Reads the cases and answers them.
 fn main() {
     let mut space = io::large_buffer();
     let n = io::read_full(STDIN_FILENO, &mut space);
-    run_all(&space[..n]);
+    cases_lines::answer_lines(&space[..n], answer);
 }

@@ -13,6 +13,7 @@ ghost use Rattle.std.specs.Prelude.{◌≤◌, ◌<◌};
 
 use cases_lines::Line;
 use keypad_spec::{Found, Keypad};
+use refusals::Refusal;
 
 // The number of standard input.
 const STDIN_FILENO: i32 = 0;
@@ -23,21 +24,14 @@ const STDIN_FILENO: i32 = 0;
 fn length(line: Line, i: usize) -> usize
     ensures { result < 65536 }
 {
-    cases_lines::number(line, i) as usize
+    usize::from(cases_lines::number(line, i))
 }
 
 // How many bytes stand in a line itself.
 fn spelt(line: Line) -> usize
     ensures { result ≤ 57 }
 {
-    let count = line.count;
-    if count < 7 {
-        return 0;
-    }
-    if count > 64 {
-        return 57;
-    }
-    count - 7
+    line.count.saturating_sub(7).min(57)
 }
 
 // Byte k of the rules that are made.
@@ -68,12 +62,7 @@ fn table_byte(line: Line, made: usize, k: usize) -> u8
 
 // The table of a line, and zeros after it.
 fn table_bytes(line: Line, made: usize) -> [u8; 1024] {
-    let mut bytes = [0u8; 1024];
-    for k in 0..1024 {
-        let x = table_byte(line, made, k);
-        bytes[k] = x;
-    }
-    bytes
+    std::array::from_fn(|k| table_byte(line, made, k))
 }
 
 // ---- answers
@@ -81,40 +70,40 @@ fn table_bytes(line: Line, made: usize) -> [u8; 1024] {
 // Writes a bad code that no rule matches.
 fn say_gap(c: u8) {
     cases_lines::say(b" gap");
-    cases_lines::say_number(c as u16);
+    cases_lines::say_number(u16::from(c));
 }
 
 // Writes a bad code that more than one rule matches, and the two lowest that do.
 fn say_overlap(c: u8, i: u8, k: u8) {
     cases_lines::say(b" overlap");
-    cases_lines::say_number(c as u16);
-    cases_lines::say_number(i as u16);
-    cases_lines::say_number(k as u16);
+    cases_lines::say_number(u16::from(c));
+    cases_lines::say_number(u16::from(i));
+    cases_lines::say_number(u16::from(k));
 }
 
 // Writes the answer of a check.
-fn say_keypad(a: Keypad) {
-    match a {
-        Keypad::Good => cases_lines::say(b" good"),
-        Keypad::Gap(c) => say_gap(c),
-        Keypad::Overlap(c, i, k) => say_overlap(c, i, k),
-        Keypad::Denied(m) => cases_lines::say_denied(m),
+fn say_keypad(told: Result<Keypad, Refusal>) {
+    match told {
+        Ok(Keypad::Good) => cases_lines::say(b" good"),
+        Ok(Keypad::Gap(c)) => say_gap(c),
+        Ok(Keypad::Overlap(c, i, k)) => say_overlap(c, i, k),
+        Err(cause) => cases_lines::say_denied(u8::from(cause)),
     }
 }
 
 // Writes an event.
 fn say_event(e: u8) {
     cases_lines::say(b" event");
-    cases_lines::say_number(e as u16);
+    cases_lines::say_number(u16::from(e));
 }
 
 // Writes the answer of a lookup.
-fn say_found(a: Found) {
-    match a {
-        Found::Event(e) => say_event(e),
-        Found::Gap(c) => say_gap(c),
-        Found::Overlap(c, i, k) => say_overlap(c, i, k),
-        Found::Denied(m) => cases_lines::say_denied(m),
+fn say_found(found: Result<Found, Refusal>) {
+    match found {
+        Ok(Found::Event(e)) => say_event(e),
+        Ok(Found::Gap(c)) => say_gap(c),
+        Ok(Found::Overlap(c, i, k)) => say_overlap(c, i, k),
+        Err(cause) => cases_lines::say_denied(u8::from(cause)),
     }
 }
 
@@ -134,28 +123,9 @@ fn answer(line: Line) {
 
 // ---- standard input
 
-// The line after one byte more; at its end it is answered.
-fn next(line: Line, b: u8) -> Line {
-    let l = cases_lines::heard(line, b);
-    if cases_lines::is_end(line, b) {
-        answer(l);
-        return cases_lines::new_line();
-    }
-    l
-}
-
-// Answers every line.
-fn run_all(cases: &[u8]) {
-    let mut line = cases_lines::new_line();
-    for i in 0..cases.len() {
-        let l = next(line, cases[i]);
-        line = l;
-    }
-}
-
 // Reads the cases and answers them.
 fn main() {
     let mut space = io::large_buffer();
     let n = io::read_full(STDIN_FILENO, &mut space);
-    run_all(&space[..n]);
+    cases_lines::answer_lines(&space[..n], answer);
 }

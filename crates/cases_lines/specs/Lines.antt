@@ -1,6 +1,6 @@
 -- Nothing to believe: for the programs of cases. What a line of a Run program is after each byte, and the check number
 -- of a list.
-use Rattle.std.specs.Prelude.{true, false, cond, ◌&&◌, List, ℕ, zero, suc, ◌+◌, ◌-◌, ◌*◌, ◌%◌, eqb, ltb, get_or, replicate, set}
+use Rattle.std.specs.Prelude.{true, false, cond, ◌&&◌, List, [], ◌∷◌, ℕ, zero, suc, ◌+◌, ◌-◌, ◌*◌, ◌%◌, eqb, ltb, get_or, replicate, set}
 use Rattle.cases_lines.specs.declared.Line.{Line}
 
 -- a line of which nothing has come
@@ -50,3 +50,8 @@ check_with check x = (check % 65521 * 31 + x) % 65521
 unfoldable pub check_up_to : List ℕ → ℕ → ℕ → ℕ
 check_up_to list check zero = check
 check_up_to list check (suc n) = check_with (check_up_to list check n) (get_or list n 0)
+
+-- the lines that end among some bytes, of which the first begins as a line so far
+unfoldable pub ended : Line → List ℕ → List Line
+ended l [] = []
+ended l (b ∷ bs) = cond (l.named && eqb b 10) (line_after l b ∷ ended new_line bs) (ended (line_after l b) bs)

@@ -4,9 +4,10 @@
 // of bytes: its front, how many places are alike, a check number.
 #![tactic(auto)]
 
+ghost use Rattle.std.specs.List.{FoldsTo};
 ghost use Rattle.std.specs.Prelude.{◌≡◌, not, ◌&&◌, ◌≤◌, eqb, length};
 ghost use Rattle.cases_lines.specs.Lines.{new_line, with_digit, with_number, line_after, number_at, small_of};
-ghost use Rattle.cases_lines.specs.Lines.{check_with, check_up_to};
+ghost use Rattle.cases_lines.specs.Lines.{check_with, check_up_to, ended};
 
 // The number of standard output.
 const STDOUT_FILENO: i32 = 1;
@@ -26,34 +27,21 @@ pub fn say_count(n: usize) {
 
 // Writes a blank and a number.
 pub fn say_number(x: u16) {
-    say_count(x as usize);
+    say_count(usize::from(x));
 }
 
 // Writes a refusal.
-pub fn say_denied(x: u8) {
+pub fn say_denied(number: u8) {
     say(b" denied");
-    say_number(x as u16);
+    say_number(u16::from(number));
 }
 
 // ---- a list of bytes
 
-// The smaller of two counts.
-fn least(x: usize, y: usize) -> usize
-    ensures { result ≤ y }
-{
-    if x < y { x } else { y }
-}
-
-// Writes what a place holds.
-fn say_place(x: u8) {
-    say_number(x as u16);
-}
-
 // Writes what the first n places of a list hold, or all.
 pub fn say_front(list: &[u8], n: usize) {
-    let m = least(n, list.len());
-    for i in 0..m {
-        say_place(list[i]);
+    for x in &list[..n.min(list.len())] {
+        say_number(u16::from(*x));
     }
 }
 
@@ -61,33 +49,26 @@ pub fn say_front(list: &[u8], n: usize) {
 pub fn alike(x: u8, y: u8) -> usize
     ensures { result ≤ 1 }
 {
-    if x == y { 1 } else { 0 }
+    usize::from(x == y)
 }
 
 // A check number with a number more.
+#[tactic(auto, unfolding(crate::specs::Lines::check_with))]
 pub fn check_with(check: usize, x: u16) -> usize
     ensures { result ≡ check_with check x }
 {
-    (check % 65521 * 31 + (x as usize)) % 65521
-}
-
-// A check number with a byte more.
-fn with_byte(check: usize, x: u8) -> usize
-    ensures { result ≡ check_with check x }
-{
-    check_with(check, x as u16)
+    (check % 65521 * 31 + usize::from(x)) % 65521
 }
 
 // A check number with all places of a list more.
-pub fn check_of(list: &[u8], check: usize) -> usize
+#[tactic(auto, unfolding(crate::specs::Lines::check_up_to))]
+pub fn check_of(list: &[u8], mut check: usize) -> usize
     ensures { result ≡ check_up_to list.now check (length list.now) }
 {
-    let mut c = check;
-    for i in 0..list.len() {
-        let d = with_byte(c, list[i]);
-        c = d;
+    for x in list {
+        check = check_with(check, u16::from(*x));
     }
-    c
+    check
 }
 
 // ---- a line
@@ -104,64 +85,54 @@ pub struct Line {
 }
 
 // A line of which nothing has come.
+#[tactic(auto, unfolding(crate::specs::Lines::new_line))]
 pub fn new_line() -> Line
     ensures { result ≡ new_line }
 {
-    let numbers = [0u16; 64];
     Line {
         named: false,
         begun: false,
         x: 0,
         count: 0,
-        numbers: numbers,
+        numbers: [0; 64],
     }
 }
 
 // The line with a digit more, if it is one; a digit that would make the number 65,536 or more is left out.
-fn with_digit(line: Line, d: u8) -> Line
+#[tactic(auto, unfolding(crate::specs::Lines::with_digit))]
+fn with_digit(mut line: Line, d: u8) -> Line
     ensures { result ≡ with_digit line d }
 {
-    let mut l = line;
-    l.begun = true;
-    if d >= 10 {
-        return l;
+    line.begun = true;
+    let x = u32::from(line.x) * 10 + u32::from(d);
+    if d < 10 && x < 65536 {
+        line.x = x as u16;
     }
-    let x = (l.x as u32) * 10 + (d as u32);
-    if x >= 65536 {
-        return l;
-    }
-    l.x = x as u16;
-    l
+    line
 }
 
 // The line with its number at an end: it is kept, where one has begun and there is room.
-fn with_number(line: Line) -> Line
+#[tactic(auto, unfolding(crate::specs::Lines::with_number))]
+fn with_number(mut line: Line) -> Line
     ensures { result ≡ with_number line }
 {
-    let mut l = line;
-    let at = l.count;
-    let x = l.x;
-    l.x = 0;
-    l.begun = false;
-    if !line.begun {
-        return l;
+    if line.begun && line.count < 64 {
+        line.numbers[line.count] = line.x;
+        line.count += 1;
     }
-    if at >= 64 {
-        return l;
-    }
-    l.numbers[at] = x;
-    l.count = at + 1;
-    l
+    line.begun = false;
+    line.x = 0;
+    line
 }
 
 // The line after one byte more.
-fn after(line: Line, b: u8) -> Line
+#[tactic(auto, unfolding(crate::specs::Lines::line_after))]
+fn after(mut line: Line, b: u8) -> Line
     ensures { result ≡ line_after line b }
 {
-    let mut l = line;
     if !line.named {
-        l.named = b == b':';
-        return l;
+        line.named = b == b':';
+        return line;
     }
     if b < b'0' {
         return with_number(line);
@@ -174,8 +145,7 @@ pub fn heard(line: Line, b: u8) -> Line
     ensures { result ≡ line_after line b }
 {
     if !line.named {
-        let byte = [b; 1];
-        say(&byte);
+        say(&[b]);
     }
     after(line, b)
 }
@@ -184,13 +154,11 @@ pub fn heard(line: Line, b: u8) -> Line
 pub fn is_end(line: Line, b: u8) -> bool
     ensures { result ≡ (line.named && eqb b 10) }
 {
-    if !line.named {
-        return false;
-    }
-    b == b'\n'
+    line.named && b == b'\n'
 }
 
 // Number i of a line, 0 past its end.
+#[tactic(auto, unfolding(crate::specs::Lines::number_at))]
 pub fn number(line: Line, i: usize) -> u16
     ensures { result ≡ number_at line i }
 {
@@ -198,11 +166,11 @@ pub fn number(line: Line, i: usize) -> u16
 }
 
 // Number i of a line as a byte, 255 for one above.
+#[tactic(auto, unfolding(crate::specs::Lines::small_of))]
 pub fn small(line: Line, i: usize) -> u8
     ensures { result ≡ small_of (number_at line i) }
 {
-    let x = number(line, i);
-    if x < 256 { x as u8 } else { 255 }
+    u8::try_from(number(line, i)).unwrap_or(255)
 }
 
 // Number i of a line as a yes or no.
@@ -210,4 +178,25 @@ pub fn flag(line: Line, i: usize) -> bool
     ensures { result ≡ not (eqb (number_at line i) 0) }
 {
     number(line, i) != 0
+}
+
+// ---- standard input
+
+// Answers every line that ends among some bytes.
+pub fn answer_lines<F: FnMut(Line)>(cases: &[u8], mut answer: F)
+    requires { F.IsAlwaysCallable answer }
+    ensures { (last : F) × FoldsTo (λ p x q. F.step p x tt q) answer (ended new_line cases.now) last }
+{
+    let mut line = new_line();
+    let mut rest = cases;
+    while let Some((b, tail)) = rest.split_first() {
+        let heard = heard(line, *b);
+        if is_end(line, *b) {
+            answer(heard);
+            line = new_line();
+        } else {
+            line = heard;
+        }
+        rest = tail;
+    }
 }

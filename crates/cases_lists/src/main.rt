@@ -20,6 +20,7 @@ ghost use Rattle.std.specs.Prelude.{◌≤◌};
 use cases_lines::Line;
 use comparison_spec::Outcome;
 use probes_spec::Listed;
+use refusals::Refusal;
 use sheet_spec::Sheet;
 
 // The number of standard input.
@@ -73,18 +74,15 @@ fn node_byte(which: u16, i: usize) -> u8 {
 
 // Sheet 14 or 15, which has `rest` bytes after its length field.
 fn long_sheet(which: u16, rest: u8) -> Sheet {
-    let mut bytes = [0u8; 259];
+    let mut bytes = [0; 259];
     bytes[3] = rest;
     bytes[4] = 1;
     bytes[5] = 2;
     bytes[6] = 32;
     for i in 0..252 {
-        let x = node_byte(which, i);
-        bytes[i + 7] = x;
+        bytes[i + 7] = node_byte(which, i);
     }
-    let n = base::wide(rest) + 4;
-    let a = sheet::read(&bytes[..n]);
-    a.sheet
+    sheet::read(&bytes[..usize::from(rest) + 4]).unwrap_or(cases_samples::ZERO)
 }
 
 // ---- the numbers of a line
@@ -103,52 +101,37 @@ fn sheet_at(line: Line, which: usize, refusal: usize) -> Sheet {
 fn length(line: Line, i: usize, most: usize) -> usize
     ensures { result ≤ most }
 {
-    let x = cases_lines::number(line, i) as usize;
-    if x < most { x } else { most }
+    usize::from(cases_lines::number(line, i)).min(most)
 }
 
 // ---- probes
 
-// 1 for equal words, 0 for others.
-fn alike(x: u16, y: u16) -> usize
-    ensures { result ≤ 1 }
-{
-    if x == y { 1 } else { 0 }
-}
-
 // How many places of a list of words hold x.
 fn holding(list: &[u16], x: u16) -> usize {
-    let mut count: usize = 0;
-    for i in 0..list.len() {
-        count += alike(list[i], x);
-    }
-    count
+    list.iter().filter(|y| **y == x).count()
 }
 
 // A set of 12 events as a number, 0 for what is none.
 fn value(set: u16) -> u64
     ensures { result ≤ 4095 }
 {
-    if set < 4096 { set as u64 } else { 0 }
+    if set < 4096 { u64::from(set) } else { 0 }
 }
 
 // The sum of the sets of 12 events in a list.
 fn sum(list: [u16; 128]) -> u64 {
-    let mut total: u64 = 0;
-    for i in 0..128 {
-        let x = list[i];
-        total += value(x);
+    let mut total = 0;
+    for set in list {
+        total += value(set);
     }
     total
 }
 
 // Writes the first and the last of n probes.
 fn say_ends(list: [u16; 128], n: usize) {
-    if n > 0 {
-        if n <= 128 {
-            cases_lines::say_number(list[0]);
-            cases_lines::say_number(list[n - 1]);
-        }
+    if (1..=128).contains(&n) {
+        cases_lines::say_number(list[0]);
+        cases_lines::say_number(list[n - 1]);
     }
 }
 
@@ -159,42 +142,35 @@ fn say_left(list: [u16; 128]) {
 }
 
 // Writes the answer of a probe call: of its list the first and the last probe and the sum.
-fn say_listed(a: Listed, list: [u16; 128]) {
-    match a {
-        Listed::Count(m) => {
+fn say_listed(listed: Listed, list: [u16; 128]) {
+    match listed {
+        Ok(count) => {
             cases_lines::say(b" count");
-            cases_lines::say_number(m);
-            say_ends(list, m as usize);
+            cases_lines::say_number(count);
+            say_ends(list, usize::from(count));
             cases_lines::say(b" sum ");
             io::print_decimal(STDOUT_FILENO, sum(list));
         }
-        Listed::Denied(x) => cases_lines::say_denied(x),
+        Err(refusal) => cases_lines::say_denied(u8::from(refusal)),
     }
     say_left(list);
 }
 
-// Writes the first n places of a list.
-fn say_places(list: [u16; 128], n: usize)
-    requires { n ≤ 128 }
-{
-    for i in 0..n {
-        cases_lines::say_number(list[i]);
-    }
-}
-
 // Writes the answer of a probe call: of its list the n places that were lent.
-fn say_whole(a: Listed, list: [u16; 128], n: usize)
+fn say_whole(listed: Listed, list: [u16; 128], n: usize)
     requires { n ≤ 128 }
 {
-    match a {
-        Listed::Count(m) => {
+    match listed {
+        Ok(count) => {
             cases_lines::say(b" count");
-            cases_lines::say_number(m);
+            cases_lines::say_number(count);
         }
-        Listed::Denied(x) => cases_lines::say_denied(x),
+        Err(refusal) => cases_lines::say_denied(u8::from(refusal)),
     }
     cases_lines::say(b", places");
-    say_places(list, n);
+    for set in &list[..n] {
+        cases_lines::say_number(*set);
+    }
     say_left(list);
 }
 
@@ -203,68 +179,58 @@ fn list_probes(line: Line) {
     let s = sheet_at(line, 1, 2);
     let node = cases_lines::small(line, 3);
     let n = length(line, 4, 128);
-    let mut list = [65535u16; 128];
-    let a = probes::list(s, node, &mut list[..n]);
+    let mut list = [65535; 128];
+    let listed = probes::list(s, node, &mut list[..n]);
     if cases_lines::number(line, 0) == 4 {
-        say_whole(a, list, n);
+        say_whole(listed, list, n);
     } else {
-        say_listed(a, list);
+        say_listed(listed, list);
     }
 }
 
 // ---- comparison
 
 // Writes the answer of a comparison, without its lists.
-fn say_outcome(o: Outcome) {
-    match o {
-        Outcome::Refines(cleared) => {
+fn say_outcome(outcome: Result<Outcome, Refusal>) {
+    match outcome {
+        Ok(Outcome::Refines(cleared)) => {
             cases_lines::say(b" refines");
             cases_lines::say_number(cleared);
         }
-        Outcome::Stray(d, cleared, event) => {
+        Ok(Outcome::Stray(d, cleared, event)) => {
             cases_lines::say(b" stray");
             cases_lines::say_number(d);
             cases_lines::say_number(cleared);
-            cases_lines::say_number(event as u16);
+            cases_lines::say_number(u16::from(event));
         }
-        Outcome::Refusal(d, cleared, probe, acceptance) => {
+        Ok(Outcome::Refusal(d, cleared, probe, acceptance)) => {
             cases_lines::say(b" refusal");
             cases_lines::say_number(d);
             cases_lines::say_number(cleared);
             cases_lines::say_number(probe);
             cases_lines::say_number(acceptance);
         }
-        Outcome::Denied(x) => cases_lines::say_denied(x),
+        Err(refusal) => cases_lines::say_denied(u8::from(refusal)),
     }
 }
 
-// Writes an event of a trace; 255 is none.
-fn say_event(x: u8) {
-    if x != 255 {
-        cases_lines::say_number(x as u16);
-    }
-}
-
-// Writes the events of a trace list.
+// Writes the events of a trace list; 255 is none.
 fn say_trace(trace: &[u8]) {
-    for i in 0..trace.len() {
-        say_event(trace[i]);
+    for event in trace {
+        if *event != 255 {
+            cases_lines::say_number(u16::from(*event));
+        }
     }
 }
 
 // How many places of a trace list hold 255.
 fn unused(trace: &[u8]) -> usize {
-    let mut count: usize = 0;
-    for i in 0..trace.len() {
-        let x = trace[i];
-        count += alike(x as u16, 255);
-    }
-    count
+    trace.iter().filter(|event| **event == 255).count()
 }
 
 // Writes the answer of a comparison, and what its lists then hold.
-fn say_compared(o: Outcome, work: &[u16], trace: &[u8]) {
-    say_outcome(o);
+fn say_compared(outcome: Result<Outcome, Refusal>, work: &[u16], trace: &[u8]) {
+    say_outcome(outcome);
     cases_lines::say(b", trace");
     say_trace(trace);
     cases_lines::say(b", left");
@@ -281,27 +247,27 @@ fn compare_in(line: Line, work: &mut [u16], trace: &mut [u8]) {
     let trace_only = cases_lines::flag(line, 5);
     let n = length(line, 6, work.len());
     let m = length(line, 7, trace.len());
-    let o = comparison::compare(
+    let outcome = comparison::compare(
         reference,
         device,
         trace_only,
         &mut work[..n],
         &mut trace[..m],
     );
-    say_compared(o, work, trace);
+    say_compared(outcome, work, trace);
 }
 
 // Compares the two sheets of a line, with lists of at most 128 places.
 fn compare_sheets(line: Line) {
-    let mut work = [65535u16; 128];
-    let mut trace = [255u8; 128];
+    let mut work = [65535; 128];
+    let mut trace = [255; 128];
     compare_in(line, &mut work, &mut trace);
 }
 
 // Compares the two sheets of a line, with long lists.
 fn compare_long(line: Line) {
-    let mut work = [65535u16; 3200];
-    let mut trace = [255u8; 1152];
+    let mut work = [65535; 3200];
+    let mut trace = [255; 1152];
     compare_in(line, &mut work, &mut trace);
 }
 
@@ -317,28 +283,9 @@ fn answer(line: Line) {
     cases_lines::say(b"\n");
 }
 
-// The line after one byte more; at its end it is answered.
-fn next(line: Line, b: u8) -> Line {
-    let l = cases_lines::heard(line, b);
-    if cases_lines::is_end(line, b) {
-        answer(l);
-        return cases_lines::new_line();
-    }
-    l
-}
-
-// Answers every line.
-fn run_all(cases: &[u8]) {
-    let mut line = cases_lines::new_line();
-    for i in 0..cases.len() {
-        let l = next(line, cases[i]);
-        line = l;
-    }
-}
-
 // Reads the cases and answers them.
 fn main() {
     let mut space = io::large_buffer();
     let n = io::read_full(STDIN_FILENO, &mut space);
-    run_all(&space[..n]);
+    cases_lines::answer_lines(&space[..n], answer);
 }

@@ -17,11 +17,13 @@
 ghost use Rattle.std.specs.Prelude.{◌≡◌, ◌≤◌};
 ghost use Rattle.sheet_spec.specs.Refusals.{sheet_fault};
 
-use bound_spec::Bounded;
+use bound_spec::Lengths;
 use cases_lines::Line;
+use cases_samples::ZERO;
 use comparison_spec::Outcome;
-use sheet_spec::{ReadSheet, Sheet};
-use verdicts_spec::Suite;
+use refusals::Refusal;
+use sheet_spec::Sheet;
+use text::Page;
 
 // The number of standard input.
 const STDIN_FILENO: i32 = 0;
@@ -32,68 +34,64 @@ const STDIN_FILENO: i32 = 0;
 fn at_most(x: u16) -> usize
     ensures { result ≤ 256 }
 {
-    let n = x as usize;
-    if n < 256 { n } else { 256 }
+    usize::from(x).min(256)
 }
 
 // How many places of a list hold x.
 fn holding(list: &[u8], x: u8) -> usize {
-    let mut count: usize = 0;
-    for i in 0..list.len() {
-        count += cases_lines::alike(list[i], x);
-    }
-    count
+    list.iter().filter(|y| **y == x).count()
 }
 
 // The first place of a list that holds x; as many as there are, if none does.
 fn first_of(list: &[u8], x: u8) -> usize {
-    for i in 0..list.len() {
-        if list[i] == x {
-            return i;
-        }
-    }
-    list.len()
+    list.iter().position(|y| *y == x).unwrap_or(list.len())
 }
 
 // ---- 2: a pair that is written, read, compared and judged
 
 // Writes the answer of a call.
-fn say_bounded(a: Bounded) {
-    match a {
-        Bounded::Lengths(r, d) => {
+fn say_bounded(written: &Result<Lengths, Refusal>) {
+    match written {
+        Ok(lengths) => {
             cases_lines::say(b" lengths");
-            cases_lines::say_number(r);
-            cases_lines::say_number(d);
+            cases_lines::say_number(lengths.reference);
+            cases_lines::say_number(lengths.device);
         }
-        Bounded::Denied(m) => cases_lines::say_denied(m),
+        Err(cause) => cases_lines::say_denied(u8::from(*cause)),
     }
 }
 
 // The sheet of the first n bytes of a list.
-fn read_front(list: [u8; 256], n: u16) -> ReadSheet {
-    let m = at_most(n);
-    sheet::read(&list[..m])
+fn read_front(list: &[u8; 256], n: u16) -> Result<Sheet, Refusal> {
+    sheet::read(&list[..at_most(n)])
 }
 
-// Writes the refusal, E and N of a sheet.
-fn say_read(a: ReadSheet) {
-    let s = a.sheet;
-    cases_lines::say_number(a.refusal as u16);
-    cases_lines::say_number(s.e as u16);
-    cases_lines::say_number(s.n as u16);
+// Writes the refusal, E and N of a sheet: 0 for no refusal, and for what is not there.
+fn say_read(read: &Result<Sheet, Refusal>) {
+    match read {
+        Ok(s) => {
+            cases_lines::say_number(0);
+            cases_lines::say_number(u16::from(s.e));
+            cases_lines::say_number(u16::from(s.n));
+        }
+        Err(cause) => {
+            cases_lines::say_number(u16::from(u8::from(*cause)));
+            cases_lines::say(b" 0 0");
+        }
+    }
 }
 
 // Writes the answer of a comparison.
-fn say_outcome(o: Outcome) {
-    match o {
-        Outcome::Stray(d, cleared, event) => {
+fn say_outcome(outcome: Result<Outcome, Refusal>) {
+    match outcome {
+        Ok(Outcome::Stray(d, cleared, event)) => {
             cases_lines::say(b" stray");
             cases_lines::say_number(d);
             cases_lines::say_number(cleared);
-            cases_lines::say_number(event as u16);
+            cases_lines::say_number(u16::from(event));
         }
-        Outcome::Denied(x) => cases_lines::say_denied(x),
-        _ => cases_lines::say(b" no stray"),
+        Ok(_) => cases_lines::say(b" no stray"),
+        Err(cause) => cases_lines::say_denied(u8::from(cause)),
     }
 }
 
@@ -102,10 +100,9 @@ fn compare_sheets(line: Line, reference: Sheet, device: Sheet) {
     let mut work = [65535u16; 2048];
     let mut trace = [255u8; 1023];
     let trace_only = cases_lines::flag(line, 3);
-    let o = comparison::compare(reference, device, trace_only, &mut work, &mut trace);
-    say_outcome(o);
+    say_outcome(comparison::compare(reference, device, trace_only, &mut work, &mut trace));
     cases_lines::say(b", trace");
-    cases_lines::say_front(&trace, cases_lines::number(line, 4) as usize);
+    cases_lines::say_front(&trace, usize::from(cases_lines::number(line, 4)));
     cases_lines::say(b", left");
     cases_lines::say_count(holding(&trace, 255));
     cases_lines::say(b", check");
@@ -113,19 +110,19 @@ fn compare_sheets(line: Line, reference: Sheet, device: Sheet) {
 }
 
 // Writes how many tests were judged, how many passed and failed, and the first that failed.
-fn say_verdicts(a: Suite, list: [u8; 1024]) {
-    match a {
-        Suite::Judged(n) => {
+fn say_verdicts(judged: Result<u16, Refusal>, list: &[u8]) {
+    match judged {
+        Ok(n) => {
             cases_lines::say(b" tests");
             cases_lines::say_number(n);
             cases_lines::say(b" passed");
-            cases_lines::say_count(holding(&list, 11));
+            cases_lines::say_count(holding(list, 11));
             cases_lines::say(b" failed");
-            cases_lines::say_count(holding(&list, 12));
+            cases_lines::say_count(holding(list, 12));
             cases_lines::say(b" first");
-            cases_lines::say_count(first_of(&list, 12));
+            cases_lines::say_count(first_of(list, 12));
         }
-        Suite::Denied(x) => cases_lines::say_denied(x),
+        Err(cause) => cases_lines::say_denied(u8::from(cause)),
     }
 }
 
@@ -133,18 +130,18 @@ fn say_verdicts(a: Suite, list: [u8; 1024]) {
 fn judge_sheets(line: Line, reference: Sheet, device: Sheet) {
     let mut list = [0u8; 1024];
     let trace_only = cases_lines::flag(line, 3);
-    let a = verdicts::judge_all(reference, device, trace_only, &mut list);
-    say_verdicts(a, list);
+    let judged = verdicts::judge_all(reference, device, trace_only, &mut list);
+    say_verdicts(judged, &list);
 }
 
 // Writes what two sheets are read as, and compares and judges them.
-fn test_read(line: Line, first: ReadSheet, second: ReadSheet) {
+fn test_read(line: Line, first: Result<Sheet, Refusal>, second: Result<Sheet, Refusal>) {
     cases_lines::say(b", read");
-    say_read(first);
+    say_read(&first);
     cases_lines::say(b" and");
-    say_read(second);
-    let reference = first.sheet;
-    let device = second.sheet;
+    say_read(&second);
+    let reference = first.unwrap_or(ZERO);
+    let device = second.unwrap_or(ZERO);
     cases_lines::say(b",");
     compare_sheets(line, reference, device);
     cases_lines::say(b",");
@@ -157,15 +154,12 @@ fn test_pair(line: Line) {
     let mut device = [0u8; 256];
     let p = cases_lines::small(line, 1);
     let q = cases_lines::small(line, 2);
-    let a = bound::write_pair(p, q, &mut reference, &mut device);
-    say_bounded(a);
-    match a {
-        Bounded::Lengths(r, d) => {
-            let first = read_front(reference, r);
-            let second = read_front(device, d);
-            test_read(line, first, second);
-        }
-        Bounded::Denied(_) => {}
+    let written = bound::write_pair(p, q, &mut reference, &mut device);
+    say_bounded(&written);
+    if let Ok(lengths) = written {
+        let first = read_front(&reference, lengths.reference);
+        let second = read_front(&device, lengths.device);
+        test_read(line, first, second);
     }
 }
 
@@ -175,8 +169,7 @@ fn test_pair(line: Line) {
 fn bytes_of(line: Line) -> [u8; 60] {
     let mut bytes = [0u8; 60];
     for i in 0..60 {
-        let x = cases_lines::small(line, i + 3);
-        bytes[i] = x;
+        bytes[i] = cases_lines::small(line, i + 3);
     }
     bytes
 }
@@ -185,8 +178,7 @@ fn bytes_of(line: Line) -> [u8; 60] {
 fn few(x: u16) -> usize
     ensures { result ≤ 60 }
 {
-    let n = x as usize;
-    if n < 60 { n } else { 60 }
+    usize::from(x).min(60)
 }
 
 // Writes a sheet that is accepted to a list of a line, and what the list then holds.
@@ -194,7 +186,12 @@ fn write_sheet(line: Line, sheet: Sheet)
     requires { sheet_fault sheet ≡ 0 }
 {
     let mut list = [255u8; 256];
-    let next = sheet_writer::put_sheet(&mut list, at_most(cases_lines::number(line, 1)), sheet);
+    let mut page = Page {
+        list: &mut list,
+        at: at_most(cases_lines::number(line, 1)),
+    };
+    sheet_writer::put_sheet(&mut page, sheet);
+    let next = page.at;
     cases_lines::say(b" to");
     cases_lines::say_count(next);
     cases_lines::say(b", list");
@@ -209,46 +206,43 @@ fn write_sheet(line: Line, sheet: Sheet)
 fn write_again(line: Line) {
     let bytes = bytes_of(line);
     let n = few(cases_lines::number(line, 2));
-    let a = sheet::read(&bytes[..n]);
-    if a.refusal != 0 {
-        cases_lines::say_denied(a.refusal);
-        return;
+    match sheet::read(&bytes[..n]) {
+        Ok(sheet) => write_sheet(line, sheet),
+        Err(cause) => cases_lines::say_denied(u8::from(cause)),
     }
-    write_sheet(line, a.sheet);
 }
 
 // ---- 5: a pair whose sheets are read and written again
 
 // In how many places two lists are alike.
-fn alike_in(list: [u8; 256], other: [u8; 256]) -> usize {
+fn alike_in(list: &[u8; 256], other: &[u8; 256]) -> usize {
     let mut count: usize = 0;
     for i in 0..256 {
-        count += cases_lines::alike(list[i], other[i]);
+        count += usize::from(list[i] == other[i]);
     }
     count
 }
 
 // Writes a sheet that is accepted anew, and how far it is as the call wrote it.
-fn hold_sheet(sheet: Sheet, written: [u8; 256])
+fn hold_sheet(sheet: Sheet, written: &[u8; 256])
     requires { sheet_fault sheet ≡ 0 }
 {
     let mut list = [0u8; 256];
-    let next = sheet_writer::put_sheet(&mut list, 0, sheet);
+    let mut page = Page::new(&mut list);
+    sheet_writer::put_sheet(&mut page, sheet);
+    let next = page.at;
     cases_lines::say(b" to");
     cases_lines::say_count(next);
     cases_lines::say(b" alike");
-    cases_lines::say_count(alike_in(list, written));
+    cases_lines::say_count(alike_in(&list, written));
 }
 
 // Reads the sheet of the first n bytes, and writes it again.
-fn hold_front(list: [u8; 256], n: u16) {
-    let m = at_most(n);
-    let a = sheet::read(&list[..m]);
-    if a.refusal != 0 {
-        cases_lines::say_denied(a.refusal);
-        return;
+fn hold_front(list: &[u8; 256], n: u16) {
+    match sheet::read(&list[..at_most(n)]) {
+        Ok(sheet) => hold_sheet(sheet, list),
+        Err(cause) => cases_lines::say_denied(u8::from(cause)),
     }
-    hold_sheet(a.sheet, list);
 }
 
 // Writes the pair of a line, and its sheets again.
@@ -257,14 +251,11 @@ fn hold_pair(line: Line) {
     let mut device = [0u8; 256];
     let p = cases_lines::small(line, 1);
     let q = cases_lines::small(line, 2);
-    let a = bound::write_pair(p, q, &mut reference, &mut device);
-    say_bounded(a);
-    match a {
-        Bounded::Lengths(r, d) => {
-            hold_front(reference, r);
-            hold_front(device, d);
-        }
-        Bounded::Denied(_) => {}
+    let written = bound::write_pair(p, q, &mut reference, &mut device);
+    say_bounded(&written);
+    if let Ok(lengths) = written {
+        hold_front(&reference, lengths.reference);
+        hold_front(&device, lengths.device);
     }
 }
 
@@ -280,28 +271,9 @@ fn answer(line: Line) {
     cases_lines::say(b"\n");
 }
 
-// The line after one byte more; at its end it is answered.
-fn next(line: Line, b: u8) -> Line {
-    let l = cases_lines::heard(line, b);
-    if cases_lines::is_end(line, b) {
-        answer(l);
-        return cases_lines::new_line();
-    }
-    l
-}
-
-// Answers every line.
-fn run_all(cases: &[u8]) {
-    let mut line = cases_lines::new_line();
-    for i in 0..cases.len() {
-        let l = next(line, cases[i]);
-        line = l;
-    }
-}
-
 // Reads the cases and answers them.
 fn main() {
     let mut space = io::large_buffer();
     let n = io::read_full(STDIN_FILENO, &mut space);
-    run_all(&space[..n]);
+    cases_lines::answer_lines(&space[..n], answer);
 }

@@ -10,7 +10,8 @@
 ghost use Rattle.std.specs.Prelude.{◌<◌};
 
 use cases_lines::Line;
-use scripts_spec::Scripts;
+use refusals::Refusal;
+use scripts_spec::Counts;
 use sheet_spec::Sheet;
 
 // The number of standard input.
@@ -65,30 +66,26 @@ fn large_sheet(which: u16) -> Sheet {
     bytes[4] = 1;
     bytes[5] = 12;
     bytes[6] = 32;
-    for i in 0..480 {
-        let x = node_byte(which, i);
-        bytes[i + 7] = x;
+    for (i, b) in bytes[7..].iter_mut().enumerate() {
+        *b = node_byte(which, i);
     }
-    let a = sheet::read(&bytes);
-    a.sheet
+    sheet::read(&bytes).unwrap_or(cases_samples::ZERO)
 }
 
 // ---- the sheets of a tray
 
 // The reference of samples/tray: 6 nodes, 8 events.
 fn tray_reference() -> Sheet {
-    let a = sheet::read(
+    sheet::read(
         b"\x00\x00\x00\x45\x01\x08\x06\x01\xFF\xFF\xFF\xFF\xFF\x00\xFF\x01\x00\x41\xFF\x02\xFF\xFF\x00\xFF\xFF\xFF\x01\x00\x12\xFF\xFF\x03\xFF\x00\xFF\xFF\xFF\x01\x00\x14\xFF\xFF\x04\xFF\x00\xFF\xFF\xFF\x01\x00\x14\xFF\xFF\xFF\x05\x00\xFF\xFF\xFF\x01\x00\x18\xFF\xFF\xFF\xFF\xFF\x00\xFF\xFF\x01\x00\x20",
-    );
-    a.sheet
+    ).unwrap_or(cases_samples::ZERO)
 }
 
 // The device of samples/tray: 9 nodes, 8 events.
 fn tray_device() -> Sheet {
-    let a = sheet::read(
+    sheet::read(
         b"\x00\x00\x00\x66\x01\x08\x09\x01\xFF\xFF\xFF\xFF\xFF\x00\xFF\x01\x00\x41\xFF\x02\xFF\xFF\x00\xFF\xFF\xFF\x01\x00\x12\xFF\xFF\x03\xFF\x00\xFF\xFF\xFF\x01\x00\x14\xFF\xFF\x04\xFF\x00\xFF\xFF\xFF\x01\x00\x14\xFF\xFF\xFF\x05\x00\xFF\xFF\xFF\x01\x00\x18\xFF\xFF\xFF\xFF\xFF\x06\xFF\xFF\x01\x00\x20\x07\xFF\xFF\xFF\xFF\xFF\x06\xFF\x01\x00\x41\xFF\x02\xFF\xFF\x08\xFF\xFF\xFF\x01\x00\x12\x07\xFF\xFF\xFF\xFF\xFF\xFF\x08\x01\x00\x01",
-    );
-    a.sheet
+    ).unwrap_or(cases_samples::ZERO)
 }
 
 // ---- a line
@@ -105,17 +102,33 @@ fn sheet_at(line: Line, which: usize, refusal: usize) -> Sheet {
     }
 }
 
-// Writes an answer: whether it is refused, and the three counts.
-fn say_scripts(a: Scripts) {
-    if a.refusal != 0 {
-        cases_lines::say_denied(a.refusal);
-    } else {
-        cases_lines::say(b" counted");
-    }
+// The counts of a refused call.
+const NONE: Counts = Counts {
+    walked: 0,
+    device: 0,
+    reference: 0,
+};
+
+// Writes the three counts.
+fn say_counts(counts: Counts) {
     cases_lines::say(b" |");
-    cases_lines::say_count(a.walked as usize);
-    cases_lines::say_count(a.device as usize);
-    cases_lines::say_count(a.reference as usize);
+    cases_lines::say_count(counts.walked as usize);
+    cases_lines::say_count(counts.device as usize);
+    cases_lines::say_count(counts.reference as usize);
+}
+
+// Writes an answer: whether it is refused, and the three counts.
+fn say_scripts(counted: Result<Counts, Refusal>) {
+    match counted {
+        Ok(counts) => {
+            cases_lines::say(b" counted");
+            say_counts(counts);
+        }
+        Err(cause) => {
+            cases_lines::say_denied(u8::from(cause));
+            say_counts(NONE);
+        }
+    }
 }
 
 // Counts the scripts that a line asks for.
@@ -128,28 +141,9 @@ fn answer(line: Line) {
 
 // ---- standard input
 
-// The line after one byte more; at its end it is answered.
-fn next(line: Line, b: u8) -> Line {
-    let l = cases_lines::heard(line, b);
-    if cases_lines::is_end(line, b) {
-        answer(l);
-        return cases_lines::new_line();
-    }
-    l
-}
-
-// Answers every line.
-fn run_all(cases: &[u8]) {
-    let mut line = cases_lines::new_line();
-    for i in 0..cases.len() {
-        let l = next(line, cases[i]);
-        line = l;
-    }
-}
-
 // Reads the cases and answers them.
 fn main() {
     let mut space = io::large_buffer();
     let n = io::read_full(STDIN_FILENO, &mut space);
-    run_all(&space[..n]);
+    cases_lines::answer_lines(&space[..n], answer);
 }

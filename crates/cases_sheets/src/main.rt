@@ -24,7 +24,10 @@
 ghost use Rattle.std.specs.Prelude.{◌≤◌};
 
 use cases_lines::Line;
-use sheet_spec::{ReadSheet, Row, Sheet};
+use cases_samples::ZERO;
+use refusals::Refusal;
+use sheet_spec::{Row, Sheet};
+use std::array;
 
 // The number of standard input.
 const STDIN_FILENO: i32 = 0;
@@ -32,17 +35,16 @@ const STDIN_FILENO: i32 = 0;
 // ---- a sample of 25 bytes, and the same with one or two places changed
 
 // The sample's bytes with x at place i.
-fn changed(bytes: [u8; 25], i: usize, x: u8) -> [u8; 25] {
-    let mut b = bytes;
+fn changed(mut bytes: [u8; 25], i: usize, x: u8) -> [u8; 25] {
     if i < 25 {
-        b[i] = x;
+        bytes[i] = x;
     }
-    b
+    bytes
 }
 
 // Reads the sample with x at place i and y at place j. Its bytes: length 21, version, E 4, N 2; at 7 the successors of
 // node 0, at 11 its C, at 12 its sets 1, 2, 4; at 18 the successors of node 1, at 22 its C, at 23 its set 1.
-fn sample_with(i: usize, x: u8, j: usize, y: u8) -> ReadSheet {
+fn sample_with(i: usize, x: u8, j: usize, y: u8) -> Result<Sheet, Refusal> {
     let bytes =
         *b"\x00\x00\x00\x15\x01\x04\x02\x01\x00\x00\x00\x03\x00\x01\x00\x02\x00\x04\x00\xFF\xFF\xFF\x01\x00\x01";
     let first = changed(bytes, i, x);
@@ -51,70 +53,42 @@ fn sample_with(i: usize, x: u8, j: usize, y: u8) -> ReadSheet {
 }
 
 // The sample as it is.
-fn sample() -> ReadSheet {
+fn sample() -> Result<Sheet, Refusal> {
     sample_with(0, 0, 0, 0)
 }
 
 // ---- changes of a kept sheet
 
 // The sheet with x as the successor of node v on event i.
-fn with_succ(s: Sheet, v: usize, i: usize, x: u8) -> Sheet {
-    let mut t = s;
-    if v < 32 {
-        let mut row = t.rows[v];
-        if i < 12 {
-            row.succ[i] = x;
-        }
-        t.rows[v] = row;
+fn with_succ(mut s: Sheet, v: usize, i: usize, x: u8) -> Sheet {
+    if v < 32 && i < 12 {
+        s.rows[v].succ[i] = x;
     }
-    t
+    s
 }
 
 // The sheet with x as the set at place j of node v.
-fn with_set(s: Sheet, v: usize, j: usize, x: u16) -> Sheet {
-    let mut t = s;
-    if v < 32 {
-        let mut row = t.rows[v];
-        if j < 16 {
-            row.sets[j] = x;
-        }
-        t.rows[v] = row;
+fn with_set(mut s: Sheet, v: usize, j: usize, x: u16) -> Sheet {
+    if v < 32 && j < 16 {
+        s.rows[v].sets[j] = x;
     }
-    t
+    s
 }
 
 // The sheet with x as the C of node v.
-fn with_count(s: Sheet, v: usize, x: u8) -> Sheet {
-    let mut t = s;
+fn with_count(mut s: Sheet, v: usize, x: u8) -> Sheet {
     if v < 32 {
-        let mut row = t.rows[v];
-        row.c = x;
-        t.rows[v] = row;
+        s.rows[v].c = x;
     }
-    t
-}
-
-// The sheet with another E.
-fn with_e(s: Sheet, x: u8) -> Sheet {
-    let mut t = s;
-    t.e = x;
-    t
-}
-
-// The sheet with another N.
-fn with_n(s: Sheet, x: u8) -> Sheet {
-    let mut t = s;
-    t.n = x;
-    t
+    s
 }
 
 // The sheet with x as the code of event i.
-fn with_code(s: Sheet, i: usize, x: u16) -> Sheet {
-    let mut t = s;
+fn with_code(mut s: Sheet, i: usize, x: u16) -> Sheet {
     if i < 12 {
-        t.codes[i] = x;
+        s.codes[i] = x;
     }
-    t
+    s
 }
 
 // ---- sheets of many nodes
@@ -156,13 +130,11 @@ fn link(p: Plan, v: usize, event: usize) -> u8 {
     if event != 0 {
         return 0;
     }
-    if v == base::wide(cut) {
+    if v == usize::from(cut) {
         return cut;
     }
-    if v < 255 {
-        if v + 1 < base::wide(p.n) {
-            return (v + 1) as u8;
-        }
+    if v < 255 && v + 1 < usize::from(p.n) {
+        return (v + 1) as u8;
     }
     0
 }
@@ -171,12 +143,12 @@ fn link(p: Plan, v: usize, event: usize) -> u8 {
 fn set_byte(k: usize) -> u8 {
     let sets =
         b"\x00\x03\x00\x05\x00\x06\x00\x09\x00\x0A\x00\x0C\x01\x01\x01\x02\x01\x04\x01\x08\x02\x01\x02\x02\x04\x01\x04\x02\x08\x01\x0C\x00";
-    if k < 32 { sets[k] } else { 0 }
+    sets.get(k).copied().unwrap_or(0)
 }
 
 // Byte k of node v of a plan.
 fn node_byte(p: Plan, v: usize, k: usize) -> u8 {
-    let e = base::wide(p.e);
+    let e = usize::from(p.e);
     if k < e {
         return link(p, v, k);
     }
@@ -192,7 +164,7 @@ fn code_byte(p: Plan, k: usize) -> u8 {
         return 1;
     }
     let event = k / 2;
-    if event == base::wide(p.twice) {
+    if event == usize::from(p.twice) {
         return 244;
     }
     if event < 12 { 244 + event as u8 } else { 0 }
@@ -203,7 +175,7 @@ fn codes_size(p: Plan) -> usize
     ensures { result ≤ 510 }
 {
     if p.version == 2 {
-        return base::wide(p.e) * 2;
+        return usize::from(p.e) * 2;
     }
     0
 }
@@ -213,8 +185,8 @@ fn plan_byte(p: Plan, i: usize) -> u8 {
     if i < 7 {
         return head_byte(p, i);
     }
-    let e = base::wide(p.e);
-    let c = base::wide(p.c);
+    let e = usize::from(p.e);
+    let c = usize::from(p.c);
     let size = e + 1 + c * 2;
     let codes = codes_size(p);
     let k = i - 7;
@@ -227,34 +199,26 @@ fn plan_byte(p: Plan, i: usize) -> u8 {
 
 // The first 2,048 bytes of the sheet of a plan whose nodes go on.
 fn plan_bytes(p: Plan) -> [u8; 2048] {
-    let mut bytes = [0u8; 2048];
-    for i in 0..2048 {
-        let x = plan_byte(p, i);
-        bytes[i] = x;
-    }
-    bytes
+    array::from_fn(|i| plan_byte(p, i))
 }
 
 // Reads the sheet of a plan.
-fn planned(p: Plan) -> ReadSheet {
-    let len = p.len as isize;
+fn planned(p: Plan) -> Result<Sheet, Refusal> {
     let bytes = plan_bytes(p);
-    let n = io::count(len, &bytes);
-    sheet::read(&bytes[..n])
+    sheet::read(&bytes[..usize::from(p.len).min(2048)])
 }
 
 // The largest sheet of a version, which has so many bytes: 12 events, 32 nodes and C 16.
-fn largest(version: u8, len: u16) -> ReadSheet {
-    let p = Plan {
-        version: version,
+fn largest(version: u8, len: u16) -> Result<Sheet, Refusal> {
+    planned(Plan {
+        version,
         e: 12,
         n: 32,
         c: 16,
         cut: 255,
-        len: len,
+        len,
         twice: 0,
-    };
-    planned(p)
+    })
 }
 
 // ---- what the places of an answer hold
@@ -267,108 +231,68 @@ struct Tally {
     counts: usize,
 }
 
-// 1 for equal bytes, 0 for others.
-fn alike(x: u8, y: u8) -> usize
-    ensures { result ≤ 1 }
-{
-    if x == y { 1 } else { 0 }
-}
-
-// 1 for 0, 0 for another set or code.
-fn empty(x: u16) -> usize
-    ensures { result ≤ 1 }
-{
-    if x == 0 { 1 } else { 0 }
-}
-
 // How many successors of a row hold x.
-fn succs_holding(row: Row, x: u8) -> usize
+fn succs_holding(row: &Row, x: u8) -> usize
     ensures { result ≤ 12 }
 {
-    let mut count: usize = 0;
-    for i in 0..12 {
-        let y = row.succ[i];
-        count += alike(y, x);
-    }
-    count
+    row.succ.iter().filter(|y| **y == x).count()
 }
 
 // How many sets of a row hold 0.
-fn sets_empty(row: Row) -> usize
+fn sets_empty(row: &Row) -> usize
     ensures { result ≤ 16 }
 {
-    let mut count: usize = 0;
-    for j in 0..16 {
-        let y = row.sets[j];
-        count += empty(y);
-    }
-    count
+    row.sets.iter().filter(|y| **y == 0).count()
 }
 
 // How many successors of a sheet hold x, and how many of its sets and Cs hold 0.
-fn tally_of(s: Sheet, x: u8) -> Tally {
-    let mut succs: usize = 0;
-    let mut sets: usize = 0;
-    let mut counts: usize = 0;
-    for v in 0..32 {
-        let row = s.rows[v];
+fn tally_of(s: &Sheet, x: u8) -> Tally {
+    let mut succs = 0;
+    let mut sets = 0;
+    let mut counts = 0;
+    for row in &s.rows {
         succs += succs_holding(row, x);
         sets += sets_empty(row);
-        counts += alike(row.c, 0);
+        counts += usize::from(row.c == 0);
     }
     Tally {
-        succs: succs,
-        sets: sets,
-        counts: counts,
+        succs,
+        sets,
+        counts,
     }
 }
 
 // How many codes hold 0.
-fn codes_empty(codes: [u16; 12]) -> usize {
-    let mut count: usize = 0;
-    for i in 0..12 {
-        let x = codes[i];
-        count += empty(x);
-    }
-    count
+fn codes_empty(codes: &[u16; 12]) -> usize {
+    codes.iter().filter(|x| **x == 0).count()
 }
 
 // ---- the numbers of a line
 
 // Number i of a line as a place.
 fn place(line: Line, i: usize) -> usize {
-    let x = cases_lines::number(line, i);
-    x as usize
+    usize::from(cases_lines::number(line, i))
 }
 
 // ---- what a line asks for
 
 // The numbers of a line after the first as bytes.
 fn spelt_bytes(line: Line) -> [u8; 63] {
-    let mut bytes = [0u8; 63];
-    for i in 0..63 {
-        let x = cases_lines::small(line, i + 1);
-        bytes[i] = x;
-    }
-    bytes
+    array::from_fn(|i| cases_lines::small(line, i + 1))
 }
 
 // Reads the bytes of a line.
-fn spelt(line: Line) -> ReadSheet {
+fn spelt(line: Line) -> Result<Sheet, Refusal> {
     let count = line.count;
-    if count < 1 {
-        return sheet::read(b"");
-    }
-    if count > 64 {
+    if count < 1 || count > 64 {
         return sheet::read(b"");
     }
     let bytes = spelt_bytes(line);
-    let n = io::count((count - 1) as isize, &bytes);
-    sheet::read(&bytes[..n])
+    sheet::read(&bytes[..count - 1])
 }
 
 // Reads the sample as a line changes it.
-fn sample_of(line: Line) -> ReadSheet {
+fn sample_of(line: Line) -> Result<Sheet, Refusal> {
     sample_with(
         place(line, 1),
         cases_lines::small(line, 2),
@@ -379,20 +303,14 @@ fn sample_of(line: Line) -> ReadSheet {
 
 // The plan of a line in a version.
 fn plan_of(line: Line, version: u8) -> Plan {
-    let e = cases_lines::small(line, 1);
-    let n = cases_lines::small(line, 2);
-    let c = cases_lines::small(line, 3);
-    let cut = cases_lines::small(line, 4);
-    let len = cases_lines::number(line, 5);
-    let twice = cases_lines::small(line, 6);
     Plan {
-        version: version,
-        e: e,
-        n: n,
-        c: c,
-        cut: cut,
-        len: len,
-        twice: twice,
+        version,
+        e: cases_lines::small(line, 1),
+        n: cases_lines::small(line, 2),
+        c: cases_lines::small(line, 3),
+        cut: cases_lines::small(line, 4),
+        len: cases_lines::number(line, 5),
+        twice: cases_lines::small(line, 6),
     }
 }
 
@@ -403,8 +321,8 @@ fn with_outside(s: Sheet, line: Line, i: usize, at: usize) -> Sheet {
     }
     let x = cases_lines::small(line, i + 3);
     match cases_lines::number(line, i) {
-        4 => with_e(s, x),
-        5 => with_n(s, x),
+        4 => Sheet { e: x, ..s },
+        5 => Sheet { n: x, ..s },
         6 => with_code(s, at, cases_lines::number(line, i + 3)),
         _ => s,
     }
@@ -430,27 +348,40 @@ fn with(s: Sheet, line: Line, i: usize) -> Sheet {
 
 // Writes E and N.
 fn say_size(e: u8, n: u8) {
-    cases_lines::say_count(base::wide(e));
-    cases_lines::say_count(base::wide(n));
+    cases_lines::say_count(usize::from(e));
+    cases_lines::say_count(usize::from(n));
 }
 
 // Writes the answer of reading.
-fn tell(a: ReadSheet) {
-    if a.refusal != 0 {
-        cases_lines::say(b" refused");
-        cases_lines::say_count(base::wide(a.refusal));
-    } else {
-        let s = a.sheet;
-        cases_lines::say(b" accepted");
-        say_size(s.e, s.n);
+fn tell(a: Result<Sheet, Refusal>) {
+    match a {
+        Ok(s) => {
+            cases_lines::say(b" accepted");
+            say_size(s.e, s.n);
+        }
+        Err(cause) => {
+            cases_lines::say(b" refused");
+            say_refusal(cause);
+        }
     }
 }
 
-// Writes the answer of checking the sheet of a reading after the changes of a line.
-fn tell_kept(a: ReadSheet, line: Line) {
-    let s = with(a.sheet, line, 1);
-    let t = with(s, line, 5);
-    cases_lines::say_count(base::wide(sheet::check(t)));
+// Writes the number of a refusal.
+fn say_refusal(cause: Refusal) {
+    cases_lines::say_count(usize::from(u8::from(cause)));
+}
+
+// The sheet of an answer, of zeros if it is refused.
+fn kept(a: Result<Sheet, Refusal>) -> Sheet {
+    a.unwrap_or(ZERO)
+}
+
+// Writes the answer of checking a sheet after the changes of a line.
+fn tell_kept(s: Sheet, line: Line) {
+    match sheet::check(with(with(s, line, 1), line, 5)) {
+        Ok(_) => cases_lines::say_count(0),
+        Err(cause) => say_refusal(cause),
+    }
 }
 
 // Writes a tally.
@@ -460,27 +391,18 @@ fn say_tally(p: Tally) {
     cases_lines::say_count(p.counts);
 }
 
-// Writes how many successors of an answer hold x, how many of its sets, Cs and codes hold 0, and E and N.
-fn tell_places(a: ReadSheet, x: u8) {
-    let s = a.sheet;
-    let codes = s.codes;
-    say_tally(tally_of(s, x));
-    cases_lines::say_count(codes_empty(codes));
+// Writes how many successors of a sheet hold x, how many of its sets, Cs and codes hold 0, and E and N.
+fn tell_places(s: Sheet, x: u8) {
+    say_tally(tally_of(&s, x));
+    cases_lines::say_count(codes_empty(&s.codes));
     say_size(s.e, s.n);
 }
 
-// Writes codes.
-fn say_codes(codes: [u16; 12]) {
-    for i in 0..12 {
-        cases_lines::say_number(codes[i]);
+// Writes the codes of a sheet.
+fn tell_codes(s: Sheet) {
+    for code in &s.codes {
+        cases_lines::say_number(*code);
     }
-}
-
-// Writes the codes of an answer.
-fn tell_codes(a: ReadSheet) {
-    let s = a.sheet;
-    let codes = s.codes;
-    say_codes(codes);
 }
 
 // Writes the set of a line with its event added; an event from 16 on has no place in a set, and nothing is written.
@@ -489,7 +411,7 @@ fn tell_added(line: Line) {
     let event = place(line, 2);
     if event < 16 {
         let added = events::with_event(set, event);
-        cases_lines::say_count(added as usize);
+        cases_lines::say_count(usize::from(added));
     }
 }
 
@@ -497,11 +419,11 @@ fn tell_added(line: Line) {
 fn answer_codes(line: Line) {
     match cases_lines::number(line, 0) {
         11 => tell(planned(plan_of(line, 2))),
-        12 => tell_kept(largest(2, 1471), line),
-        13 => tell_places(planned(plan_of(line, 2)), 255),
-        14 => tell_codes(spelt(line)),
-        15 => tell_codes(planned(plan_of(line, 2))),
-        _ => tell_kept(sheet::read(b""), cases_lines::new_line()),
+        12 => tell_kept(kept(largest(2, 1471)), line),
+        13 => tell_places(kept(planned(plan_of(line, 2))), 255),
+        14 => tell_codes(kept(spelt(line))),
+        15 => tell_codes(kept(planned(plan_of(line, 2)))),
+        _ => tell_kept(kept(sheet::read(b"")), cases_lines::new_line()),
     }
 }
 
@@ -511,11 +433,11 @@ fn answer(line: Line) {
         1 => tell(spelt(line)),
         2 => tell(sample_of(line)),
         3 => tell(planned(plan_of(line, 1))),
-        4 => tell_kept(sample(), line),
-        5 => tell_kept(largest(1, 1447), line),
-        6 => tell_places(sample_of(line), 0),
-        7 => tell_places(spelt(line), 255),
-        8 => tell_places(planned(plan_of(line, 1)), 255),
+        4 => tell_kept(kept(sample()), line),
+        5 => tell_kept(kept(largest(1, 1447)), line),
+        6 => tell_places(kept(sample_of(line)), 0),
+        7 => tell_places(kept(spelt(line)), 255),
+        8 => tell_places(kept(planned(plan_of(line, 1))), 255),
         10 => tell_added(line),
         _ => answer_codes(line),
     }
@@ -524,28 +446,9 @@ fn answer(line: Line) {
 
 // ---- standard input
 
-// The line after one byte more; at its end it is answered.
-fn next(line: Line, b: u8) -> Line {
-    let l = cases_lines::heard(line, b);
-    if cases_lines::is_end(line, b) {
-        answer(l);
-        return cases_lines::new_line();
-    }
-    l
-}
-
-// Answers every line.
-fn run_all(cases: &[u8]) {
-    let mut line = cases_lines::new_line();
-    for i in 0..cases.len() {
-        let l = next(line, cases[i]);
-        line = l;
-    }
-}
-
 // Reads the cases and answers them.
 fn main() {
     let mut space = io::large_buffer();
     let n = io::read_full(STDIN_FILENO, &mut space);
-    run_all(&space[..n]);
+    cases_lines::answer_lines(&space[..n], answer);
 }

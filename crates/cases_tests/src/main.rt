@@ -17,9 +17,10 @@
 ghost use Rattle.std.specs.Prelude.{◌≤◌};
 
 use cases_lines::Line;
+use refusals::Refusal;
 use sheet_spec::Sheet;
 use tests_spec::{Answer, Report, Run, Stepped};
-use verdicts_spec::{Suite, Verdict};
+use verdicts_spec::Verdict;
 
 // The number of standard input.
 const STDIN_FILENO: i32 = 0;
@@ -35,15 +36,15 @@ fn sheet_at(line: Line, which: usize, refusal: usize) -> Sheet {
 }
 
 // Writes an answer.
-fn say_answer(a: Answer) {
-    match a {
+fn say_answer(answer: Answer) {
+    match answer {
         Answer::Going(set) => {
             cases_lines::say(b" going");
             cases_lines::say_number(set);
         }
         Answer::Stray(event) => {
             cases_lines::say(b" stray");
-            cases_lines::say_number(event as u16);
+            cases_lines::say_number(u16::from(event));
         }
         Answer::Refused(set) => {
             cases_lines::say(b" refused");
@@ -51,31 +52,29 @@ fn say_answer(a: Answer) {
         }
         Answer::Passed => cases_lines::say(b" passed"),
         Answer::Inconclusive => cases_lines::say(b" inconclusive"),
-        Answer::Denied(x) => cases_lines::say_denied(x),
+        Answer::Denied(number) => cases_lines::say_denied(number),
     }
 }
 
 // Writes an answer and the record beside it.
-fn say_stepped(s: Stepped) {
-    let a = s.answer;
-    let run = s.run;
-    say_answer(a);
+fn say_stepped(stepped: Stepped) {
+    let run = stepped.run;
+    say_answer(stepped.answer);
     cases_lines::say(b" |");
     cases_lines::say_number(run.k);
     cases_lines::say_number(run.h);
-    cases_lines::say_number(run.trace_only as u16);
-    cases_lines::say_number(run.ended as u16);
-    cases_lines::say_number(run.node as u16);
+    cases_lines::say_number(u16::from(run.trace_only));
+    cases_lines::say_number(u16::from(run.ended));
+    cases_lines::say_number(u16::from(run.node));
     cases_lines::say_number(run.depth);
     cases_lines::say(b";");
 }
 
 // The report that a number says.
 fn report_of(x: u16) -> Report {
-    if x < 256 {
-        Report::Event(x as u8)
-    } else {
-        Report::Blocked
+    match u8::try_from(x) {
+        Ok(event) => Report::Event(event),
+        Err(_) => Report::Blocked,
     }
 }
 
@@ -112,7 +111,7 @@ fn report_once(line: Line) {
 fn numbers_of(line: Line) -> usize
     ensures { result ≤ 32 }
 {
-    if line.count < 32 { line.count } else { 32 }
+    line.count.min(32)
 }
 
 // Makes every report of a line in the test that it opens.
@@ -130,11 +129,9 @@ fn report_each(line: Line) {
 
 // The record after the report of a line was made n times in the test that it opens.
 fn record_after(line: Line, s: Sheet, n: u16) -> Run {
-    let first = opened(line);
-    let mut run = first.run;
-    for i in 0..n {
-        let next = tests::step(s, run, report_of(cases_lines::number(line, 7)));
-        run = next.run;
+    let mut run = opened(line).run;
+    for _ in 0..n {
+        run = tests::step(s, run, report_of(cases_lines::number(line, 7))).run;
     }
     run
 }
@@ -156,9 +153,9 @@ fn give_verdict(line: Line) {
         cases_lines::number(line, 5),
         cases_lines::flag(line, 6),
     ) {
-        Verdict::Passes => cases_lines::say(b" passes"),
-        Verdict::Fails => cases_lines::say(b" fails"),
-        Verdict::Denied(x) => cases_lines::say_denied(x),
+        Ok(Verdict::Passes) => cases_lines::say(b" passes"),
+        Ok(Verdict::Fails) => cases_lines::say(b" fails"),
+        Err(refusal) => cases_lines::say_denied(u8::from(refusal)),
     }
 }
 
@@ -166,33 +163,22 @@ fn give_verdict(line: Line) {
 fn length(line: Line, i: usize) -> usize
     ensures { result ≤ 16 }
 {
-    let x = cases_lines::number(line, i) as usize;
-    if x < 16 { x } else { 16 }
-}
-
-// Writes a place of a list.
-fn say_place(x: u8) {
-    cases_lines::say_number(x as u16);
-}
-
-// Writes the places of a list.
-fn say_places(list: [u8; 16]) {
-    for i in 0..16 {
-        say_place(list[i]);
-    }
+    usize::from(cases_lines::number(line, i)).min(16)
 }
 
 // Writes the answer for all tests, and the places of its list.
-fn say_suite(a: Suite, list: [u8; 16]) {
-    match a {
-        Suite::Judged(n) => {
+fn say_suite(judged: Result<u16, Refusal>, list: [u8; 16]) {
+    match judged {
+        Ok(n) => {
             cases_lines::say(b" judged");
             cases_lines::say_number(n);
         }
-        Suite::Denied(x) => cases_lines::say_denied(x),
+        Err(refusal) => cases_lines::say_denied(u8::from(refusal)),
     }
     cases_lines::say(b" |");
-    say_places(list);
+    for place in list {
+        cases_lines::say_number(u16::from(place));
+    }
 }
 
 // Judges all tests of the two sheets of a line at once.
@@ -201,9 +187,9 @@ fn judge_all(line: Line) {
     let device = sheet_at(line, 3, 4);
     let trace_only = cases_lines::flag(line, 5);
     let n = length(line, 6);
-    let mut list = [255u8; 16];
-    let a = verdicts::judge_all(reference, device, trace_only, &mut list[..n]);
-    say_suite(a, list);
+    let mut list = [255; 16];
+    let judged = verdicts::judge_all(reference, device, trace_only, &mut list[..n]);
+    say_suite(judged, list);
 }
 
 // ---- standard input
@@ -221,28 +207,9 @@ fn answer(line: Line) {
     cases_lines::say(b"\n");
 }
 
-// The line after one byte more; at its end it is answered.
-fn next(line: Line, b: u8) -> Line {
-    let l = cases_lines::heard(line, b);
-    if cases_lines::is_end(line, b) {
-        answer(l);
-        return cases_lines::new_line();
-    }
-    l
-}
-
-// Answers every line.
-fn run_all(cases: &[u8]) {
-    let mut line = cases_lines::new_line();
-    for i in 0..cases.len() {
-        let l = next(line, cases[i]);
-        line = l;
-    }
-}
-
 // Reads the cases and answers them.
 fn main() {
     let mut space = io::large_buffer();
     let n = io::read_full(STDIN_FILENO, &mut space);
-    run_all(&space[..n]);
+    cases_lines::answer_lines(&space[..n], answer);
 }

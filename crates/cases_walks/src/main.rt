@@ -13,7 +13,7 @@
 ghost use Rattle.std.specs.Prelude.{◌≤◌, ◌<◌};
 
 use cases_lines::Line;
-use load_spec::Walked;
+use refusals::Refusal;
 use sheet_spec::Sheet;
 
 // The number of standard input.
@@ -81,20 +81,19 @@ fn large_sheet(which: u16) -> Sheet {
     bytes[4] = 1;
     bytes[5] = 12;
     bytes[6] = 32;
-    for i in 0..480 {
-        let x = node_byte(which, i);
-        bytes[i + 7] = x;
+    for (i, b) in bytes[7..].iter_mut().enumerate() {
+        *b = node_byte(which, i);
     }
-    let a = sheet::read(&bytes);
-    a.sheet
+    sheet::read(&bytes).unwrap_or(cases_samples::ZERO)
 }
 
 // ---- a sheet of two nodes and two events: event 0 leads to a node without initials, event 1 back to node 0
 
 // Sheet 30.
 fn ending_sheet() -> Sheet {
-    let a = sheet::read(b"\x00\x00\x00\x0D\x01\x02\x02\x01\x00\x01\x00\x01\xFF\xFF\x01\x00\x00");
-    a.sheet
+    sheet::read(b"\x00\x00\x00\x0D\x01\x02\x02\x01\x00\x01\x00\x01\xFF\xFF\x01\x00\x00").unwrap_or(
+        cases_samples::ZERO,
+    )
 }
 
 // ---- the numbers of a line
@@ -111,8 +110,8 @@ fn sheet_of(line: Line) -> Sheet {
 
 // The seed of a line.
 fn seed_of(line: Line) -> u32 {
-    let high = cases_lines::number(line, 2) as u32;
-    let low = cases_lines::number(line, 3) as u32;
+    let high = u32::from(cases_lines::number(line, 2));
+    let low = u32::from(cases_lines::number(line, 3));
     high * 65536 + low
 }
 
@@ -120,8 +119,7 @@ fn seed_of(line: Line) -> u32 {
 fn count_at(line: Line, i: usize) -> usize
     ensures { result ≤ 8192 }
 {
-    let x = cases_lines::number(line, i) as usize;
-    if x < 8192 { x } else { 8192 }
+    usize::from(cases_lines::number(line, i)).min(8192)
 }
 
 // What place i of a line's list holds before the call.
@@ -130,106 +128,57 @@ fn before(line: Line, i: usize) -> u8
 {
     let first = cases_lines::small(line, 6);
     if cases_lines::flag(line, 7) {
-        return (((first as usize) + i * 7) % 256) as u8;
+        return ((usize::from(first) + i * 7) % 256) as u8;
     }
     first
 }
 
 // The places of a line's list before the call.
 fn places(line: Line) -> [u8; 8192] {
-    let mut list = [0u8; 8192];
-    for i in 0..8192 {
-        let x = before(line, i);
-        list[i] = x;
-    }
-    list
+    std::array::from_fn(|i| before(line, i))
 }
 
 // ---- what is written
 
 // Writes an answer.
-fn say_walked(a: Walked) {
-    match a {
-        Walked::Length(l) => {
+fn say_walked(walked: Result<u16, Refusal>) {
+    match walked {
+        Ok(length) => {
             cases_lines::say(b" length");
-            cases_lines::say_number(l);
+            cases_lines::say_number(length);
         }
-        Walked::Denied(m) => cases_lines::say_denied(m),
-    }
-}
-
-// Writes what a place holds.
-fn say_place(x: u8) {
-    cases_lines::say_number(x as u16);
-}
-
-// Writes what the first n places hold.
-fn say_front(list: [u8; 8192], n: usize)
-    requires { n ≤ 8192 }
-{
-    for i in 0..n {
-        say_place(list[i]);
+        Err(cause) => cases_lines::say_denied(u8::from(cause)),
     }
 }
 
 // Writes what place i holds, if there is one.
-fn say_at(list: [u8; 8192], i: usize) {
-    if i < 8192 {
-        say_place(list[i]);
+fn say_at(list: &[u8], i: usize) {
+    if let Some(x) = list.get(i) {
+        cases_lines::say_number(u16::from(*x));
     }
 }
 
 // Writes what the places hold that a line names.
-fn say_named(list: [u8; 8192], line: Line) {
-    let n = line.count;
-    for i in 9..n {
+fn say_named(list: &[u8], line: Line) {
+    for i in 9..line.count {
         say_at(list, count_at(line, i));
     }
 }
 
-// 1 for equal bytes, 0 for others.
-fn alike(x: u8, y: u8) -> usize
-    ensures { result ≤ 1 }
-{
-    if x == y { 1 } else { 0 }
-}
-
 // How many places are as before.
-fn left(list: [u8; 8192], line: Line) -> usize {
-    let mut count: usize = 0;
-    for i in 0..8192 {
-        let x = before(line, i);
-        count += alike(list[i], x);
-    }
-    count
-}
-
-// A check number with a byte more.
-fn with_byte(check: usize, x: u8) -> usize
-    requires { check < 65521 }
-    ensures { result < 65521 }
-{
-    (check * 31 + (x as usize)) % 65521
-}
-
-// The check number of all places.
-fn check_of(list: [u8; 8192]) -> usize {
-    let mut check: usize = 0;
-    for i in 0..8192 {
-        check = with_byte(check, list[i]);
-    }
-    check
+fn left(list: &[u8; 8192], line: Line) -> usize {
+    (0..8192).filter(|i| list[*i] == before(line, *i)).count()
 }
 
 // Writes what the list of a line then holds.
-fn say_list(list: [u8; 8192], line: Line) {
+fn say_list(list: &[u8; 8192], line: Line) {
     cases_lines::say(b", places");
-    say_front(list, count_at(line, 8));
+    cases_lines::say_front(list, count_at(line, 8));
     say_named(list, line);
     cases_lines::say(b", left");
     cases_lines::say_count(left(list, line));
     cases_lines::say(b", check");
-    cases_lines::say_count(check_of(list));
+    cases_lines::say_count(cases_lines::check_of(list, 0));
 }
 
 // ---- standard input
@@ -245,32 +194,13 @@ fn answer(line: Line) {
         &mut list[..n],
     );
     say_walked(a);
-    say_list(list, line);
+    say_list(&list, line);
     cases_lines::say(b"\n");
-}
-
-// The line after one byte more; at its end it is answered.
-fn next(line: Line, b: u8) -> Line {
-    let l = cases_lines::heard(line, b);
-    if cases_lines::is_end(line, b) {
-        answer(l);
-        return cases_lines::new_line();
-    }
-    l
-}
-
-// Answers every line.
-fn run_all(cases: &[u8]) {
-    let mut line = cases_lines::new_line();
-    for i in 0..cases.len() {
-        let l = next(line, cases[i]);
-        line = l;
-    }
 }
 
 // Reads the cases and answers them.
 fn main() {
     let mut space = io::large_buffer();
     let n = io::read_full(STDIN_FILENO, &mut space);
-    run_all(&space[..n]);
+    cases_lines::answer_lines(&space[..n], answer);
 }

@@ -1,9 +1,9 @@
 -- Nothing to believe: laws. What follows from the claim alone, of the bench's definitions only the numbers of answers
 -- opened: its fields are used up to their bounds, so that a claim that said less, by one test or one event or of fewer
 -- sheets, would not give them. (`Claim.violated` and `Claim.counted` are so used by the laws of what `compare` prints.)
-use Rattle.std.specs.Prelude.{◌≡◌, ◌⊎◌, ◌↔◌, Bool, true, List, ℕ, ◌-◌, ◌*◌, ◌≤◌, ◌<◌, length, take}
+use Rattle.std.specs.Prelude.{◌≡◌, ◌⊎◌, ◌↔◌, Bool, true, List, ℕ, ◌-◌, ◌*◌, ◌≤◌, ◌<◌, length, take, Result, Ok, Err}
 use Rattle.std.proofs.Math.Path.{refl, sym}
-use Rattle.std.proofs.Common.{ap, ◌∙◌, inl, inr, arith}
+use Rattle.std.proofs.Common.{◌∙◌, inl, inr, arith}
 use Rattle.std.proofs.Math.ListN.{get_or}
 use Rattle.base.proofs.Truth.{lt_or_ge}
 use Rattle.walks.specs.Order.{Lex}
@@ -17,7 +17,7 @@ use Rattle.verdicts_spec.proofs.VerdictLaws.{verdict_0}
 use Rattle.verdicts_spec.specs.Numbers.{judged, suited}
 use Rattle.verdicts_spec.specs.Suites.{verdict_number, suite_of, verdicts_after}
 use Rattle.comparison_spec.specs.declared.Outcome.{Outcome}
-use Rattle.comparison_spec.specs.declared.Outcome.TheVariants.{Refines, Stray, Refusal, Denied}
+use Rattle.comparison_spec.specs.declared.Outcome.TheVariants.{Refines, Stray, Refusal}
 use Rattle.comparison_spec.specs.Comparison.{compare_fault, outcome_of}
 use Rattle.comparison_spec.proofs.CallLaws.{compare_0}
 use Rattle.comparison_spec.specs.Numbers.{compared}
@@ -31,16 +31,15 @@ pub judged_claimed : Demand3 → (trace_only : Bool) (P Q : Sheet) (k : ℕ) →
 judged_claimed d trace_only P Q k z = let o = ((verdict_0 P Q k).0 z).0 in d trace_only P Q (inl o.0.0) (inl o.0.1) o.1
 
 -- the two words differ
-passes_fails : ¬ (Passes ≡ Fails)
-unfolding judged
-passes_fails e = let z : (judged Passes).kind ≡ (judged Fails).kind = ap (λ (v : Verdict). (judged v).kind) e in omega arith
+passes_fails : ¬ (◌≡◌ {A = Result Verdict ℕ} (Ok Passes) (Ok Fails))
+passes_fails e = cc
 
 module _ {trace_only : Bool} {P Q : Sheet} (c : Claim trace_only P Q) where
   -- every test up to 1,023: "passes" exactly if no run of it can end failed
-  pub passes_exactly : (k : ℕ) → k ≤ 1023 → (verdict_of trace_only P Q k ≡ Passes) ↔ (¬ FailsTest trace_only P Q k)
+  pub passes_exactly : (k : ℕ) → k ≤ 1023 → (verdict_of trace_only P Q k ≡ Ok Passes) ↔ (¬ FailsTest trace_only P Q k)
   passes_exactly k l = (λ p f. passes_fails (sym p ∙ (c.fails k l).1 f), λ n. go n (c.judges k l))
     where
-      go : ¬ FailsTest trace_only P Q k → (verdict_of trace_only P Q k ≡ Passes) ⊎ (verdict_of trace_only P Q k ≡ Fails) → verdict_of trace_only P Q k ≡ Passes
+      go : ¬ FailsTest trace_only P Q k → (verdict_of trace_only P Q k ≡ Ok Passes) ⊎ (verdict_of trace_only P Q k ≡ Ok Fails) → verdict_of trace_only P Q k ≡ Ok Passes
       go n (inl p) = p
       go n (inr f) = absurd (n ((c.fails k l).0 f))
 
@@ -60,7 +59,7 @@ module _ {trace_only : Bool} {P Q : Sheet} (c : Claim trace_only P Q) where
       all : AllJudged trace_only P Q (verdicts_after trace_only P Q out)
       all = (c.suite out h).1
 
-      go : (verdict_of trace_only P Q k ≡ Passes) ⊎ (verdict_of trace_only P Q k ≡ Fails) → get_or (verdicts_after trace_only P Q out) k 0 ≡ (judged (verdict_of trace_only P Q k)).kind
+      go : (verdict_of trace_only P Q k ≡ Ok Passes) ⊎ (verdict_of trace_only P Q k ≡ Ok Fails) → get_or (verdicts_after trace_only P Q out) k 0 ≡ (judged (verdict_of trace_only P Q k)).kind
       go (inl p) = rw p ((all.passed k l).1 p)
       go (inr f) = rw f ((all.failed k l).1 ((c.fails k (omega (arith, l, c.few))).0 f))
 
@@ -70,7 +69,7 @@ module _ {trace_only : Bool} {P Q : Sheet} (c : Claim trace_only P Q) where
   unfolding verdict_number judged
   judged_once out other h a k l = go (c.judges k (omega (arith, l, c.few))) ∙ sym (place_exactly out h k l)
     where
-      go : (verdict_of trace_only P Q k ≡ Passes) ⊎ (verdict_of trace_only P Q k ≡ Fails) → get_or other k 0 ≡ (judged (verdict_of trace_only P Q k)).kind
+      go : (verdict_of trace_only P Q k ≡ Ok Passes) ⊎ (verdict_of trace_only P Q k ≡ Ok Fails) → get_or other k 0 ≡ (judged (verdict_of trace_only P Q k)).kind
       go (inl p) = rw p ((a.passed k l).1 p)
       go (inr f) = rw f ((a.failed k l).1 ((c.fails k (omega (arith, l, c.few))).0 f))
 
@@ -95,21 +94,21 @@ module _ {trace_only : Bool} {P Q : Sheet} (c : Claim trace_only P Q) where
   unfolding compared
   compared_exactly work trace l = (none (outcome_of trace_only P Q work trace) refl, (λ e. (c.refined work trace l).0 (says (outcome_of trace_only P Q work trace) e refl), λ r. rw ((c.refined work trace l).1 r).1))
     where
-      none : (o : Outcome) → outcome_of trace_only P Q work trace ≡ o → (compared o).refusal ≡ 0
-      none (Refines k) e = refl
-      none (Stray d k i) e = refl
-      none (Refusal d k X A) e = refl
-      none (Denied m) e = absurd (c.answers work trace l m e)
+      none : (o : Result Outcome ℕ) → outcome_of trace_only P Q work trace ≡ o → (compared o).refusal ≡ 0
+      none (Ok (Refines k)) e = refl
+      none (Ok (Stray d k i)) e = refl
+      none (Ok (Refusal d k X A)) e = refl
+      none (Err m) e = absurd (c.answers work trace l m e)
 
-      says : (o : Outcome) → (compared o).kind ≡ 21 → outcome_of trace_only P Q work trace ≡ o → (k : ℕ) × (outcome_of trace_only P Q work trace ≡ Refines k)
-      says (Refines k) z e = (k, e)
-      says (Stray d k i) z e = absurd (omega arith)
-      says (Refusal d k X A) z e = absurd (omega arith)
-      says (Denied m) z e = absurd (omega arith)
+      says : (o : Result Outcome ℕ) → (compared o).kind ≡ 21 → outcome_of trace_only P Q work trace ≡ o → (k : ℕ) × (outcome_of trace_only P Q work trace ≡ Ok (Refines k))
+      says (Ok (Refines k)) z e = (k, e)
+      says (Ok (Stray d k i)) z e = absurd (omega arith)
+      says (Ok (Refusal d k X A)) z e = absurd (omega arith)
+      says (Err m) z e = absurd (omega arith)
 
-module _ {trace_only : Bool} {P Q : Sheet} {o : Outcome} {after : List ℕ} (v : Violated trace_only P Q o after) where
+module _ {trace_only : Bool} {P Q : Sheet} {o : Result Outcome ℕ} {after : List ℕ} (v : Violated trace_only P Q o after) where
   -- d is the only number of a test that fails after all before it passed
-  pub first_only : (k : ℕ) → verdict_of trace_only P Q k ≡ Fails → ((j : ℕ) → j < k → verdict_of trace_only P Q j ≡ Passes) → k ≡ v.d
+  pub first_only : (k : ℕ) → verdict_of trace_only P Q k ≡ Ok Fails → ((j : ℕ) → j < k → verdict_of trace_only P Q j ≡ Ok Passes) → k ≡ v.d
   first_only k f p = go (lt_or_ge k v.d) (lt_or_ge v.d k)
     where
       go : (k < v.d) ⊎ (v.d ≤ k) → (v.d < k) ⊎ (k ≤ v.d) → k ≡ v.d

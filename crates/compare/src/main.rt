@@ -20,9 +20,7 @@ fn main() {
     let mut space = io::buffer();
     let n = io::read_full(STDIN_FILENO, &mut space);
     let text = compare_lines::compare_text(&space[..n]);
-    let bytes = text.bytes;
-    let len = text.len;
-    if !io::write_all(STDOUT_FILENO, &bytes[..len]) {
+    if !io::write_all(STDOUT_FILENO, text::front(&text.bytes, text.len)) {
         unwritten();
     }
 }

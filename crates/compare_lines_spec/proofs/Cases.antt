@@ -1,6 +1,6 @@
 -- Nothing to believe: cases. Texts of inputs, one for each kind of line. (01's example, and every text that names a
 -- refused probe, compute through the probe lists and stand in the crate `cases_worked`.)
-use Rattle.std.specs.Prelude.{◌≡◌, refl, List, [], ◌∷◌, ◌++◌, map, ℕ, replicate}
+use Rattle.std.specs.Prelude.{◌≡◌, refl, List, [], ◌∷◌, ◌++◌, map, ℕ, replicate, Ok}
 use Rattle.base.specs.Count.{count}
 use Rattle.base.specs.Range.{all, any, first}
 use Rattle.base.specs.Table.{up_to}
@@ -74,6 +74,6 @@ unfolding inputs texts example_device coded_reference coded_device only_zero onl
 texts_hold = refl
 
 -- the lines of an outcome that names a refused probe
-pub refusal_holds : outcome_lines (Refusal 5 8 2 1) (0 ∷ 1 ∷ 0 ∷ 11 ∷ 0 ∷ 7 ∷ []) ≡ ascii "violates after 5 cleared 8\ntrace 0 1 0 11 0\nrefused 2 by 1\n"
+pub refusal_holds : outcome_lines (Ok (Refusal 5 8 2 1)) (0 ∷ 1 ∷ 0 ∷ 11 ∷ 0 ∷ 7 ∷ []) ≡ ascii "violates after 5 cleared 8\ntrace 0 1 0 11 0\nrefused 2 by 1\n"
 unfolding outcome_lines number_line violates_line event_list trace_line refused_probe_line decimal decimal_in
 refusal_holds = refl

@@ -1,9 +1,9 @@
 -- Nothing to believe: laws. How long the text can be: at most 3,184 bytes, so that it always fits.
-use Rattle.std.specs.Prelude.{◌≡◌, Bool, ◌&&◌, cond, List, ◌++◌, eqb, ltb, take}
+use Rattle.std.specs.Prelude.{◌≡◌, Bool, ◌&&◌, cond, List, ◌++◌, eqb, ltb, take, Option, Some, None, Ok, Err}
 use Rattle.std.proofs.Math.Path.{refl, sym}
 use Rattle.std.proofs.Common.{◌∙◌, inl, inr, arith, length-append, pow_mono, ltb-true}
 use Rattle.std.proofs.Math.Bool.{true, false}
-use Prim.Native.Nat.{ℕ, zero, suc, ◌+◌, ◌-◌, ◌*◌, ◌^◌, ◌≤◌, ◌<◌}
+use Prim.Native.Nat.{ℕ, zero, suc, ◌*◌, ◌^◌, ◌≤◌, ◌<◌}
 use Rattle.std.proofs.Math.Nat.{le_trans}
 use Rattle.std.proofs.Math.ListN.{length, get_or, length-replicate}
 use Rattle.base.proofs.Count.{count_le}
@@ -24,14 +24,13 @@ use Rattle.sheet_spec.specs.Refusals.{sheet_fault, Agree, PairWays}
 use Rattle.sheet_spec.proofs.PairFaults.{pair_ways}
 use Rattle.sheet_spec.proofs.SoundLaws.{nodes_most, check_sound}
 use Rattle.probes_spec.specs.declared.Missed.{Missed}
-use Rattle.probes_spec.specs.declared.Missed.TheVariants.{Nothing, Found}
 use Rattle.probes_spec.specs.Probes.{probes}
 use Rattle.probes_spec.proofs.ProbeLaws.{probe_small}
 use Rattle.probes_spec.specs.FirstMissed.{first_missed}
 use Rattle.probes_spec.proofs.FirstMissedLaws.{missed_found}
 use Rattle.events.specs.Sets.{has}
 use Rattle.refinement_spec.specs.ViolatingPairs.{strays, has_stray, first_stray, violating}
-use Rattle.comparison_spec.specs.declared.Outcome.TheVariants.{Refines, Stray, Denied}
+use Rattle.comparison_spec.specs.declared.Outcome.TheVariants.{Refines, Stray}
 use Rattle.comparison_spec.proofs.CallLaws.{compare_11, compare_19, compare_fits}
 use Rattle.comparison_spec.specs.Comparison.{pair_count, nearest, nearest_trace, cleared_of, last_row, refusal_named, named, comparison_of, compare_fault, outcome_of, trace_after}
 use Rattle.text_spec.specs.Lines.{ascii, decimal, number_line, event_list, trace_line}
@@ -140,7 +139,7 @@ module _ (P Q : Sheet) (h_p : sheet_fault P ≡ 0) (h_q : sheet_fault Q ≡ 0) w
         (check_sound Q h_q).narrow (walk (graph Q) 0 (pair_trace (graph P) (graph Q) (violating trace_only P Q))) j w.in_d l
 
     -- what a refusal names has at most four digits
-    found_small : (r q : Row) → ((j : ℕ) → j < q.c → acceptance q j < 2 ^ Q.e) → (p a : ℕ) → first_missed (acceptances r) P.e (acceptances q) ≡ Found p a
+    found_small : (r q : Row) → ((j : ℕ) → j < q.c → acceptance q j < 2 ^ Q.e) → (p a : ℕ) → first_missed (acceptances r) P.e (acceptances q) ≡ Some (record { probe = p; acceptance = a })
         → (p < 10000) × (a < 10000)
     unfolding acceptances
     found_small r q narrow p a e =
@@ -156,19 +155,19 @@ module _ (P Q : Sheet) (h_p : sheet_fault P ≡ 0) (h_q : sheet_fault Q ≡ 0) w
         omega (arith, length-append (violates_line d c) (told ++ end), length-append told end, violates_length d c (omega arith) (omega arith), s, l)
 
     named_length : (d c : ℕ) (r q : Row) → d ≤ 1024 → c ≤ 1024 → ((j : ℕ) → j < q.c → acceptance q j < 2 ^ Q.e) → (t : List ℕ) → length (trace_line (take d t)) ≤ 3075
-        → length (outcome_lines (named d c P.e r q) t) ≤ 3129
+        → length (outcome_lines (Ok (named d c P.e r q)) t) ≤ 3129
     unfolding named outcome_lines refusal_named
     named_length d c r q h k narrow t s = go (has_stray P.e r q) (first_missed (acceptances r) P.e (acceptances q)) refl
       where
-        go : (b : Bool) (m : Missed) → first_missed (acceptances r) P.e (acceptances q) ≡ m
-            → length (outcome_lines (cond b (Stray d c (first_stray P.e r q)) (refusal_named d c m)) t) ≤ 3129
+        go : (b : Bool) (m : Option Missed) → first_missed (acceptances r) P.e (acceptances q) ≡ m
+            → length (outcome_lines (Ok (cond b (Stray d c (first_stray P.e r q)) (refusal_named d c m))) t) ≤ 3129
         go true m e =
             three_length d c (trace_line (take d t)) (number_line (ascii "stray ") (first_stray P.e r q)) h k s
             (omega (arith, number_length (ascii "stray ") 1 (first_stray P.e r q) (stray_small P.e r q)))
-        go false Nothing e = three_length d c (trace_line (take d t)) (refused_probe_line 0 0) h k s (refused_length 0 0 (omega arith) (omega arith))
-        go false (Found p a) e =
-            let w = found_small r q narrow p a e in
-            three_length d c (trace_line (take d t)) (refused_probe_line p a) h k s (refused_length p a w.0 w.1)
+        go false None e = three_length d c (trace_line (take d t)) (refused_probe_line 0 0) h k s (refused_length 0 0 (omega arith) (omega arith))
+        go false (Some m) e =
+            let w = found_small r q narrow m.probe m.acceptance e in
+            three_length d c (trace_line (take d t)) (refused_probe_line m.probe m.acceptance) h k s (refused_length m.probe m.acceptance w.0 w.1)
 
     -- the length of the lines of an answer of the program
     answer_length : length (outcome_lines (outcome_of trace_only P Q work_list trace_list) (trace_after trace_only P Q work_list trace_list)) ≤ 3129
@@ -180,7 +179,7 @@ module _ (P Q : Sheet) (h_p : sheet_fault P ≡ 0) (h_q : sheet_fault Q ≡ 0) w
 
         go : (x y : Bool) → ltb (nearest trace_only P Q) (pair_count P Q) ≡ y
             → length (outcome_lines
-            (cond x (cond y (named (nearest trace_only P Q) (cleared_of trace_only P Q) P.e (last_row trace_only P Q P) (last_row trace_only P Q Q)) (Refines (cleared_of trace_only P Q))) (Denied k))
+            (cond x (Ok (cond y (named (nearest trace_only P Q) (cleared_of trace_only P Q) P.e (last_row trace_only P Q P) (last_row trace_only P Q Q)) (Refines (cleared_of trace_only P Q)))) (Err k))
             (cond (x && y) (at_front trace_list (nearest_trace trace_only P Q)) trace_list)) ≤ 3129
         go true true e =
             let h = ltb-true (nearest trace_only P Q) (pair_count P Q) e in

@@ -2,7 +2,7 @@
 -- and Says describes no other. Two accepted sheets that agree get `refines cleared` exactly if the device refines the
 -- reference, else the violation of demand 3; no input gets `comparison refused` with another number than 11 and 19, as
 -- the lists are never too short.
-use Rattle.std.specs.Prelude.{◌≡◌, refl, ◌⊎◌, ◌≢◌, ◌↔◌, Bool, ℕ}
+use Rattle.std.specs.Prelude.{◌≡◌, refl, ◌⊎◌, ◌≢◌, ◌↔◌, Bool, ℕ, Result, Ok}
 use Rattle.std.proofs.Math.Path.{sym, ap}
 use Rattle.std.proofs.Common.{◌∙◌, inl, inr, arith}
 use Rattle.std.proofs.Math.Logic.{⊎_map}
@@ -43,19 +43,19 @@ use Rattle.compare_lines_spec.proofs.Lengths.{lists_fit}
 use Rattle.compare_lines_spec.specs.Says.{LastLine, of_stray, of_refusal, Says, reference_refused, device_refused, unequal, unequal_codes, refines, violates}
 
 -- the numbers that an answer reports
-reports_are : (o : Outcome) (d c : ℕ) → Reports o d c → ((compared o).d ≡ d) × ((compared o).cleared ≡ c)
+reports_are : (o : Result Outcome ℕ) (d c : ℕ) → Reports o d c → ((compared o).d ≡ d) × ((compared o).cleared ≡ c)
 unfolding compared
 reports_are o d c (stray_reports d' c' i) = (refl, refl)
 reports_are o d c (refusal_reports d' c' X A) = (refl, refl)
 
 -- the lines of an answer that reports a violation
-lines_of : (o : Outcome) (d c : ℕ) → Reports o d c → (t : List ℕ) → (end : List ℕ) × LastLine o end × (outcome_lines o t ≡ violates_line d c ++ (trace_line (take d t) ++ end))
+lines_of : (o : Result Outcome ℕ) (d c : ℕ) → Reports o d c → (t : List ℕ) → (end : List ℕ) × LastLine o end × (outcome_lines o t ≡ violates_line d c ++ (trace_line (take d t) ++ end))
 unfolding outcome_lines
 lines_of o d c (stray_reports d' c' i) t = (number_line (ascii "stray ") i, of_stray d c i, refl)
 lines_of o d c (refusal_reports d' c' X A) t = (refused_probe_line X A, of_refusal d c X A, refl)
 
 -- the lines of an answer whose last line is known
-lines_end : (o : Outcome) (end : List ℕ) → LastLine o end → (t : List ℕ) → outcome_lines o t ≡ violates_line (compared o).d (compared o).cleared ++ (trace_line (take (compared o).d t) ++ end)
+lines_end : (o : Result Outcome ℕ) (end : List ℕ) → LastLine o end → (t : List ℕ) → outcome_lines o t ≡ violates_line (compared o).d (compared o).cleared ++ (trace_line (take (compared o).d t) ++ end)
 unfolding outcome_lines compared
 lines_end o end (of_stray d c i) t = refl
 lines_end o end (of_refusal d c X A) t = refl
@@ -90,7 +90,7 @@ module _ (P Q : Sheet) (acc_p : sheet_fault P ≡ 0) (acc_q : sheet_fault Q ≡ 
     no_short_list = (rw length-replicate (omega (arith, told.few)), rw length-replicate (omega (arith, told.few)))
 
     -- whatever 01 describes of the two sheets is the answer
-    only_answer : (o : Outcome) (t : List ℕ) → Describes false P Q o t → o ≡ outcome_of false P Q work_list trace_list
+    only_answer : (o : Result Outcome ℕ) (t : List ℕ) → Describes false P Q o t → o ≡ outcome_of false P Q work_list trace_list
     only_answer = outcome_only false P Q acc_p acc_q same work_list trace_list (lists_fit P Q acc_p acc_q agree)
 
     -- where the device refines the reference, the number of the pairs reached is printed
@@ -98,10 +98,10 @@ module _ (P Q : Sheet) (acc_p : sheet_fault P ≡ 0) (acc_q : sheet_fault Q ≡ 
     unfolding compared_lines outcome_lines
     refines_lines r =
         let x = (told.refined work_list trace_list no_short_list).1 r in
-        (x.0, told.counted work_list trace_list no_short_list x.0 x.1, ap (λ (o : Outcome). outcome_lines o (trace_after false P Q work_list trace_list)) x.1)
+        (x.0, told.counted work_list trace_list no_short_list x.0 x.1, ap (λ (o : Result Outcome ℕ). outcome_lines o (trace_after false P Q work_list trace_list)) x.1)
 
     -- where the device does not refine the reference, the lines of the violation are printed
-    violates_lines : ¬ RefinesIn false P Q → (o : Outcome) × (after : List ℕ) × (v : Violated false P Q o after) × (end : List ℕ) × LastLine o end
+    violates_lines : ¬ RefinesIn false P Q → (o : Result Outcome ℕ) × (after : List ℕ) × (v : Violated false P Q o after) × (end : List ℕ) × LastLine o end
         × (compared_lines P Q ≡ violates_line v.d v.cleared ++ (trace_line (take v.d after) ++ end))
     unfolding compared_lines
     violates_lines n =
@@ -120,10 +120,10 @@ module _ (P Q : Sheet) (acc_p : sheet_fault P ≡ 0) (acc_q : sheet_fault Q ≡ 
     -- a number of the pairs reached, where the device refines the reference, is the one printed
     refines_once : RefinesIn false P Q → (cleared : ℕ) → Number P Q (ReachedEver P Q) cleared → compared_lines P Q ≡ number_line (ascii "refines cleared ") cleared
     unfolding compared_lines outcome_lines
-    refines_once r c k = ap (λ (o : Outcome). outcome_lines o (trace_after false P Q work_list trace_list)) (sym (only_answer (Refines c) [] (meaning.refines c r k)))
+    refines_once r c k = ap (λ (o : Result Outcome ℕ). outcome_lines o (trace_after false P Q work_list trace_list)) (sym (only_answer (Ok (Refines c)) [] (meaning.refines c r k)))
 
     -- a violation of demand 3 is the one printed
-    violates_once : ¬ RefinesIn false P Q → (o : Outcome) (after : List ℕ) (v : Violated false P Q o after) (end : List ℕ) → LastLine o end
+    violates_once : ¬ RefinesIn false P Q → (o : Result Outcome ℕ) (after : List ℕ) (v : Violated false P Q o after) (end : List ℕ) → LastLine o end
         → compared_lines P Q ≡ violates_line v.d v.cleared ++ (trace_line (take v.d after) ++ end)
     unfolding compared_lines
     violates_once n o after v end l =
@@ -131,12 +131,12 @@ module _ (P Q : Sheet) (acc_p : sheet_fault P ≡ 0) (acc_q : sheet_fault Q ≡ 
         let e = only_answer o (take v.d after) v.describes in
         let a = reports_are o v.d v.cleared v.reports in
         let b = reports_are (outcome_of false P Q work_list trace_list) w.d w.cleared w.reports in
-        let k : w.d ≡ v.d = sym b.0 ∙ ap (λ (x : Outcome). (compared x).d) (sym e) ∙ a.0 in
+        let k : w.d ≡ v.d = sym b.0 ∙ ap (λ (x : Result Outcome ℕ). (compared x).d) (sym e) ∙ a.0 in
         let t : take v.d (trace_after false P Q work_list trace_list) ≡ take v.d after =
         ap (λ (x : ℕ). take x (trace_after false P Q work_list trace_list)) (sym k)
         ∙ (describes_only (check_sound P acc_p) (check_sound Q acc_q) same false (outcome_of false P Q work_list trace_list) (take w.d (trace_after false P Q work_list trace_list)) w.describes).1
         ∙ sym (describes_only (check_sound P acc_p) (check_sound Q acc_q) same false o (take v.d after) v.describes).1 in
-        ap (λ (x : Outcome). outcome_lines x (trace_after false P Q work_list trace_list)) (sym e) ∙ lines_end o end l (trace_after false P Q work_list trace_list) ∙ rw (a.0, a.1, t)
+        ap (λ (x : Result Outcome ℕ). outcome_lines x (trace_after false P Q work_list trace_list)) (sym e) ∙ lines_end o end l (trace_after false P Q work_list trace_list) ∙ rw (a.0, a.1, t)
 
 module _ (input : List ℕ) (P Q : Sheet) (b : BackToBack input P Q) where
   acc_p : sheet_fault P ≡ 0
@@ -222,7 +222,7 @@ module _ (input : List ℕ) (P Q : Sheet) (b : BackToBack input P Q) where
 
     -- where the device does not refine the reference, the d, the count, the trace and the witness of demand 3 are
     -- printed
-    pub says_violates : ¬ RefinesIn false P Q → (o : Outcome) × (after : List ℕ) × (v : Violated false P Q o after) × (end : List ℕ) × LastLine o end
+    pub says_violates : ¬ RefinesIn false P Q → (o : Result Outcome ℕ) × (after : List ℕ) × (v : Violated false P Q o after) × (end : List ℕ) × LastLine o end
         × (compare_text input ≡ after_sheets P Q (violates_line v.d v.cleared ++ (trace_line (take v.d after) ++ end)))
     says_violates n = let x = violates_lines P Q acc_p acc_q agree n in (x.0, x.1, x.2, x.3, x.4, pair_says ∙ rw x.5)
 

@@ -2,7 +2,7 @@
 -- which part is refused, and by what number of reading (its laws say when), else whether the device refines the
 -- reference, and if not, what demand 3 says of the violation. No list is lent in it. SaysLaws says that the program's
 -- text is so described, and no other. No contract uses it.
-use Rattle.std.specs.Prelude.{◌≡◌, ◌≢◌, false, List, ◌++◌, ℕ, take}
+use Rattle.std.specs.Prelude.{◌≡◌, ◌≢◌, false, List, ◌++◌, ℕ, take, Result, Ok}
 use Rattle.sheet_spec.specs.declared.Sheet.{Sheet}
 use Rattle.sheet_spec.specs.Refusals.{Agree, CodesDiffer}
 use Rattle.sheet_spec.specs.Reading.{read_sheet}
@@ -18,9 +18,9 @@ use Rattle.text_pair_spec.specs.BackToBack.{Begins, BackToBack, after_sheets}
 use Rattle.compare_lines_spec.specs.Lines.{violates_line, refused_probe_line}
 
 -- the last line of a violation: the stray event that an answer names, or the probe and the acceptance
-pub data LastLine : Outcome → List ℕ → Type 0 where
-  of_stray : (d cleared i : ℕ) → LastLine (Stray d cleared i) (number_line (ascii "stray ") i)
-  of_refusal : (d cleared X A : ℕ) → LastLine (Refusal d cleared X A) (refused_probe_line X A)
+pub data LastLine : Result Outcome ℕ → List ℕ → Type 0 where
+  of_stray : (d cleared i : ℕ) → LastLine (Ok (Stray d cleared i)) (number_line (ascii "stray ") i)
+  of_refusal : (d cleared X A : ℕ) → LastLine (Ok (Refusal d cleared X A)) (refused_probe_line X A)
 
 -- the text that an input gets: one constructor for each kind of text
 pub data Says (input : List ℕ) : List ℕ → Type 0 where
@@ -40,5 +40,5 @@ pub data Says (input : List ℕ) : List ℕ → Type 0 where
       → Says input (after_sheets P Q (number_line (ascii "refines cleared ") cleared))
   -- two accepted sheets that agree, and the device does not refine the reference: the d, the count, the trace and the
   -- witness of demand 3
-  violates : (P Q : Sheet) → BackToBack input P Q → Agree P Q → ¬ RefinesIn false P Q → (o : Outcome) (after : List ℕ) (v : Violated false P Q o after) (end : List ℕ) → LastLine o end
+  violates : (P Q : Sheet) → BackToBack input P Q → Agree P Q → ¬ RefinesIn false P Q → (o : Result Outcome ℕ) (after : List ℕ) (v : Violated false P Q o after) (end : List ℕ) → LastLine o end
       → Says input (after_sheets P Q (violates_line v.d v.cleared ++ (trace_line (take v.d after) ++ end)))

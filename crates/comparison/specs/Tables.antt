@@ -1,7 +1,7 @@
 -- Nothing to believe: for the proofs of this crate. From the tables to the definitions: the graph that a sheet's table
 -- draws is the sheet's, the table of violating pairs holds what the definition says, and so a search over them gives
 -- the answer and leaves the lists as they are defined.
-use Rattle.std.specs.Prelude.{◌≡◌, ◌⊎◌, ◌≢◌, Bool, List, ℕ, ◌+◌, ◌*◌, ◌≤◌, ◌<◌, length, get_or}
+use Rattle.std.specs.Prelude.{◌≡◌, ◌⊎◌, ◌≢◌, Bool, List, ℕ, ◌+◌, ◌*◌, ◌≤◌, ◌<◌, length, get_or, Result, Ok, Err}
 use Rattle.std.proofs.Math.Path.{sym, fun_ext}
 use Rattle.std.proofs.Common.{ap, ◌∙◌, inl, inr, arith}
 use borrow.Author.Tests.{lt-ltb, le-ltb}
@@ -20,7 +20,6 @@ use Rattle.sheet_spec.specs.Sound.{Sound}
 use Rattle.sheet_spec.proofs.SoundLaws.{nodes_most, check_sound}
 use Rattle.refinement_spec.specs.ViolatingPairs.{violating}
 use Rattle.comparison_spec.specs.declared.Outcome.{Outcome}
-use Rattle.comparison_spec.specs.declared.Outcome.TheVariants.{Denied}
 use Rattle.comparison_spec.specs.Comparison.{pair_count, nearest, nearest_trace, cleared_of, last_row, comparison_of, compare_fault, trace_after}
 use Rattle.comparison_spec.specs.Numbers.{compared}
 use Rattle.comparison_spec.proofs.NumberLaws.{compared_refusal}
@@ -112,16 +111,16 @@ module _ (trace_only : Bool) (P Q : Sheet) (op : Sound P) (oq : Sound Q) where
 
 module _ (P Q : Sheet) (work trace : List ℕ) where
   -- a call that is refused meets its contract
-  pub compares_denied : (trace_only : Bool) (k : ℕ) → k ≡ fault_on P Q (length work) (length trace) → k ≢ 0 → Compares trace_only P Q work trace work trace (Denied k)
+  pub compares_denied : (trace_only : Bool) (k : ℕ) → k ≡ fault_on P Q (length work) (length trace) → 0 < k → Compares trace_only P Q work trace work trace (Err k)
   compares_denied trace_only k e n =
       let f = e ∙ fault_is P Q work trace in
-      let m : compare_fault P Q work trace ≢ 0 = λ z. n (f ∙ z) in
-      let a = ap Denied f ∙ sym (denied_outcome P Q work trace trace_only m) in
-      record { answer = a; numbers = ap (λ (o : Outcome). (compared o).refusal) a ∙ compared_refusal trace_only P Q work trace; traced = sym (denied_trace P Q work trace trace_only m); zeroed = sym (denied_work P Q work trace trace_only m) }
+      let m : compare_fault P Q work trace ≢ 0 = λ z. omega (arith, f, z, n) in
+      let a = ap (λ (x : ℕ). Err x) f ∙ sym (denied_outcome P Q work trace trace_only m) in
+      record { answer = a; numbers = ap (λ (o : Result Outcome ℕ). (compared o).refusal) a ∙ compared_refusal trace_only P Q work trace; traced = sym (denied_trace P Q work trace trace_only m); zeroed = sym (denied_work P Q work trace trace_only m) }
 
   -- a call that the code does not refuse is not refused
-  pub passed : (k : ℕ) → k ≡ fault_on P Q (length work) (length trace) → k ≡ 0 → compare_fault P Q work trace ≡ 0
-  passed k e z = sym (fault_is P Q work trace) ∙ sym e ∙ z
+  pub passed : 0 ≡ fault_on P Q (length work) (length trace) → compare_fault P Q work trace ≡ 0
+  passed e = sym (fault_is P Q work trace) ∙ sym e
 
   module _ (z : compare_fault P Q work trace ≡ 0) where
     pub both_accepted : (sheet_fault P ≡ 0) × (sheet_fault Q ≡ 0)
@@ -171,12 +170,12 @@ module _ (P Q : Sheet) (work trace : List ℕ) where
         pub answer_fits : Fits P Q found
         answer_fits = rw found_is (found_fits trace_only P Q sound_P sound_Q)
 
-        pub compares_found : (r : Outcome) → r ≡ told P Q found → Compares trace_only P Q work trace work' trace' r
+        pub compares_found : (r : Outcome) → r ≡ told P Q found → Compares trace_only P Q work trace work' trace' (Ok r)
         compares_found r er =
-            let x = er ∙ ap (told P Q) found_is ∙ found_told trace_only P Q sound_P sound_Q ∙ sym (given_outcome P Q work trace trace_only z) in
+            let x = ap (λ (o : Outcome). Ok o) (er ∙ ap (told P Q) found_is ∙ found_told trace_only P Q sound_P sound_Q) ∙ sym (given_outcome P Q work trace trace_only z) in
             record {
               answer = x;
-              numbers = ap (λ (o : Outcome). (compared o).refusal) x ∙ compared_refusal trace_only P Q work trace;
+              numbers = ap (λ (o : Result Outcome ℕ). (compared o).refusal) x ∙ compared_refusal trace_only P Q work trace;
               traced = (rw (graph_P, graph_Q) at searched.traced) ∙ after_trace trace_only P Q sound_P sound_Q work trace z;
               zeroed = (unfold work_found pair_count in (searched.zeroed ∙ sym (given_work P Q work trace trace_only z)));
             }

@@ -1,5 +1,5 @@
 // The comparison of two sheets (01, "A comparison"). `compare` takes any two sheets and any two lists: it answers
-// "refines", a violation with what is named, or the number of the refusal, and says what the lists then hold. The
+// "refines", a violation with what is named, or the refusal, and says what the lists then hold. The
 // successors and the violating pairs are laid out in flat tables once, and a search over these finds the nearest
 // violating pair.
 #![tactic(auto)]
@@ -8,11 +8,13 @@ mod faults;
 mod named;
 mod violating;
 
-ghost use Rattle.std.specs.Prelude.{◌≡◌};
+ghost use Rattle.std.specs.Prelude.{◌≡◌, Ok};
+ghost use Rattle.refusals.specs.Numbers.{numbered};
 ghost use Rattle.comparison_spec.specs.Comparison.{compare_fault};
 ghost use Rattle.comparison_spec.specs.Contract.{Compares};
 
 use comparison_spec::Outcome;
+use refusals::Refusal;
 use sheet_spec::Sheet;
 
 // Compares two sheets in a call that is not refused.
@@ -25,15 +27,13 @@ fn compare_accepted(
 ) -> Outcome
     requires { compare_fault reference device work.old trace.old ≡ 0 }
     ensures { Compares trace_only reference device work.old trace.old
-        work.new trace.new result }
+        work.new trace.new (Ok result) }
 {
-    let e = base::wide(reference.e);
-    let p = base::wide(reference.n);
-    let q = base::wide(device.n);
-    let mine = reference.rows;
-    let theirs = device.rows;
-    let a = sheet_rows::flat(mine);
-    let b = sheet_rows::flat(theirs);
+    let e = usize::from(reference.e);
+    let p = usize::from(reference.n);
+    let q = usize::from(device.n);
+    let a = sheet_rows::flat(reference.rows);
+    let b = sheet_rows::flat(device.rows);
     let bad = violating::table(reference, device, trace_only);
     let found = search::search(&a, &b, p, q, e, &bad, work, trace);
     named::tell(reference, device, found)
@@ -47,13 +47,10 @@ pub fn compare(
     trace_only: bool,
     work: &mut [u16],
     trace: &mut [u8],
-) -> Outcome
+) -> Result<Outcome, Refusal>
     ensures { Compares trace_only reference device work.old trace.old
-        work.new trace.new result }
+        work.new trace.new (numbered result) }
 {
-    let fault = faults::fault_on(reference, device, work.len(), trace.len());
-    if fault != 0 {
-        return Outcome::Denied(fault);
-    }
-    compare_accepted(reference, device, trace_only, work, trace)
+    faults::fault_on(reference, device, work.len(), trace.len())?;
+    Ok(compare_accepted(reference, device, trace_only, work, trace))
 }

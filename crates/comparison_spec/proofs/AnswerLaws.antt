@@ -1,5 +1,5 @@
 -- Nothing to believe: laws. The answer and the trace list of a call that is not refused: exactly what 01 describes.
-use Rattle.std.specs.Prelude.{◌≡◌, ◌⊎◌, Bool, List, ℕ, ◌-◌, ◌*◌, ◌≤◌, ◌<◌, length, get_or, take}
+use Rattle.std.specs.Prelude.{◌≡◌, ◌⊎◌, Bool, List, ℕ, ◌-◌, ◌*◌, ◌≤◌, ◌<◌, length, get_or, take, Result, Ok}
 use Rattle.std.proofs.Common.{sym, ap, ◌∙◌, inl, inr, arith, lt-ltb}
 use Rattle.base.proofs.Truth.{lt_or_ge}
 use Rattle.base.proofs.Front.{at_front_taken, at_front_length, at_front_behind}
@@ -18,8 +18,8 @@ use Rattle.comparison_spec.proofs.CallLaws.{compare_0, compare_fits, given_outco
 
 -- a sheet that is not refused, compared with itself with lists that are long enough, refines
 pub outcome_self : (trace_only : Bool) (s : Sheet) → sheet_fault s ≡ 0 → (work trace : List ℕ) → 2 * pair_count s s ≤ length work → pair_count s s - 1 ≤ length trace
-    → outcome_of trace_only s s work trace ≡ Refines (cleared_of trace_only s s)
-outcome_self trace_only s h work trace l k = given_outcome s s work trace trace_only (compare_fits s s work trace h h (agree_self s) l k) ∙ comparison_self (check_sound s h) trace_only
+    → outcome_of trace_only s s work trace ≡ Ok (Refines (cleared_of trace_only s s))
+outcome_self trace_only s h work trace l k = given_outcome s s work trace trace_only (compare_fits s s work trace h h (agree_self s) l k) ∙ ap (λ (o : Outcome). Ok o) (comparison_self (check_sound s h) trace_only)
 
 module _ (trace_only : Bool) (P Q : Sheet) (acc_p : sheet_fault P ≡ 0) (acc_q : sheet_fault Q ≡ 0) (same : P.e ≡ Q.e) (work trace : List ℕ) (z : compare_fault P Q work trace ≡ 0) where
   op : Sound P
@@ -51,10 +51,10 @@ module _ (trace_only : Bool) (P Q : Sheet) (acc_p : sheet_fault P ≡ 0) (acc_q 
   outcome_describes = rw (given_outcome P Q work trace trace_only z) (comparison_describes op oq same trace_only)
 
   -- whatever 01 describes is that answer; and its trace, where there is a violation, is the front of the trace list
-  pub outcome_only : (o : Outcome) (t : List ℕ) → Describes trace_only P Q o t → o ≡ outcome_of trace_only P Q work trace
+  pub outcome_only : (o : Result Outcome ℕ) (t : List ℕ) → Describes trace_only P Q o t → o ≡ outcome_of trace_only P Q work trace
   outcome_only o t d = (describes_only op oq same trace_only o t d).0 ∙ sym (given_outcome P Q work trace trace_only z)
 
-  pub trace_unique : (o : Outcome) (t : List ℕ) → Describes trace_only P Q o t → nearest trace_only P Q < pair_count P Q → t ≡ take (nearest trace_only P Q) (trace_after trace_only P Q work trace)
+  pub trace_unique : (o : Result Outcome ℕ) (t : List ℕ) → Describes trace_only P Q o t → nearest trace_only P Q < pair_count P Q → t ≡ take (nearest trace_only P Q) (trace_after trace_only P Q work trace)
   unfolding trace_of
   trace_unique o t d l =
       (describes_only op oq same trace_only o t d).1

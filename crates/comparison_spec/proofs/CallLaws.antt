@@ -1,5 +1,5 @@
 -- Nothing to believe: laws. The call of a comparison: when each refusal is given, and what it then answers and leaves.
-use Rattle.std.specs.Prelude.{◌≡◌, ◌⊎◌, ◌≢◌, ◌↔◌, Bool, ◌&&◌, List, ℕ, ◌+◌, ◌-◌, ◌*◌, ◌≤◌, ◌<◌, leb, get_or, replicate}
+use Rattle.std.specs.Prelude.{◌≡◌, ◌⊎◌, ◌≢◌, ◌↔◌, Bool, ◌&&◌, List, ℕ, ◌+◌, ◌-◌, ◌*◌, ◌≤◌, ◌<◌, leb, get_or, replicate, Ok, Err}
 use Rattle.std.proofs.Math.Path.{refl}
 use Rattle.std.proofs.Common.{◌∙◌}
 use Rattle.std.proofs.Math.Logic.{inl, inr}
@@ -19,7 +19,6 @@ use Rattle.sheet_spec.specs.Refusals.{sheet_fault, BothAccepted, Agree, CodesDif
 use Rattle.sheet_spec.proofs.Chains.{further, finally}
 use Rattle.sheet_spec.proofs.CheckLaws.{own_other}
 use Rattle.sheet_spec.proofs.PairFaults.{pair_reference, pair_device, pair_sheet, pair_11, pair_19, pair_rest}
-use Rattle.comparison_spec.specs.declared.Outcome.TheVariants.{Denied}
 use Rattle.comparison_spec.specs.Comparison.{pair_count, work_words, nearest, nearest_trace, comparison_of, compare_fault, outcome_of, trace_after, work_after}
 
 module _ (P Q : Sheet) (work trace : List ℕ) where
@@ -98,7 +97,7 @@ module _ (P Q : Sheet) (work trace : List ℕ) where
 
   module _ (trace_only : Bool) where
     -- a refusal answers its number and alters nothing
-    pub denied_outcome : compare_fault P Q work trace ≢ 0 → outcome_of trace_only P Q work trace ≡ Denied (compare_fault P Q work trace)
+    pub denied_outcome : compare_fault P Q work trace ≢ 0 → outcome_of trace_only P Q work trace ≡ Err (compare_fault P Q work trace)
     unfolding outcome_of
     denied_outcome n = rw (ne_eqb (compare_fault P Q work trace) 0 n)
 
@@ -112,7 +111,7 @@ module _ (P Q : Sheet) (work trace : List ℕ) where
 
     -- without a refusal the answer is the comparison's, the trace fills the front of its list, and the work list's
     -- front is 0
-    pub given_outcome : compare_fault P Q work trace ≡ 0 → outcome_of trace_only P Q work trace ≡ comparison_of trace_only P Q
+    pub given_outcome : compare_fault P Q work trace ≡ 0 → outcome_of trace_only P Q work trace ≡ Ok (comparison_of trace_only P Q)
     unfolding outcome_of
     given_outcome z = rw (eq-eqb (compare_fault P Q work trace) 0 z)
 

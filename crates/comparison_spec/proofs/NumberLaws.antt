@@ -1,6 +1,6 @@
 -- Nothing to believe: laws. The numbers of the answer that a comparison gives: in which case each kind is given, and
 -- with what parts.
-use Rattle.std.specs.Prelude.{◌≡◌, ◌⊎◌, ◌≢◌, ◌↔◌, Bool, true, false, ℕ, eqb}
+use Rattle.std.specs.Prelude.{◌≡◌, ◌⊎◌, ◌≢◌, ◌↔◌, Bool, true, false, ℕ, eqb, Result, Ok}
 use Rattle.std.proofs.Math.Path.{refl}
 use Rattle.std.proofs.Common.{sym, ap, ◌∙◌, arith, eqb-true}
 use Rattle.std.proofs.Math.Logic.{inl, inr}
@@ -40,11 +40,11 @@ module _ (trace_only : Bool) (P Q : Sheet) (work trace : List ℕ) where
     -- the answer of a call that is not refused: it refines, or names a stray, or names a refusal
     abbrev Reason : Type 0
     Reason =
-        (RefinesIn trace_only P Q × (outcome_of trace_only P Q work trace ≡ Refines (cleared_of trace_only P Q)))
+        (RefinesIn trace_only P Q × (outcome_of trace_only P Q work trace ≡ Ok (Refines (cleared_of trace_only P Q))))
         ⊎ ((¬ RefinesIn trace_only P Q)
-        × (((i : ℕ) × SmallestStray P Q (nearest_trace trace_only P Q) i × (outcome_of trace_only P Q work trace ≡ Stray (nearest trace_only P Q) (cleared_of trace_only P Q) i))
+        × (((i : ℕ) × SmallestStray P Q (nearest_trace trace_only P Q) i × (outcome_of trace_only P Q work trace ≡ Ok (Stray (nearest trace_only P Q) (cleared_of trace_only P Q) i)))
         ⊎ ((¬ Strays P Q (nearest_trace trace_only P Q))
-        × ((X : ℕ) × (A : ℕ) × FirstRefused P Q (nearest_trace trace_only P Q) X A × (outcome_of trace_only P Q work trace ≡ Refusal (nearest trace_only P Q) (cleared_of trace_only P Q) X A)))))
+        × ((X : ℕ) × (A : ℕ) × FirstRefused P Q (nearest_trace trace_only P Q) X A × (outcome_of trace_only P Q work trace ≡ Ok (Refusal (nearest trace_only P Q) (cleared_of trace_only P Q) X A))))))
 
     reason : Reason
     unfolding cleared_of
@@ -53,7 +53,7 @@ module _ (trace_only : Bool) (P Q : Sheet) (work trace : List ℕ) where
         violated : (u : List ℕ) → ViolationIn trace_only P Q u → ¬ RefinesIn trace_only P Q
         violated u v r = omega (arith, nearest_below op oq same trace_only u v, (refines_nearest op oq same trace_only).0 r)
 
-        go : (o : Outcome) (t : List ℕ) → Describes trace_only P Q o t → outcome_of trace_only P Q work trace ≡ o → Reason
+        go : (o : Result Outcome ℕ) (t : List ℕ) → Describes trace_only P Q o t → outcome_of trace_only P Q work trace ≡ o → Reason
         go o t (refines c r n) e =
             let q = (cleared_ever op oq same (nearest trace_only P Q) c (unfold pair_count in (refines_nearest op oq same trace_only).0 r)).1 n in
             inl (r, rw (e, q))

@@ -1,5 +1,5 @@
 -- Nothing to believe: laws. The comparison's answer is what 01 describes, and nothing else is.
-use Rattle.std.specs.Prelude.{◌≡◌, ◌⊎◌, ◌↔◌, Bool, cond, List, [], ℕ, ◌≤◌, ◌<◌, ltb, length}
+use Rattle.std.specs.Prelude.{◌≡◌, ◌⊎◌, ◌↔◌, Bool, cond, List, [], ℕ, ◌≤◌, ◌<◌, ltb, length, Option, Some, None, Result, Ok}
 use Rattle.std.proofs.Math.Path.{refl, sym, ap}
 use Rattle.std.proofs.Common.{inl, inr, arith, lt-ltb, le-ltb}
 use Rattle.std.proofs.Math.Bool.{true, false}
@@ -11,7 +11,6 @@ use Rattle.sheet_spec.specs.Kept.{row, acceptances, Initial, graph}
 use Rattle.sheet_spec.proofs.RowLaws.{acceptances_length, acceptances_at}
 use Rattle.sheet_spec.specs.Sound.{Sound}
 use Rattle.probes_spec.specs.declared.Missed.{Missed}
-use Rattle.probes_spec.specs.declared.Missed.TheVariants.{Nothing, Found}
 use Rattle.probes_spec.specs.Probes.{probes, Narrow}
 use Rattle.probes_spec.specs.FirstMissed.{first_missed, MissedFirst}
 use Rattle.probes_spec.proofs.FirstMissedLaws.{missed_found, missed_none}
@@ -36,7 +35,7 @@ named_stray : (d c e i : ℕ) (r q : Row) → has_stray e r q ≡ true → i ≡
 unfolding named
 named_stray d c e i r q h f = rw (h, f)
 
-named_refusal : (d c e X A : ℕ) (r q : Row) → has_stray e r q ≡ false → first_missed (acceptances r) e (acceptances q) ≡ Found X A → named d c e r q ≡ Refusal d c X A
+named_refusal : (d c e X A : ℕ) (r q : Row) → has_stray e r q ≡ false → first_missed (acceptances r) e (acceptances q) ≡ Some (record { probe = X; acceptance = A }) → named d c e r q ≡ Refusal d c X A
 unfolding named refusal_named
 named_refusal d c e X A r q h f = rw (h, f)
 
@@ -55,7 +54,7 @@ module _ {P Q : Sheet} (op : Sound P) (oq : Sound Q) (same : P.e ≡ Q.e) where
         let l : j < (row P v).c = omega (arith, k, acceptances_length (row P v)) in
         rw (acceptances_at (row P v) j l) (op.narrow v j a.1 l)
 
-    named_some : has_refusal (row P v) (row Q w) ≡ true → first_missed (acceptances (row P v)) P.e (acceptances (row Q w)) ≡ Nothing → ⊥
+    named_some : has_refusal (row P v) (row Q w) ≡ true → first_missed (acceptances (row P v)) P.e (acceptances (row Q w)) ≡ None → ⊥
     named_some r n =
         let x = (refusal_means (row P v) (row Q w)).0 r in
         let c : x.0 < length (acceptances (row Q w)) = omega (arith, x.1, acceptances_length (row Q w)) in
@@ -106,35 +105,35 @@ module _ {P Q : Sheet} (op : Sound P) (oq : Sound Q) (same : P.e ≡ Q.e) where
 
     -- what is named at the end of the nearest violation
     named_describes : (v w : ℕ) → After P (nearest_trace trace_only P Q) v → After Q (nearest_trace trace_only P Q) w → nearest trace_only P Q < pair_count P Q
-        → Describes trace_only P Q (named (nearest trace_only P Q) (cleared_of trace_only P Q) P.e (row P v) (row Q w)) (nearest_trace trace_only P Q)
+        → Describes trace_only P Q (Ok (named (nearest trace_only P Q) (cleared_of trace_only P Q) P.e (row P v) (row Q w))) (nearest_trace trace_only P Q)
     unfolding named cleared_of
     named_describes v w a b l = go (dec (has_stray P.e (row P v) (row Q w)))
       where
         number : Number P Q (ReachedBefore P Q (nearest trace_only P Q)) (cleared_of trace_only P Q)
         number = unfold cleared_of in (cleared_before op oq same (nearest trace_only P Q) _).0 refl
 
-        at_refusal : (m : Missed) → first_missed (acceptances (row P v)) P.e (acceptances (row Q w)) ≡ m → has_refusal (row P v) (row Q w) ≡ true → ¬ Strays P Q (nearest_trace trace_only P Q)
-            → Describes trace_only P Q (refusal_named (nearest trace_only P Q) (cleared_of trace_only P Q) m) (nearest_trace trace_only P Q)
-        at_refusal Nothing e r n = absurd (named_some (nearest_trace trace_only P Q) v w a b r e)
-        at_refusal (Found X A) e r n = unfold refusal_named in
-            refusal (nearest trace_only P Q) (cleared_of trace_only P Q) X A (nearest_trace trace_only P Q) (nearest_is op oq same trace_only l) number n
-            (v, w, a, b, (refused_at_pair (nearest_trace trace_only P Q) v w a b X A).0 ((missed_found (acceptances (row P v)) P.e (acceptances (row Q w)) X A).0 e))
+        at_refusal : (m : Option Missed) → first_missed (acceptances (row P v)) P.e (acceptances (row Q w)) ≡ m → has_refusal (row P v) (row Q w) ≡ true → ¬ Strays P Q (nearest_trace trace_only P Q)
+            → Describes trace_only P Q (Ok (refusal_named (nearest trace_only P Q) (cleared_of trace_only P Q) m)) (nearest_trace trace_only P Q)
+        at_refusal None e r n = absurd (named_some (nearest_trace trace_only P Q) v w a b r e)
+        at_refusal (Some m) e r n = unfold refusal_named in
+            refusal (nearest trace_only P Q) (cleared_of trace_only P Q) m.probe m.acceptance (nearest_trace trace_only P Q) (nearest_is op oq same trace_only l) number n
+            (v, w, a, b, (refused_at_pair (nearest_trace trace_only P Q) v w a b m.probe m.acceptance).0 ((missed_found (acceptances (row P v)) P.e (acceptances (row Q w)) m.probe m.acceptance).0 e))
 
         go : (has_stray P.e (row P v) (row Q w) ≡ true) ⊎ (has_stray P.e (row P v) (row Q w) ≡ false)
-            → Describes trace_only P Q (cond (has_stray P.e (row P v) (row Q w)) (Stray (nearest trace_only P Q) (cleared_of trace_only P Q) (first_stray P.e (row P v) (row Q w)))
-            (refusal_named (nearest trace_only P Q) (cleared_of trace_only P Q) (first_missed (acceptances (row P v)) P.e (acceptances (row Q w))))) (nearest_trace trace_only P Q)
+            → Describes trace_only P Q (Ok (cond (has_stray P.e (row P v) (row Q w)) (Stray (nearest trace_only P Q) (cleared_of trace_only P Q) (first_stray P.e (row P v) (row Q w)))
+            (refusal_named (nearest trace_only P Q) (cleared_of trace_only P Q) (first_missed (acceptances (row P v)) P.e (acceptances (row Q w)))))) (nearest_trace trace_only P Q)
         go (inl s) = rw s (stray (nearest trace_only P Q) (cleared_of trace_only P Q) (first_stray P.e (row P v) (row Q w)) (nearest_trace trace_only P Q) (nearest_is op oq same trace_only l) number
             (smallest_at (nearest_trace trace_only P Q) v w a b s))
         go (inr s) = rw s (at_refusal (first_missed (acceptances (row P v)) P.e (acceptances (row Q w))) refl (refused_at (nearest_trace trace_only P Q) v w a b (trace_violates op oq same trace_only l) s)
             (λ x. clash ((strays_at op oq same (nearest_trace trace_only P Q) v w a b).0 x) s))
 
     -- the answer of the definition, with its trace, is what 01 describes
-    pub comparison_describes : Describes trace_only P Q (comparison_of trace_only P Q) (trace_of trace_only P Q)
+    pub comparison_describes : Describes trace_only P Q (Ok (comparison_of trace_only P Q)) (trace_of trace_only P Q)
     unfolding comparison_of trace_of
     comparison_describes = go (lt_or_ge (nearest trace_only P Q) (pair_count P Q))
       where
         go : (nearest trace_only P Q < pair_count P Q) ⊎ (pair_count P Q ≤ nearest trace_only P Q)
-            → Describes trace_only P Q (cond (ltb (nearest trace_only P Q) (pair_count P Q)) (named (nearest trace_only P Q) (cleared_of trace_only P Q) P.e (last_row trace_only P Q P) (last_row trace_only P Q Q)) (Refines (cleared_of trace_only P Q)))
+            → Describes trace_only P Q (Ok (cond (ltb (nearest trace_only P Q) (pair_count P Q)) (named (nearest trace_only P Q) (cleared_of trace_only P Q) P.e (last_row trace_only P Q P) (last_row trace_only P Q Q)) (Refines (cleared_of trace_only P Q))))
             (cond (ltb (nearest trace_only P Q) (pair_count P Q)) (nearest_trace trace_only P Q) [])
         go (inl l) =
             let x = violation_traces trace_only P Q (nearest_trace trace_only P Q) (trace_violates op oq same trace_only l) in
@@ -146,15 +145,15 @@ module _ {P Q : Sheet} (op : Sound P) (oq : Sound Q) (same : P.e ≡ Q.e) where
 
     -- an answer that is named at the end of the nearest violation is the definition's
     found : (d c : ℕ) (u : List ℕ) → nearest trace_only P Q < pair_count P Q → (d ≡ nearest trace_only P Q) × (u ≡ nearest_trace trace_only P Q) → pair_cleared (graph P) (graph Q) d ≡ c
-        → (v w : ℕ) → After P u v → After Q u w → (o : Outcome) → named d c P.e (row P v) (row Q w) ≡ o → (o ≡ comparison_of trace_only P Q) × (u ≡ trace_of trace_only P Q)
+        → (v w : ℕ) → After P u v → After Q u w → (o : Outcome) → named d c P.e (row P v) (row Q w) ≡ o → (◌≡◌ {A = Result Outcome ℕ} (Ok o) (Ok (comparison_of trace_only P Q))) × (u ≡ trace_of trace_only P Q)
     unfolding comparison_of trace_of cleared_of
     found d c u l y q v w a b o e =
         let p = last_row_lem P op v (rw y.1 at a) in
         let r = last_row_lem Q oq w (rw y.1 at b) in
-        (rw (lt-ltb (nearest trace_only P Q) (pair_count P Q) l, p, r, ← y.0, q) (sym e), rw (lt-ltb (nearest trace_only P Q) (pair_count P Q) l) y.1)
+        (rw (lt-ltb (nearest trace_only P Q) (pair_count P Q) l, p, r, ← y.0, q) (ap (λ (x : Outcome). Ok x) (sym e)), rw (lt-ltb (nearest trace_only P Q) (pair_count P Q) l) y.1)
 
     -- whatever 01 describes is the definition's answer, with its trace
-    pub describes_only : (o : Outcome) (t : List ℕ) → Describes trace_only P Q o t → (o ≡ comparison_of trace_only P Q) × (t ≡ trace_of trace_only P Q)
+    pub describes_only : (o : Result Outcome ℕ) (t : List ℕ) → Describes trace_only P Q o t → (o ≡ Ok (comparison_of trace_only P Q)) × (t ≡ trace_of trace_only P Q)
     unfolding comparison_of trace_of
     describes_only o t (refines c r n) =
         let l = (refines_nearest op oq same trace_only).0 r in

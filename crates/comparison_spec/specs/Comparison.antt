@@ -1,7 +1,7 @@
 -- What a comparison answers, and what the two lent lists then hold (01, "A comparison"). P is the reference, Q the
 -- device; `trace_only` counts strays alone. What these definitions mean is said in Meaning; ComparisonLaws, OutcomeLaws
 -- and CallLaws tie the two.
-use Rattle.std.specs.Prelude.{Bool, ◌&&◌, cond, List, [], ℕ, ◌-◌, ◌*◌, eqb, ltb, leb, length, replicate}
+use Rattle.std.specs.Prelude.{Bool, ◌&&◌, cond, List, [], ℕ, ◌-◌, ◌*◌, eqb, ltb, leb, length, replicate, Option, Some, None, Result, Ok, Err}
 use Rattle.base.specs.Refusal.{unless}
 use Rattle.base.specs.Front.{at_front}
 use Rattle.walks.specs.Graph.{walk}
@@ -11,11 +11,10 @@ use Rattle.sheet_spec.specs.declared.Sheet.{Sheet}
 use Rattle.sheet_spec.specs.Kept.{row, graph, acceptances}
 use Rattle.sheet_spec.specs.Refusals.{pair_fault}
 use Rattle.probes_spec.specs.declared.Missed.{Missed}
-use Rattle.probes_spec.specs.declared.Missed.TheVariants.{Nothing, Found}
 use Rattle.probes_spec.specs.FirstMissed.{first_missed}
 use Rattle.refinement_spec.specs.ViolatingPairs.{has_stray, first_stray, violating}
 use Rattle.comparison_spec.specs.declared.Outcome.{Outcome}
-use Rattle.comparison_spec.specs.declared.Outcome.TheVariants.{Refines, Stray, Refusal, Denied}
+use Rattle.comparison_spec.specs.declared.Outcome.TheVariants.{Refines, Stray, Refusal}
 
 -- how many pairs of nodes there are: p times q
 unfoldable pub pair_count : Sheet → Sheet → ℕ
@@ -49,9 +48,9 @@ last_row trace_only P Q s = row s (walk (graph s) 0 (nearest_trace trace_only P 
 
 -- the answer for a refusal: the first probe in the list that some device acceptance misses is named, with the lowest
 -- such acceptance (at a violating pair without a stray there is one)
-unfoldable pub refusal_named : ℕ → ℕ → Missed → Outcome
-refusal_named d cleared Nothing = Refusal d cleared 0 0
-refusal_named d cleared (Found probe acceptance) = Refusal d cleared probe acceptance
+unfoldable pub refusal_named : ℕ → ℕ → Option Missed → Outcome
+refusal_named d cleared None = Refusal d cleared 0 0
+refusal_named d cleared (Some m) = Refusal d cleared m.probe m.acceptance
 
 -- what is named at a pair of rows: a stray before a refusal, and then the smallest stray event
 unfoldable pub named : ℕ → ℕ → ℕ → Row → Row → Outcome
@@ -74,9 +73,9 @@ compare_fault P Q work trace =
     (unless (leb (pair_count P Q - 1) (length trace)) 13 0))
 
 -- the answer of a comparison: that of the two sheets, or the number of the refusal
-unfoldable pub outcome_of : Bool → Sheet → Sheet → List ℕ → List ℕ → Outcome
+unfoldable pub outcome_of : Bool → Sheet → Sheet → List ℕ → List ℕ → Result Outcome ℕ
 outcome_of trace_only P Q work trace =
-    cond (eqb (compare_fault P Q work trace) 0) (comparison_of trace_only P Q) (Denied (compare_fault P Q work trace))
+    cond (eqb (compare_fault P Q work trace) 0) (Ok (comparison_of trace_only P Q)) (Err (compare_fault P Q work trace))
 
 -- the trace list at exit: the trace fills its front and the rest is untouched; untouched where there is none or the
 -- call is refused

@@ -1,6 +1,6 @@
 -- What 01 says of a comparison's answer, with "for every" and "there is" and no test in it but the list of probes, of
 -- which one is named. OutcomeLaws says that the answer of the definition is so described, and that nothing else is.
-use Rattle.std.specs.Prelude.{◌≡◌, Bool, List, [], ℕ, ◌≤◌, ◌<◌, length, get_or}
+use Rattle.std.specs.Prelude.{◌≡◌, Bool, List, [], ℕ, ◌≤◌, ◌<◌, length, get_or, Result, Ok}
 use Rattle.events.specs.Bit.{Apart}
 use Rattle.walks.specs.Order.{Lex}
 use Rattle.walks.specs.Pairs.{PairLists}
@@ -57,9 +57,9 @@ abbrev pub FirstRefused : Sheet → Sheet → List ℕ → ℕ → ℕ → Type 
 FirstRefused P Q t X A = (v : ℕ) × (w : ℕ) × After P t v × After Q t w × FirstRefusedAt P.e (row P v) (row Q w) X A
 
 -- what 01 says of the two sheets: this answer, and this trace beside it
-pub data Describes (trace_only : Bool) (P Q : Sheet) : Outcome → List ℕ → Type 0 where
-  refines : (cleared : ℕ) → RefinesIn trace_only P Q → Number P Q (ReachedEver P Q) cleared → Describes trace_only P Q (Refines cleared) []
+pub data Describes (trace_only : Bool) (P Q : Sheet) : Result Outcome ℕ → List ℕ → Type 0 where
+  refines : (cleared : ℕ) → RefinesIn trace_only P Q → Number P Q (ReachedEver P Q) cleared → Describes trace_only P Q (Ok (Refines cleared)) []
   stray : (d cleared i : ℕ) (t : List ℕ) → Nearest trace_only P Q d t → Number P Q (ReachedBefore P Q d) cleared → SmallestStray P Q t i
-      → Describes trace_only P Q (Stray d cleared i) t
+      → Describes trace_only P Q (Ok (Stray d cleared i)) t
   refusal : (d cleared X A : ℕ) (t : List ℕ) → Nearest trace_only P Q d t → Number P Q (ReachedBefore P Q d) cleared → ¬ Strays P Q t → FirstRefused P Q t X A
-      → Describes trace_only P Q (Refusal d cleared X A) t
+      → Describes trace_only P Q (Ok (Refusal d cleared X A)) t

@@ -1,8 +1,7 @@
 -- 01's numbers and values for each case of a comparison's answer. Parts that a case has not are 0.
-use Rattle.std.specs.Prelude.{◌≡◌, refl, cond, ℕ, eqb}
-use Rattle.std.proofs.Common.{sym, ap, ◌∙◌}
+use Rattle.std.specs.Prelude.{cond, ℕ, eqb, Result, Ok, Err}
 use Rattle.comparison_spec.specs.declared.Outcome.{Outcome}
-use Rattle.comparison_spec.specs.declared.Outcome.TheVariants.{Refines, Stray, Refusal, Denied}
+use Rattle.comparison_spec.specs.declared.Outcome.TheVariants.{Refines, Stray, Refusal}
 
 -- the number of the answer "refines": the first of the ten that comparisons have
 abbrev pub refines_number : ℕ
@@ -28,13 +27,13 @@ pub record Compared : Type 0 where
   pub acceptance : ℕ
 
 -- the numbers of a comparison's answer
-unfoldable pub compared : Outcome → Compared
-compared (Refines c) = record { refusal = 0; kind = refines_number; d = 0; cleared = c; event = 0; probe = 0; acceptance = 0 }
-compared (Stray d c i) = record { refusal = 0; kind = stray_number; d = d; cleared = c; event = i; probe = 0; acceptance = 0 }
-compared (Refusal d c X A) = record { refusal = 0; kind = refusal_number; d = d; cleared = c; event = 0; probe = X; acceptance = A }
-compared (Denied k) = record { refusal = k; kind = 0; d = 0; cleared = 0; event = 0; probe = 0; acceptance = 0 }
+unfoldable pub compared : Result Outcome ℕ → Compared
+compared (Ok (Refines c)) = record { refusal = 0; kind = refines_number; d = 0; cleared = c; event = 0; probe = 0; acceptance = 0 }
+compared (Ok (Stray d c i)) = record { refusal = 0; kind = stray_number; d = d; cleared = c; event = i; probe = 0; acceptance = 0 }
+compared (Ok (Refusal d c X A)) = record { refusal = 0; kind = refusal_number; d = d; cleared = c; event = 0; probe = X; acceptance = A }
+compared (Err k) = record { refusal = k; kind = 0; d = 0; cleared = 0; event = 0; probe = 0; acceptance = 0 }
 
 -- the answer that has the given numbers
-unfoldable pub compared_from : Compared → Outcome
-compared_from n = cond (eqb n.kind 0) (Denied n.refusal) (cond (eqb n.kind refines_number) (Refines n.cleared)
-    (cond (eqb n.kind stray_number) (Stray n.d n.cleared n.event) (Refusal n.d n.cleared n.probe n.acceptance)))
+unfoldable pub compared_from : Compared → Result Outcome ℕ
+compared_from n = cond (eqb n.kind 0) (Err n.refusal) (Ok (cond (eqb n.kind refines_number) (Refines n.cleared)
+    (cond (eqb n.kind stray_number) (Stray n.d n.cleared n.event) (Refusal n.d n.cleared n.probe n.acceptance))))

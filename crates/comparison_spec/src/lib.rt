@@ -2,7 +2,7 @@
 // specs say what the answer and the two lent lists are, and what they mean. It has no function.
 #![tactic(auto)]
 
-// What a comparison answers.
+// What a comparison answers where its call is not refused.
 #[derive(Clone, Copy)]
 pub enum Outcome {
     // the device refines the reference: the number of different pairs reached (01's "cleared")
@@ -11,6 +11,4 @@ pub enum Outcome {
     Stray(u16, u16, u8),
     // a violation by a refusal: d, the pairs nearer than d, the probe refused, the device's acceptance that misses it
     Refusal(u16, u16, u16, u16),
-    // the number of the refusal of the call
-    Denied(u8),
 }

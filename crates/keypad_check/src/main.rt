@@ -20,11 +20,7 @@ const STDERR_FILENO: i32 = 2;
 
 // How many words the program was started with, after its own name.
 fn word_count(rt: &impl Env) -> usize {
-    let all = arguments::word_count(rt);
-    if all < 1 {
-        return 0;
-    }
-    all - 1
+    arguments::word_count(rt).saturating_sub(1)
 }
 
 // What the words ask for. A word that is longer than the list is left out, so that it is no code.
@@ -59,8 +55,7 @@ fn answer(asked: AskedCode) {
 // Answers what the words ask for, or says that they are wrong.
 fn main(rt: HostRuntime) {
     match asked(&rt) {
-        AskedCode::Nothing => answer(AskedCode::Nothing),
-        AskedCode::Code(c) => answer(AskedCode::Code(c)),
         AskedCode::Wrong => wrong_use(),
+        asked => answer(asked),
     }
 }

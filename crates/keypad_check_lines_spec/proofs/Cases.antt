@@ -1,6 +1,6 @@
 -- Nothing to believe: cases. Words and what they ask for, and texts of what is asked and an input, one for each kind of
 -- line.
-use Rattle.std.specs.Prelude.{◌≡◌, refl, List, [], ◌∷◌, ◌++◌, map, ℕ}
+use Rattle.std.specs.Prelude.{◌≡◌, refl, List, [], ◌∷◌, ◌++◌, map, ℕ, Ok}
 use Rattle.base.specs.Range.{all, any, first}
 use Rattle.base.specs.Count.{count}
 use Rattle.base.specs.Table.{up_to}
@@ -39,7 +39,7 @@ unfolding asked_of word_code number_in few_digits all_digits digit_at is_digit v
 counts_hold = refl
 
 -- the longest lines of a table: a good one of 64 rules and a code; a gap; an overlap
-pub longest_hold : (told_lines 64 Good ++ found_line 255 (Event 11)) ∷ told_lines 63 (Gap 255) ∷ told_lines 64 (Overlap 254 62 63) ∷ []
+pub longest_hold : (told_lines 64 (Ok Good) ++ found_line 255 (Ok (Event 11))) ∷ told_lines 63 (Ok (Gap 255)) ∷ told_lines 64 (Ok (Overlap 254 62 63)) ∷ []
     ≡ (ascii "table 64 rules\ngood\ncode 255 event 11\n" ∷ ascii "table 63 rules\ngap 255\n" ∷ ascii "table 64 rules\noverlap 254 by 62 and 63\n" ∷ [])
 unfolding told_lines found_line rules_line overlap_line number_line decimal decimal_in
 longest_hold = refl

@@ -1,5 +1,5 @@
 -- Nothing to believe: laws. How long the text is: at most 65 bytes.
-use Rattle.std.specs.Prelude.{◌≡◌, ◌⊎◌, ◌≢◌, cond, ℕ, zero, suc, ◌≤◌, ◌<◌, eqb}
+use Rattle.std.specs.Prelude.{◌≡◌, ◌⊎◌, ◌≢◌, cond, ℕ, zero, suc, Result, Ok, Err, ◌≤◌, ◌<◌, eqb}
 use Rattle.std.proofs.Math.Path.{refl}
 use Rattle.std.proofs.Common.{sym, ap, ◌∙◌, inl, inr, eq-eqb, ne_eqb}
 use mathlib.Core.List.{List, [], ◌++◌}
@@ -14,7 +14,7 @@ use Rattle.sheet_spec.specs.Refusals.{sheet_fault, Own}
 use Rattle.sheet_spec.proofs.AnswerLaws.{read_kept}
 use Rattle.sheet_spec.proofs.SoundLaws.{check_sound}
 use Rattle.keypad_spec.specs.declared.Keypad.{Keypad}
-use Rattle.keypad_spec.specs.declared.Keypad.TheVariants.{Good, Gap, Overlap, Denied}
+use Rattle.keypad_spec.specs.declared.Keypad.TheVariants.{Good, Gap, Overlap}
 use Rattle.keypad_spec.specs.Tables.{rule_count}
 use Rattle.keypad_spec.specs.Calls.{keypad_fault, keypad_of}
 use Rattle.keypad_spec.specs.Numbers.{keyed}
@@ -91,11 +91,11 @@ module _ (s : Sheet) (b : List ℕ) (acc : sheet_fault s ≡ 0) where
   unfolding told_lines
   told_length = go (keypad_of s b) refl
     where
-      go : (a : Keypad) → keypad_of s b ≡ a → length (told_lines (rule_count b) a ++ []) ≤ 40
-      go Good e =
+      go : (a : Result Keypad ℕ) → keypad_of s b ≡ a → length (told_lines (rule_count b) a ++ []) ≤ 40
+      go (Ok Good) e =
           let z = ((check_good s b).0 e).0 in
           omega (arith, length-append (rules_line (rule_count b) ++ ascii "good\n") [], length-append (rules_line (rule_count b)) (ascii "good\n"), rules_length (rule_count b) (omega (arith, few_rules z)))
-      go (Gap c) e =
+      go (Ok (Gap c)) e =
           let z = (check_gap s b c).0 e in
           omega (
             arith,
@@ -104,7 +104,7 @@ module _ (s : Sheet) (b : List ℕ) (acc : sheet_fault s ≡ 0) where
             rules_length (rule_count b) (omega (arith, few_rules z.0)),
             number_length (ascii "gap ") 2 c (omega (arith, z.1.is_code)),
           )
-      go (Overlap c i k) e =
+      go (Ok (Overlap c i k)) e =
           let z = (check_overlap s b c i k).0 e in
           let r = few_rules z.0 in
           omega (
@@ -114,7 +114,7 @@ module _ (s : Sheet) (b : List ℕ) (acc : sheet_fault s ≡ 0) where
             rules_length (rule_count b) (omega (arith, r)),
             overlap_length c i k (omega (arith, z.1.is_code)) (omega (arith, r, z.1.lower, z.1.is_rule)) (omega (arith, r, z.1.is_rule)),
           )
-      go (Denied m) e =
+      go (Err m) e =
           let z = (check_denied s b m).0 e in
           omega (arith, length-append (number_line (ascii "table refused ") m) [], number_length (ascii "table refused ") 1 m (omega (arith, few_faults, z.1)))
 
@@ -125,11 +125,11 @@ module _ (s : Sheet) (b : List ℕ) (acc : sheet_fault s ≡ 0) where
   unfolding told_lines keyed
   code_length c h = go (keypad_of s b) refl
     where
-      same : keypad_of s b ≢ Good → length (table_lines (Code c) s b) ≤ 40
+      same : keypad_of s b ≢ Ok Good → length (table_lines (Code c) s b) ≤ 40
       same n = rw (code_plain s b c n) table_length
 
-      go : (a : Keypad) → keypad_of s b ≡ a → length (table_lines (Code c) s b) ≤ 40
-      go Good q =
+      go : (a : Result Keypad ℕ) → keypad_of s b ≡ a → length (table_lines (Code c) s b) ≤ 40
+      go (Ok Good) q =
           let f = find_some s b c q h in
           let z = ((check_good s b).0 q).0 in
           rw (event_lines s b c f.0 q f.2)
@@ -140,9 +140,9 @@ module _ (s : Sheet) (b : List ℕ) (acc : sheet_fault s ≡ 0) where
             rules_length (rule_count b) (omega (arith, few_rules z)),
             event_length c f.0 (omega (arith, h)) (omega (arith, f.1, (check_sound s acc).ranges.e_high)),
           ))
-      go (Gap d) q = same (λ e. omega (arith, ap (λ (a : Keypad). (keyed a).kind) (sym q ∙ e)))
-      go (Overlap d i k) q = same (λ e. omega (arith, ap (λ (a : Keypad). (keyed a).kind) (sym q ∙ e)))
-      go (Denied m) q = same (λ e. omega (arith, ap (λ (a : Keypad). (keyed a).kind) (sym q ∙ e)))
+      go (Ok (Gap d)) q = same (λ e. omega (arith, ap (λ (a : Result Keypad ℕ). (keyed a).kind) (sym q ∙ e)))
+      go (Ok (Overlap d i k)) q = same (λ e. omega (arith, ap (λ (a : Result Keypad ℕ). (keyed a).kind) (sym q ∙ e)))
+      go (Err m) q = same (λ e. omega (arith, ap (λ (a : Result Keypad ℕ). (keyed a).kind) (sym q ∙ e)))
 
 -- ---- the text
 

@@ -1,15 +1,15 @@
 -- Nothing to believe: laws. The lines of different answers of `keypad_check` differ, whatever follows them; so a text
 -- can be read back.
-use Rattle.std.specs.Prelude.{◌≡◌, refl, ◌≢◌, ℕ, get_or}
+use Rattle.std.specs.Prelude.{◌≡◌, refl, ◌≢◌, ℕ, Result, Ok, Err, get_or}
 use Rattle.std.proofs.Common.{sym, ◌∙◌, arith}
 use Rattle.std.proofs.Math.Path.{ap}
-use mathlib.Core.List.{List, [], ◌∷◌, ◌++◌, append_assoc}
+use mathlib.Core.List.{List, ◌∷◌, ◌++◌, append_assoc}
 use Rattle.std.proofs.Math.ListN.{get_or-append}
 use Rattle.text_spec.specs.Lines.{ascii, decimal, number_line}
 use Rattle.text_spec.proofs.DecimalLaws.{decimal_some, decimal_digits}
 use Rattle.text_spec.proofs.TellLaws.{same_rest, after_number, number_parts}
 use Rattle.keypad_spec.specs.declared.Keypad.{Keypad}
-use Rattle.keypad_spec.specs.declared.Keypad.TheVariants.{Good, Gap, Overlap, Denied}
+use Rattle.keypad_spec.specs.declared.Keypad.TheVariants.{Good, Gap, Overlap}
 use Rattle.keypad_check_lines_spec.specs.Lines.{rules_line, overlap_line, told_lines}
 use Rattle.keypad_check_lines_spec.specs.Says.{good_text}
 
@@ -43,11 +43,11 @@ overlap_parts c i k x =
 
 -- the lines of each case, and what follows them
 module _ (n : ℕ) (x : List ℕ) where
-  pub good_parts : told_lines n Good ++ x ≡ good_text n x
+  pub good_parts : told_lines n (Ok Good) ++ x ≡ good_text n x
   unfolding told_lines
   good_parts = append_assoc (rules_line n) (ascii "good\n") x ∙ rules_parts n (ascii "good\n" ++ x)
 
-  pub gap_parts : (c : ℕ) → told_lines n (Gap c) ++ x ≡ ascii "table " ++ (decimal n ++ (ascii " rules\ngap " ++ (decimal c ++ (10 ∷ x))))
+  pub gap_parts : (c : ℕ) → told_lines n (Ok (Gap c)) ++ x ≡ ascii "table " ++ (decimal n ++ (ascii " rules\ngap " ++ (decimal c ++ (10 ∷ x))))
   unfolding told_lines
   gap_parts c =
       append_assoc (rules_line n) (number_line (ascii "gap ") c) x
@@ -55,7 +55,7 @@ module _ (n : ℕ) (x : List ℕ) where
       ∙ rules_parts n (ascii "gap " ++ (decimal c ++ (10 ∷ x)))
 
   pub overlap_lines : (c i k : ℕ)
-      → told_lines n (Overlap c i k) ++ x
+      → told_lines n (Ok (Overlap c i k)) ++ x
       ≡ ascii "table " ++ (decimal n ++ (ascii " rules\noverlap " ++ (decimal c ++ (ascii " by " ++ (decimal i ++ (ascii " and " ++ (decimal k ++ (10 ∷ x))))))))
   unfolding told_lines
   overlap_lines c i k =
@@ -63,7 +63,7 @@ module _ (n : ℕ) (x : List ℕ) where
       ∙ ap (λ (l : List ℕ). rules_line n ++ l) (overlap_parts c i k x)
       ∙ rules_parts n (ascii "overlap " ++ (decimal c ++ (ascii " by " ++ (decimal i ++ (ascii " and " ++ (decimal k ++ (10 ∷ x)))))))
 
-  pub denied_parts : (m : ℕ) → told_lines n (Denied m) ++ x ≡ ascii "table refused " ++ (decimal m ++ (10 ∷ x))
+  pub denied_parts : (m : ℕ) → told_lines n (Err m) ++ x ≡ ascii "table refused " ++ (decimal m ++ (10 ∷ x))
   unfolding told_lines
   denied_parts m = number_parts (ascii "table refused ") m x
 
@@ -85,34 +85,34 @@ after_size n n' x y e =
     same_rest (ascii "rules\n") x y (after_number 32 (omega arith) n n' _ _ (same_rest (ascii "table ") (decimal n ++ (ascii " rules\n" ++ x)) _ e)).1
 
 -- the same lines come from the same answer, and the same follows them
-pub told_tells : (n n' : ℕ) (a r : Keypad) (x y : List ℕ) → told_lines n a ++ x ≡ told_lines n' r ++ y → (a ≡ r) × (x ≡ y)
-told_tells n n' Good Good x y e = (refl, same_rest (ascii "good\n") x y (after_size n n' _ _ (sym (good_parts n x) ∙ e ∙ good_parts n' y)))
-told_tells n n' Good (Gap d) x y e =
+pub told_tells : (n n' : ℕ) (a r : Result Keypad ℕ) (x y : List ℕ) → told_lines n a ++ x ≡ told_lines n' r ++ y → (a ≡ r) × (x ≡ y)
+told_tells n n' (Ok Good) (Ok Good) x y e = (refl, same_rest (ascii "good\n") x y (after_size n n' _ _ (sym (good_parts n x) ∙ e ∙ good_parts n' y)))
+told_tells n n' (Ok Good) (Ok (Gap d)) x y e =
     let z = ap (λ (l : List ℕ). get_or l 1 0) (after_size n n' (ascii "good\n" ++ x) _ (sym (good_parts n x) ∙ e ∙ gap_parts n' y d)) in absurd (omega (arith, z))
-told_tells n n' Good (Overlap d j l) x y e =
+told_tells n n' (Ok Good) (Ok (Overlap d j l)) x y e =
     let z = ap (λ (l : List ℕ). get_or l 0 0) (after_size n n' (ascii "good\n" ++ x) _ (sym (good_parts n x) ∙ e ∙ overlap_lines n' y d j l)) in absurd (omega (arith, z))
-told_tells n n' Good (Denied m) x y e = absurd (not_refused n m _ _ (sym (good_parts n x) ∙ e ∙ denied_parts n' y m))
-told_tells n n' (Gap c) Good x y e =
+told_tells n n' (Ok Good) (Err m) x y e = absurd (not_refused n m _ _ (sym (good_parts n x) ∙ e ∙ denied_parts n' y m))
+told_tells n n' (Ok (Gap c)) (Ok Good) x y e =
     let z = ap (λ (l : List ℕ). get_or l 1 0) (after_size n n' (ascii "gap " ++ (decimal c ++ (10 ∷ x))) _ (sym (gap_parts n x c) ∙ e ∙ good_parts n' y)) in absurd (omega (arith, z))
-told_tells n n' (Gap c) (Gap d) x y e =
+told_tells n n' (Ok (Gap c)) (Ok (Gap d)) x y e =
     let w = after_number 10 (omega arith) c d x y (same_rest (ascii "gap ") _ _ (after_size n n' _ _ (sym (gap_parts n x c) ∙ e ∙ gap_parts n' y d))) in
-    (ap Gap w.0, w.1)
-told_tells n n' (Gap c) (Overlap d j l) x y e =
+    (ap (λ (k : ℕ). Ok (Gap k)) w.0, w.1)
+told_tells n n' (Ok (Gap c)) (Ok (Overlap d j l)) x y e =
     let z = ap (λ (l : List ℕ). get_or l 0 0) (after_size n n' (ascii "gap " ++ (decimal c ++ (10 ∷ x))) _ (sym (gap_parts n x c) ∙ e ∙ overlap_lines n' y d j l)) in absurd (omega (arith, z))
-told_tells n n' (Gap c) (Denied m) x y e = absurd (not_refused n m _ _ (sym (gap_parts n x c) ∙ e ∙ denied_parts n' y m))
-told_tells n n' (Overlap c i k) Good x y e =
+told_tells n n' (Ok (Gap c)) (Err m) x y e = absurd (not_refused n m _ _ (sym (gap_parts n x c) ∙ e ∙ denied_parts n' y m))
+told_tells n n' (Ok (Overlap c i k)) (Ok Good) x y e =
     let z = ap (λ (l : List ℕ). get_or l 0 0) (after_size n n' (ascii "overlap " ++ (decimal c ++ (ascii " by " ++ (decimal i ++ (ascii " and " ++ (decimal k ++ (10 ∷ x))))))) _ (sym (overlap_lines n x c i k) ∙ e ∙ good_parts n' y)) in absurd (omega (arith, z))
-told_tells n n' (Overlap c i k) (Gap d) x y e =
+told_tells n n' (Ok (Overlap c i k)) (Ok (Gap d)) x y e =
     let z = ap (λ (l : List ℕ). get_or l 0 0) (after_size n n' (ascii "overlap " ++ (decimal c ++ (ascii " by " ++ (decimal i ++ (ascii " and " ++ (decimal k ++ (10 ∷ x))))))) _ (sym (overlap_lines n x c i k) ∙ e ∙ gap_parts n' y d)) in absurd (omega (arith, z))
-told_tells n n' (Overlap c i k) (Overlap d j l) x y e =
+told_tells n n' (Ok (Overlap c i k)) (Ok (Overlap d j l)) x y e =
     let u = after_number 32 (omega arith) c d _ _ (same_rest (ascii "overlap ") _ _ (after_size n n' _ _ (sym (overlap_lines n x c i k) ∙ e ∙ overlap_lines n' y d j l))) in
     let v = after_number 32 (omega arith) i j _ _ (same_rest (ascii "by ") _ _ u.1) in
     let w = after_number 10 (omega arith) k l x y (same_rest (ascii "and ") _ _ v.1) in
     (rw (u.0, v.0, w.0), w.1)
-told_tells n n' (Overlap c i k) (Denied m) x y e = absurd (not_refused n m _ _ (sym (overlap_lines n x c i k) ∙ e ∙ denied_parts n' y m))
-told_tells n n' (Denied m) Good x y e = absurd (not_refused n' m _ _ (sym (good_parts n' y) ∙ sym e ∙ denied_parts n x m))
-told_tells n n' (Denied m) (Gap d) x y e = absurd (not_refused n' m _ _ (sym (gap_parts n' y d) ∙ sym e ∙ denied_parts n x m))
-told_tells n n' (Denied m) (Overlap d j l) x y e = absurd (not_refused n' m _ _ (sym (overlap_lines n' y d j l) ∙ sym e ∙ denied_parts n x m))
-told_tells n n' (Denied m) (Denied k) x y e =
+told_tells n n' (Ok (Overlap c i k)) (Err m) x y e = absurd (not_refused n m _ _ (sym (overlap_lines n x c i k) ∙ e ∙ denied_parts n' y m))
+told_tells n n' (Err m) (Ok Good) x y e = absurd (not_refused n' m _ _ (sym (good_parts n' y) ∙ sym e ∙ denied_parts n x m))
+told_tells n n' (Err m) (Ok (Gap d)) x y e = absurd (not_refused n' m _ _ (sym (gap_parts n' y d) ∙ sym e ∙ denied_parts n x m))
+told_tells n n' (Err m) (Ok (Overlap d j l)) x y e = absurd (not_refused n' m _ _ (sym (overlap_lines n' y d j l) ∙ sym e ∙ denied_parts n x m))
+told_tells n n' (Err m) (Err k) x y e =
     let w = after_number 10 (omega arith) m k x y (same_rest (ascii "table refused ") _ _ (sym (denied_parts n x m) ∙ e ∙ denied_parts n' y k)) in
-    (ap Denied w.0, w.1)
+    (ap Err w.0, w.1)

@@ -1,12 +1,11 @@
 -- Nothing to believe: laws. What the text says, exactly when: nothing in wrong use; a refused sheet its own number,
 -- whatever follows it; of an accepted sheet and any table, of whatever length, the table's refusal, or whether it is
 -- good, in the meaning of each answer; and the event of a code exactly in a good table.
-use Rattle.std.specs.Prelude.{◌≡◌, ◌⊎◌, ◌≢◌, ◌↔◌, Bool, true, false, cond, ℕ, ◌+◌, ◌-◌, ◌≤◌, ◌<◌, eqb, get_or, drop}
+use Rattle.std.specs.Prelude.{◌≡◌, ◌⊎◌, ◌≢◌, ◌↔◌, Bool, true, false, cond, ℕ, Result, Ok, Err, ◌+◌, ◌-◌, ◌≤◌, ◌<◌, eqb, get_or, drop}
 use Rattle.std.proofs.Math.Path.{refl}
-use Rattle.std.proofs.Common.{sym, ap, ◌∙◌, inl, inr, arith, length-append, take-append-drop, take_all, ne_eqb}
+use Rattle.std.proofs.Common.{sym, ap, ◌∙◌, inl, inr, arith, take-append-drop, take_all, ne_eqb}
 use Rattle.std.proofs.Math.Logic.Iff as Iff
-use mathlib.Core.List.{List, [], ◌∷◌, ◌++◌, append_assoc, append-nil}
-use Rattle.std.proofs.Math.Decide.{ℕ_discrete}
+use mathlib.Core.List.{List, [], ◌++◌, append_assoc, append-nil}
 use Rattle.std.proofs.Math.ListN.{length, take}
 use Rattle.std.proofs.Math.Seq.{take-append-add, length-take-le}
 use Rattle.base.proofs.Truth.{lt_or_ge}
@@ -19,7 +18,7 @@ use Rattle.sheet_spec.proofs.AnswerLaws.{read_refusal}
 use Rattle.sheet_spec.proofs.Octets.{below_take}
 use Rattle.sheet_spec.proofs.EncodingLaws.{reads→, reads_as, accepted_exactly, bytes_length}
 use Rattle.keypad_spec.specs.declared.Keypad.{Keypad}
-use Rattle.keypad_spec.specs.declared.Keypad.TheVariants.{Good, Gap, Overlap, Denied}
+use Rattle.keypad_spec.specs.declared.Keypad.TheVariants.{Good, Gap, Overlap}
 use Rattle.keypad_spec.specs.declared.Found.TheVariants.{Event}
 use Rattle.keypad_spec.specs.Tables.{rule_count, event_of}
 use Rattle.keypad_spec.specs.Calls.{keypad_fault, keypad_of, found_of}
@@ -45,18 +44,18 @@ use Rattle.keypad_check_lines_spec.proofs.LineLaws.{good_parts, gap_parts, overl
 
 module _ (s : Sheet) (b : List ℕ) where
   -- where the table is not good, the line of a code is not there
-  no_event : (c : ℕ) → keypad_of s b ≢ Good → asked_line (Code c) s b ≡ []
+  no_event : (c : ℕ) → keypad_of s b ≢ Ok Good → asked_line (Code c) s b ≡ []
   unfolding asked_line found_line
   no_event c n = go (keypad_of s b) refl
     where
-      go : (a : Keypad) → keypad_of s b ≡ a → found_line c (found_of s b c) ≡ []
-      go Good e = absurd (n e)
-      go (Gap d) e = rw ((find_gap s b c d).1 e)
-      go (Overlap d i k) e = rw ((find_overlap s b c d i k).1 e)
-      go (Denied m) e = rw ((find_denied s b c m).1 e)
+      go : (a : Result Keypad ℕ) → keypad_of s b ≡ a → found_line c (found_of s b c) ≡ []
+      go (Ok Good) e = absurd (n e)
+      go (Ok (Gap d)) e = rw ((find_gap s b c d).1 e)
+      go (Ok (Overlap d i k)) e = rw ((find_overlap s b c d i k).1 e)
+      go (Err m) e = rw ((find_denied s b c m).1 e)
 
   -- so a code changes nothing there
-  pub code_plain : (c : ℕ) → keypad_of s b ≢ Good → table_lines (Code c) s b ≡ table_lines Nothing s b
+  pub code_plain : (c : ℕ) → keypad_of s b ≢ Ok Good → table_lines (Code c) s b ≡ table_lines Nothing s b
   unfolding table_lines asked_line
   code_plain c n = rw (no_event c n)
 
@@ -66,16 +65,16 @@ module _ (s : Sheet) (b : List ℕ) where
   plain_lines = refl
 
   -- with a code and a good table, the line of its event is the last
-  pub event_lines : (c e : ℕ) → keypad_of s b ≡ Good → found_of s b c ≡ Event e → table_lines (Code c) s b ≡ told_lines (rule_count b) Good ++ event_text c e
+  pub event_lines : (c e : ℕ) → keypad_of s b ≡ Ok Good → found_of s b c ≡ Ok (Event e) → table_lines (Code c) s b ≡ told_lines (rule_count b) (Ok Good) ++ event_text c e
   unfolding table_lines asked_line found_line
   event_lines c e p q = rw (p, q)
 
-  event_asked : (c e : ℕ) → found_of s b c ≡ Event e → asked_line (Code c) s b ≡ event_text c e
+  event_asked : (c e : ℕ) → found_of s b c ≡ Ok (Event e) → asked_line (Code c) s b ≡ event_text c e
   unfolding asked_line found_line
   event_asked c e q = rw q
 
   -- a table of more than 64 rules gets 21, whatever its bytes are
-  long_table : sheet_fault s ≡ 0 → 195 ≤ length b → keypad_of s b ≡ Denied 21
+  long_table : sheet_fault s ≡ 0 → 195 ≤ length b → keypad_of s b ≡ Err 21
   long_table h l = (check_denied s b 21).1 ((λ e. omega (arith, e)), (keypad_21 s b).1 (h, inr (inl (omega (arith, l)))))
 
 -- two tables of more than 64 rules have the same lines
@@ -170,7 +169,7 @@ module _ (input : List ℕ) (s : Sheet) (b : List ℕ) (w : WithTable input s b)
   after asked n l e = (sheet_tells (ascii "sheet ") s.n s.e s.n s.e (table_lines asked s b) l (sym (text_says asked n) ∙ e)).2
 
   -- the lines of a case are printed exactly if the check answers it
-  plain_exactly : (a : Keypad) → (keypad_text Nothing input ≡ after_sheet s (told_lines (rule_count b) a ++ [])) ↔ (keypad_of s b ≡ a)
+  plain_exactly : (a : Result Keypad ℕ) → (keypad_text Nothing input ≡ after_sheet s (told_lines (rule_count b) a ++ [])) ↔ (keypad_of s b ≡ a)
   plain_exactly a = (to, from)
     where
       to : keypad_text Nothing input ≡ after_sheet s (told_lines (rule_count b) a ++ []) → keypad_of s b ≡ a
@@ -181,19 +180,19 @@ module _ (input : List ℕ) (s : Sheet) (b : List ℕ) (w : WithTable input s b)
 
   -- `good` exactly if nothing is refused and just one rule matches each code
   pub says_good : (keypad_text Nothing input ≡ after_sheet s (good_text (rule_count b) [])) ↔ ((keypad_fault s b ≡ 0) × GoodTable b)
-  says_good = rw (← good_parts (rule_count b) []) (Iff.trans (plain_exactly Good) (check_good s b))
+  says_good = rw (← good_parts (rule_count b) []) (Iff.trans (plain_exactly (Ok Good)) (check_good s b))
 
   -- `gap c` exactly if no rule matches the smallest bad code, c
   pub says_gap : (c : ℕ) → (keypad_text Nothing input ≡ after_sheet s (gap_text (rule_count b) c)) ↔ ((keypad_fault s b ≡ 0) × GapAt b c)
-  says_gap c = rw (← gap_parts (rule_count b) [] c) (Iff.trans (plain_exactly (Gap c)) (check_gap s b c))
+  says_gap c = rw (← gap_parts (rule_count b) [] c) (Iff.trans (plain_exactly (Ok (Gap c))) (check_gap s b c))
 
   -- `overlap c by i and k` exactly if i and k are the two lowest rules that match the smallest bad code, c
   pub says_overlap : (c i k : ℕ) → (keypad_text Nothing input ≡ after_sheet s (overlap_text (rule_count b) c i k)) ↔ ((keypad_fault s b ≡ 0) × OverlapAt b c i k)
-  says_overlap c i k = rw (← overlap_lines (rule_count b) [] c i k) (Iff.trans (plain_exactly (Overlap c i k)) (check_overlap s b c i k))
+  says_overlap c i k = rw (← overlap_lines (rule_count b) [] c i k) (Iff.trans (plain_exactly (Ok (Overlap c i k))) (check_overlap s b c i k))
 
   -- `table refused m` exactly with the number of the refusal
   pub says_refused : (m : ℕ) → (keypad_text Nothing input ≡ after_sheet s (refused_text m)) ↔ ((m ≢ 0) × (keypad_fault s b ≡ m))
-  says_refused m = rw (← denied_parts (rule_count b) [] m) (Iff.trans (plain_exactly (Denied m)) (check_denied s b m))
+  says_refused m = rw (← denied_parts (rule_count b) [] m) (Iff.trans (plain_exactly (Err m)) (check_denied s b m))
 
   -- 21, 22 and 23, each exactly for its fault, in this order
   pub says_21 : (keypad_text Nothing input ≡ after_sheet s (refused_text 21)) ↔ SizeFault b
@@ -212,7 +211,7 @@ module _ (input : List ℕ) (s : Sheet) (b : List ℕ) (w : WithTable input s b)
   )
 
   -- with a code, a table that is not good gets the same text as without
-  pub says_same : (c : ℕ) → keypad_of s b ≢ Good → keypad_text (Code c) input ≡ keypad_text Nothing input
+  pub says_same : (c : ℕ) → keypad_of s b ≢ Ok Good → keypad_text (Code c) input ≡ keypad_text Nothing input
   says_same c n = text_says (Code c) (code_right c) ∙ rw (code_plain s b c n) (sym (text_says Nothing nothing_right))
 
   -- `code c event e` after `good` exactly if nothing is refused, the table is good and the rule that matches c has e
@@ -227,11 +226,11 @@ module _ (input : List ℕ) (s : Sheet) (b : List ℕ) (w : WithTable input s b)
 
       to : keypad_text (Code c) input ≡ after_sheet s (good_text (rule_count b) (event_text c e)) → Given
       to t =
-          let x = told_tells (rule_count b) (rule_count b) (keypad_of s b) Good (asked_line (Code c) s b) (event_text c e) (after (Code c) (code_right c) _ t ∙ sym (good_parts (rule_count b) (event_text c e))) in
+          let x = told_tells (rule_count b) (rule_count b) (keypad_of s b) (Ok Good) (asked_line (Code c) s b) (event_text c e) (after (Code c) (code_right c) _ t ∙ sym (good_parts (rule_count b) (event_text c e))) in
           let f = find_some s b c x.0 h in
           let q = after_number 32 (omega arith) c c _ _ (same_rest (ascii "code ") _ _ (sym (event_asked s b c f.0 f.2) ∙ x.1)) in
           let v = after_number 10 (omega arith) f.0 e [] [] (same_rest (ascii "event ") _ _ q.1) in
-          (find_event s b c h e).0 (f.2 ∙ ap Event v.0)
+          (find_event s b c h e).0 (f.2 ∙ ap (λ (x : ℕ). Ok (Event x)) v.0)
 
       from : Given → keypad_text (Code c) input ≡ after_sheet s (good_text (rule_count b) (event_text c e))
       from g =

@@ -1,10 +1,9 @@
 -- Nothing to believe: laws. What the words ask for, exactly when: nothing without a word, a code with one word that is
 -- one, and every other word, and more than one, is wrong use.
-use Rattle.std.specs.Prelude.{◌≡◌, ◌⊎◌, ◌≢◌, ◌↔◌, List, ℕ, ◌≤◌, ◌<◌}
+use Rattle.std.specs.Prelude.{◌≡◌, ◌⊎◌, ◌↔◌, List, ℕ, ◌≤◌, ◌<◌}
 use Rattle.std.proofs.Math.Path.{refl}
-use Rattle.std.proofs.Common.{sym, ◌∙◌, inl, inr, arith}
-use Rattle.std.proofs.Math.Decide.{ℕ_discrete}
-use borrow.Author.Tests.{eq-eqb, ne_eqb, le-leb, lt-leb}
+use Rattle.std.proofs.Common.{inl, inr, arith}
+use borrow.Author.Tests.{ne_eqb, le-leb, lt-leb}
 use Rattle.base.proofs.Truth.{lt_or_ge}
 use Rattle.text_spec.specs.Lines.{decimal, value_from}
 use Rattle.words_spec.specs.Numbers.{Digits}

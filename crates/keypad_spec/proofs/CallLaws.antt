@@ -1,7 +1,7 @@
 -- Nothing to believe: laws. What the two calls answer, exactly when: a check one of its four cases, a lookup the event
 -- of the rule that matches if the table is good, else what the check answers, whatever code is asked. Of the sheet only
 -- E counts.
-use Rattle.std.specs.Prelude.{◌≡◌, ◌⊎◌, ◌≢◌, ◌↔◌, List, true, ℕ, ◌≤◌, ◌<◌}
+use Rattle.std.specs.Prelude.{◌≡◌, ◌⊎◌, ◌≢◌, ◌↔◌, List, true, ℕ, Result, Ok, Err, ◌≤◌, ◌<◌}
 use Rattle.std.proofs.Math.Path.{refl, ap}
 use Rattle.std.proofs.Common.{sym, ◌∙◌, inl, inr, arith, eq-eqb, ne_eqb}
 use Rattle.std.proofs.Math.Decide.{ℕ_discrete}
@@ -9,9 +9,9 @@ use Rattle.base.proofs.Truth.{lt_or_ge}
 use Rattle.sheet_spec.specs.declared.Sheet.{Sheet}
 use Rattle.sheet_spec.specs.Refusals.{sheet_fault}
 use Rattle.keypad_spec.specs.declared.Keypad.{Keypad}
-use Rattle.keypad_spec.specs.declared.Keypad.TheVariants.{Good, Gap, Overlap, Denied}
+use Rattle.keypad_spec.specs.declared.Keypad.TheVariants.{Good, Gap, Overlap}
 use Rattle.keypad_spec.specs.declared.Found.{Found}
-use Rattle.keypad_spec.specs.declared.Found.TheVariants.{Event, Gap as GapFound, Overlap as OverlapFound, Denied as NotFound}
+use Rattle.keypad_spec.specs.declared.Found.TheVariants.{Event, Gap as GapFound, Overlap as OverlapFound}
 use Rattle.keypad_spec.specs.Tables.{rule_count, event_of, matches, match_count, lowest, table_answer}
 use Rattle.keypad_spec.specs.Calls.{keypad_fault, keypad_of, found_from, found_of}
 use Rattle.keypad_spec.specs.Numbers.{keyed, looked}
@@ -24,11 +24,11 @@ use Rattle.keypad_spec.proofs.TellLaws.{table_tells, tells_only}
 
 module _ (s : Sheet) (b : List ℕ) where
   -- a refused check answers its number, every other what is told of the table
-  pub keypad_denied : keypad_fault s b ≢ 0 → keypad_of s b ≡ Denied (keypad_fault s b)
+  pub keypad_denied : keypad_fault s b ≢ 0 → keypad_of s b ≡ Err (keypad_fault s b)
   unfolding keypad_of
   keypad_denied n = rw (ne_eqb (keypad_fault s b) 0 n)
 
-  pub keypad_given : keypad_fault s b ≡ 0 → keypad_of s b ≡ table_answer b
+  pub keypad_given : keypad_fault s b ≡ 0 → keypad_of s b ≡ Ok (table_answer b)
   unfolding keypad_of
   keypad_given z = rw (eq-eqb (keypad_fault s b) 0 z)
 
@@ -37,7 +37,7 @@ module _ (s : Sheet) (b : List ℕ) where
   keypad_tells z = rw (keypad_given z) (table_tells b ((keypad_0 s b).0 z).0.1)
 
   -- the check answers a, which is no refusal, exactly if nothing is refused and a tells what is so
-  pub keypad_means : (a : Keypad) → ((m : ℕ) → a ≢ Denied m) → (keypad_of s b ≡ a) ↔ ((keypad_fault s b ≡ 0) × Tells b a)
+  pub keypad_means : (a : Result Keypad ℕ) → ((m : ℕ) → a ≢ Err m) → (keypad_of s b ≡ a) ↔ ((keypad_fault s b ≡ 0) × Tells b a)
   keypad_means a n = (λ e. to e (ℕ_discrete (keypad_fault s b) 0), λ w. tells_only b (keypad_of s b) a (keypad_tells w.0) w.1)
     where
       to : keypad_of s b ≡ a → Dec (keypad_fault s b ≡ 0) → (keypad_fault s b ≡ 0) × Tells b a
@@ -45,43 +45,43 @@ module _ (s : Sheet) (b : List ℕ) where
       to e (no k) = absurd (n (keypad_fault s b) (sym e ∙ keypad_denied k))
 
   -- good exactly if just one rule matches each code
-  pub check_good : (keypad_of s b ≡ Good) ↔ ((keypad_fault s b ≡ 0) × GoodTable b)
+  pub check_good : (keypad_of s b ≡ Ok Good) ↔ ((keypad_fault s b ≡ 0) × GoodTable b)
   unfolding keyed
-  check_good = keypad_means Good (λ m e. omega (arith, ap (λ (a : Keypad). (keyed a).kind) e))
+  check_good = keypad_means (Ok Good) (λ m e. omega (arith, ap (λ (a : Result Keypad ℕ). (keyed a).kind) e))
 
   -- a gap exactly if no rule matches the smallest bad code
-  pub check_gap : (c : ℕ) → (keypad_of s b ≡ Gap c) ↔ ((keypad_fault s b ≡ 0) × GapAt b c)
+  pub check_gap : (c : ℕ) → (keypad_of s b ≡ Ok (Gap c)) ↔ ((keypad_fault s b ≡ 0) × GapAt b c)
   unfolding keyed
-  check_gap c = keypad_means (Gap c) (λ m e. omega (arith, ap (λ (a : Keypad). (keyed a).kind) e))
+  check_gap c = keypad_means (Ok (Gap c)) (λ m e. omega (arith, ap (λ (a : Result Keypad ℕ). (keyed a).kind) e))
 
   -- an overlap exactly if more than one rule matches the smallest bad code, with the two lowest of them
-  pub check_overlap : (c i k : ℕ) → (keypad_of s b ≡ Overlap c i k) ↔ ((keypad_fault s b ≡ 0) × OverlapAt b c i k)
+  pub check_overlap : (c i k : ℕ) → (keypad_of s b ≡ Ok (Overlap c i k)) ↔ ((keypad_fault s b ≡ 0) × OverlapAt b c i k)
   unfolding keyed
-  check_overlap c i k = keypad_means (Overlap c i k) (λ m e. omega (arith, ap (λ (a : Keypad). (keyed a).kind) e))
+  check_overlap c i k = keypad_means (Ok (Overlap c i k)) (λ m e. omega (arith, ap (λ (a : Result Keypad ℕ). (keyed a).kind) e))
 
   -- a refusal exactly with its number
-  pub check_denied : (m : ℕ) → (keypad_of s b ≡ Denied m) ↔ ((m ≢ 0) × (keypad_fault s b ≡ m))
+  pub check_denied : (m : ℕ) → (keypad_of s b ≡ Err m) ↔ ((m ≢ 0) × (keypad_fault s b ≡ m))
   unfolding keyed
-  check_denied m = (λ e. to e (ℕ_discrete (keypad_fault s b) 0), λ w. keypad_denied (λ z. w.0 (sym w.1 ∙ z)) ∙ ap Denied w.1)
+  check_denied m = (λ e. to e (ℕ_discrete (keypad_fault s b) 0), λ w. keypad_denied (λ z. w.0 (sym w.1 ∙ z)) ∙ ap Err w.1)
     where
-      to : keypad_of s b ≡ Denied m → Dec (keypad_fault s b ≡ 0) → (m ≢ 0) × (keypad_fault s b ≡ m)
+      to : keypad_of s b ≡ Err m → Dec (keypad_fault s b ≡ 0) → (m ≢ 0) × (keypad_fault s b ≡ m)
       to e (yes z) = absurd (rw e at (keypad_tells z))
       to e (no n) =
-          let q : keypad_fault s b ≡ m = ap (λ (a : Keypad). (keyed a).refusal) (sym (keypad_denied n) ∙ e) in
+          let q : keypad_fault s b ≡ m = ap (λ (a : Result Keypad ℕ). (keyed a).refusal) (sym (keypad_denied n) ∙ e) in
           ((λ z. n (q ∙ z)), q)
 
 -- ---- the same by counting
 
 module _ (s : Sheet) (b : List ℕ) where
   -- good exactly if the count is 1 for each code
-  pub good_counted : (keypad_of s b ≡ Good) ↔ ((keypad_fault s b ≡ 0) × ((c : ℕ) → c < 256 → match_count b c ≡ 1))
+  pub good_counted : (keypad_of s b ≡ Ok Good) ↔ ((keypad_fault s b ≡ 0) × ((c : ℕ) → c < 256 → match_count b c ≡ 1))
   good_counted = (
     λ e. let w = (check_good s b).0 e in (w.0, λ c l. (one_means b ((keypad_0 s b).0 w.0).0.1 c).1 (w.1 c l)),
     λ w. (check_good s b).1 (w.0, λ c l. (one_means b ((keypad_0 s b).0 w.0).0.1 c).0 (w.1 c l)),
   )
 
   -- a gap exactly if the count is 0 for the code and 1 for each smaller one
-  pub gap_counted : (c : ℕ) → (keypad_of s b ≡ Gap c) ↔ ((keypad_fault s b ≡ 0) × (c < 256) × (match_count b c ≡ 0) × ((d : ℕ) → d < c → match_count b d ≡ 1))
+  pub gap_counted : (c : ℕ) → (keypad_of s b ≡ Ok (Gap c)) ↔ ((keypad_fault s b ≡ 0) × (c < 256) × (match_count b c ≡ 0) × ((d : ℕ) → d < c → match_count b d ≡ 1))
   gap_counted c = (
     λ e. let w = (check_gap s b c).0 e in
         let ok = ((keypad_0 s b).0 w.0).0.1 in
@@ -92,7 +92,7 @@ module _ (s : Sheet) (b : List ℕ) where
 
   -- an overlap exactly if i and k are the two lowest rules whose test passes, and the count is 1 for each smaller code
   pub overlap_counted : (c i k : ℕ)
-      → (keypad_of s b ≡ Overlap c i k)
+      → (keypad_of s b ≡ Ok (Overlap c i k))
       ↔ ((keypad_fault s b ≡ 0) × (c < 256) × (i < k) × (k < rule_count b) × (matches b c i ≡ true) × (matches b c k ≡ true)
       × ((m : ℕ) → m < k → matches b c m ≡ true → m ≡ i) × ((d : ℕ) → d < c → match_count b d ≡ 1))
   overlap_counted c i k = (to, from)
@@ -101,7 +101,7 @@ module _ (s : Sheet) (b : List ℕ) where
       Told = (keypad_fault s b ≡ 0) × (c < 256) × (i < k) × (k < rule_count b) × (matches b c i ≡ true) × (matches b c k ≡ true)
           × ((m : ℕ) → m < k → matches b c m ≡ true → m ≡ i) × ((d : ℕ) → d < c → match_count b d ≡ 1)
 
-      to : keypad_of s b ≡ Overlap c i k → Told
+      to : keypad_of s b ≡ Ok (Overlap c i k) → Told
       to e =
           let w = (check_overlap s b c i k).0 e in
           let o = w.1 in
@@ -116,7 +116,7 @@ module _ (s : Sheet) (b : List ℕ) where
             λ d l. (one_means b ok d).1 (o.smallest d l),
           )
 
-      from : Told → keypad_of s b ≡ Overlap c i k
+      from : Told → keypad_of s b ≡ Ok (Overlap c i k)
       from (z, h, l, r, x, y, u, v) =
           let ok = ((keypad_0 s b).0 z).0.1 in
           (check_overlap s b c i k).1 (
@@ -143,12 +143,12 @@ module _ (s : Sheet) (b : List ℕ) (c : ℕ) where
       u (lowest b c) r ((rule_matches b ok c (lowest b c) r).0 (from_at b c 0 r).1)
 
   -- what a lookup answers, by what the check answers
-  pub found_from_lem : {a : Keypad} → keypad_of s b ≡ a → found_of s b c ≡ found_from a (event_of b (lowest b c))
+  pub found_from_lem : {a : Result Keypad ℕ} → keypad_of s b ≡ a → found_of s b c ≡ found_from a (event_of b (lowest b c))
   unfolding found_of
   found_from_lem e = rw e
 
   -- in a good table some rule matches the code, and it is the lowest that does
-  pub found_good : keypad_of s b ≡ Good → c < 256 → (i : ℕ) × (i < rule_count b) × Matches b c i × (lowest b c ≡ i)
+  pub found_good : keypad_of s b ≡ Ok Good → c < 256 → (i : ℕ) × (i < rule_count b) × Matches b c i × (lowest b c ≡ i)
   found_good e h =
       let w = (check_good s b).0 e in
       let ok = ((keypad_0 s b).0 w.0).0.1 in
@@ -156,38 +156,38 @@ module _ (s : Sheet) (b : List ℕ) (c : ℕ) where
       (j.0, j.1, j.2, lowest_is ok j.0 j.1 j.2 j.3)
 
   -- so `find` may read the lowest rule's event: it stands before the end
-  pub found_inside : keypad_of s b ≡ Good → c < 256 → lowest b c < rule_count b
+  pub found_inside : keypad_of s b ≡ Ok Good → c < 256 → lowest b c < rule_count b
   found_inside e h = let w = found_good e h in omega (arith, w.1, w.3)
 
   -- an event is answered exactly if nothing is refused, the table is good, and the rule that matches the code has it
   pub find_event : c < 256 → (e : ℕ)
-      → (found_of s b c ≡ Event e) ↔ ((keypad_fault s b ≡ 0) × GoodTable b × ((i : ℕ) × (i < rule_count b) × Matches b c i × (event_of b i ≡ e)))
+      → (found_of s b c ≡ Ok (Event e)) ↔ ((keypad_fault s b ≡ 0) × GoodTable b × ((i : ℕ) × (i < rule_count b) × Matches b c i × (event_of b i ≡ e)))
   unfolding found_of found_from looked
   find_event h e = (λ p. to (keypad_of s b) refl p, from)
     where
       Given : Type 0
       Given = (keypad_fault s b ≡ 0) × GoodTable b × ((i : ℕ) × (i < rule_count b) × Matches b c i × (event_of b i ≡ e))
 
-      to : (a : Keypad) → keypad_of s b ≡ a → found_from a (event_of b (lowest b c)) ≡ Event e → Given
-      to Good q p =
+      to : (a : Result Keypad ℕ) → keypad_of s b ≡ a → found_from a (event_of b (lowest b c)) ≡ Ok (Event e) → Given
+      to (Ok Good) q p =
           let w = (check_good s b).0 q in
           let g = found_good q h in
-          let x : event_of b (lowest b c) ≡ e = ap (λ (f : Found). (looked f).event) p in
+          let x : event_of b (lowest b c) ≡ e = ap (λ (f : Result Found ℕ). (looked f).event) p in
           (w.0, w.1, (g.0, g.1, g.2, ap (event_of b) (sym g.3) ∙ x))
-      to (Gap d) q p = absurd (omega (arith, ap (λ (f : Found). (looked f).kind) p))
-      to (Overlap d i k) q p = absurd (omega (arith, ap (λ (f : Found). (looked f).kind) p))
-      to (Denied m) q p = absurd (omega (arith, ap (λ (f : Found). (looked f).kind) p))
+      to (Ok (Gap d)) q p = absurd (omega (arith, ap (λ (f : Result Found ℕ). (looked f).kind) p))
+      to (Ok (Overlap d i k)) q p = absurd (omega (arith, ap (λ (f : Result Found ℕ). (looked f).kind) p))
+      to (Err m) q p = absurd (omega (arith, ap (λ (f : Result Found ℕ). (looked f).kind) p))
 
-      from : Given → found_of s b c ≡ Event e
+      from : Given → found_of s b c ≡ Ok (Event e)
       from (z, g, (i, l, m, x)) =
           let q = (check_good s b).1 (z, g) in
           let w = found_good q h in
           let j = g c h in
           let y : w.0 ≡ i = j.3 w.0 w.1 w.2 ∙ sym (j.3 i l m) in
-          found_from_lem q ∙ ap Event (ap (event_of b) (w.3 ∙ y) ∙ x)
+          found_from_lem q ∙ ap (λ (x : ℕ). Ok (Event x)) (ap (event_of b) (w.3 ∙ y) ∙ x)
 
   -- in a good table each code has an event, which is below E
-  pub find_some : keypad_of s b ≡ Good → c < 256 → (e : ℕ) × (e < s.e) × (found_of s b c ≡ Event e)
+  pub find_some : keypad_of s b ≡ Ok Good → c < 256 → (e : ℕ) × (e < s.e) × (found_of s b c ≡ Ok (Event e))
   unfolding found_from
   find_some q h =
       let w = found_good q h in
@@ -199,48 +199,48 @@ module _ (s : Sheet) (b : List ℕ) (c : ℕ) where
       below ok i l e (inr r) = absurd (ok (i, l, r))
 
   -- an event that is answered is below E
-  pub event_below : c < 256 → (e : ℕ) → found_of s b c ≡ Event e → e < s.e
+  pub event_below : c < 256 → (e : ℕ) → found_of s b c ≡ Ok (Event e) → e < s.e
   unfolding looked
   event_below h e p =
       let w = (find_event h e).0 p in
       let g = find_some ((check_good s b).1 (w.0, w.1)) h in
-      let x : g.0 ≡ e = ap (λ (f : Found). (looked f).event) (sym g.2 ∙ p) in
+      let x : g.0 ≡ e = ap (λ (f : Result Found ℕ). (looked f).event) (sym g.2 ∙ p) in
       rw x at g.1
 
   -- a gap, an overlap and a refusal are answered exactly if the check answers them, whatever code is asked
-  pub find_gap : (d : ℕ) → (found_of s b c ≡ GapFound d) ↔ (keypad_of s b ≡ Gap d)
+  pub find_gap : (d : ℕ) → (found_of s b c ≡ Ok (GapFound d)) ↔ (keypad_of s b ≡ Ok (Gap d))
   unfolding found_of found_from looked
   find_gap d = (λ p. to (keypad_of s b) refl p, found_from_lem)
     where
-      to : (a : Keypad) → keypad_of s b ≡ a → found_from a (event_of b (lowest b c)) ≡ GapFound d → keypad_of s b ≡ Gap d
-      to Good q p = absurd (omega (arith, ap (λ (f : Found). (looked f).kind) p))
-      to (Gap x) q p = q ∙ ap Gap (ap (λ (f : Found). (looked f).code) p)
-      to (Overlap x i k) q p = absurd (omega (arith, ap (λ (f : Found). (looked f).kind) p))
-      to (Denied m) q p = absurd (omega (arith, ap (λ (f : Found). (looked f).kind) p))
+      to : (a : Result Keypad ℕ) → keypad_of s b ≡ a → found_from a (event_of b (lowest b c)) ≡ Ok (GapFound d) → keypad_of s b ≡ Ok (Gap d)
+      to (Ok Good) q p = absurd (omega (arith, ap (λ (f : Result Found ℕ). (looked f).kind) p))
+      to (Ok (Gap x)) q p = q ∙ ap (λ (x : ℕ). Ok (Gap x)) (ap (λ (f : Result Found ℕ). (looked f).code) p)
+      to (Ok (Overlap x i k)) q p = absurd (omega (arith, ap (λ (f : Result Found ℕ). (looked f).kind) p))
+      to (Err m) q p = absurd (omega (arith, ap (λ (f : Result Found ℕ). (looked f).kind) p))
 
-  pub find_overlap : (d i k : ℕ) → (found_of s b c ≡ OverlapFound d i k) ↔ (keypad_of s b ≡ Overlap d i k)
+  pub find_overlap : (d i k : ℕ) → (found_of s b c ≡ Ok (OverlapFound d i k)) ↔ (keypad_of s b ≡ Ok (Overlap d i k))
   unfolding found_of found_from looked
   find_overlap d i k = (λ p. to (keypad_of s b) refl p, found_from_lem)
     where
-      to : (a : Keypad) → keypad_of s b ≡ a → found_from a (event_of b (lowest b c)) ≡ OverlapFound d i k → keypad_of s b ≡ Overlap d i k
-      to Good q p = absurd (omega (arith, ap (λ (f : Found). (looked f).kind) p))
-      to (Gap x) q p = absurd (omega (arith, ap (λ (f : Found). (looked f).kind) p))
-      to (Overlap x y z) q p =
-          let u : x ≡ d = ap (λ (f : Found). (looked f).code) p in
-          let v : y ≡ i = ap (λ (f : Found). (looked f).first) p in
-          let w : z ≡ k = ap (λ (f : Found). (looked f).second) p in
+      to : (a : Result Keypad ℕ) → keypad_of s b ≡ a → found_from a (event_of b (lowest b c)) ≡ Ok (OverlapFound d i k) → keypad_of s b ≡ Ok (Overlap d i k)
+      to (Ok Good) q p = absurd (omega (arith, ap (λ (f : Result Found ℕ). (looked f).kind) p))
+      to (Ok (Gap x)) q p = absurd (omega (arith, ap (λ (f : Result Found ℕ). (looked f).kind) p))
+      to (Ok (Overlap x y z)) q p =
+          let u : x ≡ d = ap (λ (f : Result Found ℕ). (looked f).code) p in
+          let v : y ≡ i = ap (λ (f : Result Found ℕ). (looked f).first) p in
+          let w : z ≡ k = ap (λ (f : Result Found ℕ). (looked f).second) p in
           q ∙ rw (u, v, w)
-      to (Denied m) q p = absurd (omega (arith, ap (λ (f : Found). (looked f).kind) p))
+      to (Err m) q p = absurd (omega (arith, ap (λ (f : Result Found ℕ). (looked f).kind) p))
 
-  pub find_denied : (m : ℕ) → (found_of s b c ≡ NotFound m) ↔ (keypad_of s b ≡ Denied m)
+  pub find_denied : (m : ℕ) → (found_of s b c ≡ Err m) ↔ (keypad_of s b ≡ Err m)
   unfolding found_of found_from looked
   find_denied m = (λ p. to (keypad_of s b) refl p, found_from_lem)
     where
-      to : (a : Keypad) → keypad_of s b ≡ a → found_from a (event_of b (lowest b c)) ≡ NotFound m → keypad_of s b ≡ Denied m
-      to Good q p = absurd (omega (arith, ap (λ (f : Found). (looked f).kind) p))
-      to (Gap x) q p = absurd (omega (arith, ap (λ (f : Found). (looked f).kind) p))
-      to (Overlap x i k) q p = absurd (omega (arith, ap (λ (f : Found). (looked f).kind) p))
-      to (Denied x) q p = q ∙ ap Denied (ap (λ (f : Found). (looked f).refusal) p)
+      to : (a : Result Keypad ℕ) → keypad_of s b ≡ a → found_from a (event_of b (lowest b c)) ≡ Err m → keypad_of s b ≡ Err m
+      to (Ok Good) q p = absurd (omega (arith, ap (λ (f : Result Found ℕ). (looked f).kind) p))
+      to (Ok (Gap x)) q p = absurd (omega (arith, ap (λ (f : Result Found ℕ). (looked f).kind) p))
+      to (Ok (Overlap x i k)) q p = absurd (omega (arith, ap (λ (f : Result Found ℕ). (looked f).kind) p))
+      to (Err x) q p = q ∙ ap Err (ap (λ (f : Result Found ℕ). (looked f).refusal) p)
 
 -- ---- the sheet
 

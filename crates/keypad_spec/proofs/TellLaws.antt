@@ -1,11 +1,11 @@
 -- Nothing to believe: laws. What is told of a table is so, and nothing else is told: a table whose values have no bit
 -- outside their masks is told just one answer.
-use Rattle.std.specs.Prelude.{◌≡◌, refl, ◌⊎◌, ◌≢◌, List, ℕ, ◌+◌, ◌≤◌, ◌<◌}
+use Rattle.std.specs.Prelude.{◌≡◌, refl, ◌⊎◌, ◌≢◌, List, ℕ, Result, Ok, Err, ◌+◌, ◌≤◌, ◌<◌}
 use Rattle.std.proofs.Common.{sym, ap, inl, inr, arith, lt-ltb, le-ltb, eq-eqb, ne_eqb}
 use Rattle.std.proofs.Math.Decide.{ℕ_discrete}
 use Rattle.base.proofs.Truth.{clash, lt_or_ge}
 use Rattle.keypad_spec.specs.declared.Keypad.{Keypad}
-use Rattle.keypad_spec.specs.declared.Keypad.TheVariants.{Good, Gap, Overlap, Denied}
+use Rattle.keypad_spec.specs.declared.Keypad.TheVariants.{Good, Gap, Overlap}
 use Rattle.keypad_spec.specs.Tables.{rule_count, match_count, bad_code, lowest, second, bad_answer, table_answer}
 use Rattle.keypad_spec.specs.Meaning.{Matches, JustOne, GapAt, OverlapAt, Tells, ValueFault}
 use Rattle.keypad_spec.proofs.MatchLaws.{rule_matches, none_means, two_lowest, bad_before, bad_at, from_at, from_before}
@@ -55,10 +55,10 @@ module _ (b : List ℕ) (ok : ¬ ValueFault b) where
       only c m r k x (inr u) (inr v) = omega (arith, u, v)
 
   -- what is told of a table is so
-  pub table_tells : Tells b (table_answer b)
+  pub table_tells : Tells b (Ok (table_answer b))
   table_tells = go (lt_or_ge (bad_code b) 256) (ℕ_discrete (match_count b (bad_code b)) 0)
     where
-      go : (bad_code b < 256) ⊎ (256 ≤ bad_code b) → Dec (match_count b (bad_code b) ≡ 0) → Tells b (table_answer b)
+      go : (bad_code b < 256) ⊎ (256 ≤ bad_code b) → Dec (match_count b (bad_code b) ≡ 0) → Tells b (Ok (table_answer b))
       go (inr l) d = rw (told_good b l) (λ c k. bad_before b ok c (omega (arith, l, k)))
       go (inl l) (yes e) =
           rw (told_bad b l, told_gap b (bad_code b) e)
@@ -101,24 +101,24 @@ module _ (b : List ℕ) where
       high e (inr l) (inr r) = omega (arith, l, r)
 
   -- a table is told at most one answer
-  pub tells_only : (a r : Keypad) → Tells b a → Tells b r → a ≡ r
-  tells_only Good Good t u = refl
-  tells_only Good (Gap d) t u = absurd (gap_bad d u (t d u.is_code))
-  tells_only Good (Overlap d x y) t u = absurd (overlap_bad d x y u (t d u.is_code))
-  tells_only Good (Denied m) t u = absurd u
-  tells_only (Gap c) Good t u = absurd (gap_bad c t (u c t.is_code))
-  tells_only (Gap c) (Gap d) t u = ap Gap (one_smallest c d (gap_bad c t) (gap_bad d u) t.smallest u.smallest)
-  tells_only (Gap c) (Overlap d x y) t u =
+  pub tells_only : (a r : Result Keypad ℕ) → Tells b a → Tells b r → a ≡ r
+  tells_only (Ok Good) (Ok Good) t u = refl
+  tells_only (Ok Good) (Ok (Gap d)) t u = absurd (gap_bad d u (t d u.is_code))
+  tells_only (Ok Good) (Ok (Overlap d x y)) t u = absurd (overlap_bad d x y u (t d u.is_code))
+  tells_only (Ok Good) (Err m) t u = absurd u
+  tells_only (Ok (Gap c)) (Ok Good) t u = absurd (gap_bad c t (u c t.is_code))
+  tells_only (Ok (Gap c)) (Ok (Gap d)) t u = ap (λ (x : ℕ). Ok (Gap x)) (one_smallest c d (gap_bad c t) (gap_bad d u) t.smallest u.smallest)
+  tells_only (Ok (Gap c)) (Ok (Overlap d x y)) t u =
       let e = one_smallest c d (gap_bad c t) (overlap_bad d x y u) t.smallest u.smallest in
       absurd (t.none y u.is_rule (rw e u.other))
-  tells_only (Gap c) (Denied m) t u = absurd u
-  tells_only (Overlap c i k) Good t u = absurd (overlap_bad c i k t (u c t.is_code))
-  tells_only (Overlap c i k) (Gap d) t u =
+  tells_only (Ok (Gap c)) (Err m) t u = absurd u
+  tells_only (Ok (Overlap c i k)) (Ok Good) t u = absurd (overlap_bad c i k t (u c t.is_code))
+  tells_only (Ok (Overlap c i k)) (Ok (Gap d)) t u =
       let e = one_smallest c d (overlap_bad c i k t) (gap_bad d u) t.smallest u.smallest in
       absurd (u.none k t.is_rule (rw (← e) t.other))
-  tells_only (Overlap c i k) (Overlap d x y) t u =
+  tells_only (Ok (Overlap c i k)) (Ok (Overlap d x y)) t u =
       let e = one_smallest c d (overlap_bad c i k t) (overlap_bad d x y u) t.smallest u.smallest in
       let w = one_pair d i k x y (rw e at t) u in
       rw (e, w.0, w.1)
-  tells_only (Overlap c i k) (Denied m) t u = absurd u
-  tells_only (Denied m) r t u = absurd t
+  tells_only (Ok (Overlap c i k)) (Err m) t u = absurd u
+  tells_only (Err m) r t u = absurd t

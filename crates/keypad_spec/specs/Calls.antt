@@ -1,15 +1,15 @@
 -- The two calls over a sheet and a table's bytes (02, K6): what each refuses and what it answers. s is the sheet handed
 -- along, whose E the events of the rules must be below.
-use Rattle.std.specs.Prelude.{Bool, ◌&&◌, cond, List, ℕ, ◌%◌, eqb, ltb, leb, length}
+use Rattle.std.specs.Prelude.{Bool, ◌&&◌, cond, List, ℕ, Result, Ok, Err, ◌%◌, eqb, ltb, leb, length}
 use Rattle.base.specs.Range.{all}
 use Rattle.base.specs.Refusal.{unless, or_else}
 use Rattle.events.specs.Sets.{inside}
 use Rattle.sheet_spec.specs.declared.Sheet.{Sheet}
 use Rattle.sheet_spec.specs.Refusals.{sheet_fault}
 use Rattle.keypad_spec.specs.declared.Keypad.{Keypad}
-use Rattle.keypad_spec.specs.declared.Keypad.TheVariants.{Good, Gap, Overlap, Denied}
+use Rattle.keypad_spec.specs.declared.Keypad.TheVariants.{Good, Gap, Overlap}
 use Rattle.keypad_spec.specs.declared.Found.{Found}
-use Rattle.keypad_spec.specs.declared.Found.TheVariants.{Event, Gap as GapFound, Overlap as OverlapFound, Denied as NotFound}
+use Rattle.keypad_spec.specs.declared.Found.TheVariants.{Event, Gap as GapFound, Overlap as OverlapFound}
 use Rattle.keypad_spec.specs.Tables.{rule_count, mask, value, event_of, lowest, table_answer}
 
 -- 21: the bytes are 1 to 64 rules, none of them a part
@@ -33,17 +33,17 @@ unfoldable pub keypad_fault : Sheet → List ℕ → ℕ
 keypad_fault s b = or_else (sheet_fault s) (table_fault s.e b)
 
 -- the answer of a check: what is told of the table, or the refusal
-unfoldable pub keypad_of : Sheet → List ℕ → Keypad
-keypad_of s b = cond (eqb (keypad_fault s b) 0) (table_answer b) (Denied (keypad_fault s b))
+unfoldable pub keypad_of : Sheet → List ℕ → Result Keypad ℕ
+keypad_of s b = cond (eqb (keypad_fault s b) 0) (Ok (table_answer b)) (Err (keypad_fault s b))
 
 -- what a lookup answers where a check of the table answers a and the rule that matches the code has the event e: the
 -- event if the table is good, else the same gap, overlap or refusal
-unfoldable pub found_from : Keypad → ℕ → Found
-found_from Good e = Event e
-found_from (Gap c) e = GapFound c
-found_from (Overlap c i k) e = OverlapFound c i k
-found_from (Denied m) e = NotFound m
+unfoldable pub found_from : Result Keypad ℕ → ℕ → Result Found ℕ
+found_from (Ok Good) e = Ok (Event e)
+found_from (Ok (Gap c)) e = Ok (GapFound c)
+found_from (Ok (Overlap c i k)) e = Ok (OverlapFound c i k)
+found_from (Err m) e = Err m
 
 -- the answer of a lookup of the code c
-unfoldable pub found_of : Sheet → List ℕ → ℕ → Found
+unfoldable pub found_of : Sheet → List ℕ → ℕ → Result Found ℕ
 found_of s b c = found_from (keypad_of s b) (event_of b (lowest b c))

@@ -1,11 +1,11 @@
 -- Nothing to believe: words for laws alone. What a table and an answer mean, bit by bit and code by code, with no test
 -- and no count of matches in it. b are the bytes of a table, c is a code, i and k are rules, counted from 0.
-use Rattle.std.specs.Prelude.{◌≡◌, ◌⊎◌, List, ℕ, ◌+◌, ◌*◌, ◌≤◌, ◌<◌, length}
+use Rattle.std.specs.Prelude.{◌≡◌, ◌⊎◌, List, ℕ, Result, Ok, Err, ◌+◌, ◌*◌, ◌≤◌, ◌<◌, length}
 use Rattle.events.specs.Bit.{bit}
 use Rattle.sheet_spec.specs.declared.Sheet.{Sheet}
 use Rattle.sheet_spec.specs.Refusals.{sheet_fault}
 use Rattle.keypad_spec.specs.declared.Keypad.{Keypad}
-use Rattle.keypad_spec.specs.declared.Keypad.TheVariants.{Good, Gap, Overlap, Denied}
+use Rattle.keypad_spec.specs.declared.Keypad.TheVariants.{Good, Gap, Overlap}
 use Rattle.keypad_spec.specs.Tables.{rule_count, mask, value, event_of}
 
 -- rule i matches a code: every masked bit of the code is the value's
@@ -37,11 +37,11 @@ pub record OverlapAt (b : List ℕ) (c i k : ℕ) : Type 0 where
   pub smallest : (d : ℕ) → d < c → JustOne b d
 
 -- what an answer tells of a table; a refusal tells nothing
-abbrev pub Tells : List ℕ → Keypad → Type 0
-Tells b Good = GoodTable b
-Tells b (Gap c) = GapAt b c
-Tells b (Overlap c i k) = OverlapAt b c i k
-Tells b (Denied m) = ⊥
+abbrev pub Tells : List ℕ → Result Keypad ℕ → Type 0
+Tells b (Ok Good) = GoodTable b
+Tells b (Ok (Gap c)) = GapAt b c
+Tells b (Ok (Overlap c i k)) = OverlapAt b c i k
+Tells b (Err m) = ⊥
 
 -- some bytes are left over: one or two of a rule that is not whole
 abbrev pub PartRule : List ℕ → Type 0

@@ -1,6 +1,6 @@
 -- A keypad's table (02, K6): its rules, which of them match a code, and what is told of a table. b are the bytes of a
 -- table, c is a code, and i a rule, counted from 0. What is told is said bit by bit and code by code in Meaning.
-use Rattle.std.specs.Prelude.{Bool, not, ◌&&◌, cond, List, ℕ, ◌+◌, ◌*◌, ◌/◌, eqb, ltb, leb, length, get_or}
+use Rattle.std.specs.Prelude.{Bool, not, ◌&&◌, cond, List, ℕ, ◌+◌, ◌*◌, ◌/◌, Option, Some, None, eqb, ltb, leb, length, get_or}
 use Rattle.std.specs.Int.Bits.{bit_and}
 use Rattle.base.specs.Range.{first}
 use Rattle.base.specs.Count.{count}
@@ -38,6 +38,10 @@ bad_code b = first (λ c. not (eqb (match_count b c) 1)) 256
 -- the lowest rule, from rule i on, that matches a code; the number of rules where there is none
 unfoldable pub match_from : List ℕ → ℕ → ℕ → ℕ
 match_from b c i = first (λ k. leb i k && matches b c k) (rule_count b)
+
+-- a place that is below n, or none
+abbrev pub if_below : ℕ → ℕ → Option ℕ
+if_below n i = cond (ltb i n) (Some i) None
 
 -- the lowest rule that matches a code; the number of rules where there is none
 abbrev pub lowest : List ℕ → ℕ → ℕ

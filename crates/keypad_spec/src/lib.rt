@@ -1,6 +1,6 @@
 // A keypad's table (02, K6): which rule matches which code, whether each code has just one, and the event of a code.
-// The crate has the types of the two answers; its specs say what a table is, what is refused, what is answered and what
-// that means. It has no function.
+// The crate has what the two calls answer where they do not refuse; its specs say what a table is, what is refused, what
+// is answered and what that means. It has no function.
 #![tactic(auto)]
 
 // What a check of a table answers.
@@ -12,8 +12,6 @@ pub enum Keypad {
     Gap(u8),
     // the smallest bad code, which more than one rule matches, and the two lowest rules that do
     Overlap(u8, u8, u8),
-    // the number of the refusal of the call
-    Denied(u8),
 }
 
 // What a lookup of a code answers.
@@ -25,6 +23,4 @@ pub enum Found {
     Gap(u8),
     // the overlap that a check of the table answers, whatever code was asked
     Overlap(u8, u8, u8),
-    // the number of the refusal of the call
-    Denied(u8),
 }

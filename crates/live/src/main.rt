@@ -11,12 +11,14 @@
 #![tactic(auto)]
 
 use live_lines_spec::Asked;
+use refusals::Refusal;
 use sheet_spec::Sheet;
 use std::env::{Env, FillError};
 use std::fs::File;
 use std::io::{Error, ErrorKind, Read, Write};
 use std::rt::Files;
 use tests_spec::{Answer, Run};
+use text::Page;
 
 // The number of standard input.
 const STDIN_FILENO: i32 = 0;
@@ -43,30 +45,31 @@ const LONGEST: u32 = 1000000;
 
 // The next byte of standard input; none at its end, and where the read fails.
 fn heard_byte() -> Option<u8> {
-    let mut one = [0u8; 1];
+    let mut one = [0; 1];
     if io::read_full(STDIN_FILENO, &mut one) == 0 {
-        return None;
+        None
+    } else {
+        Some(one[0])
     }
-    Some(one[0])
 }
 
 // Reads a line of standard input into the front of a list, up to its newline, and answers how many bytes of it the list
 // holds; bytes that have no room are dropped. None where the input ends, or cannot be read, before the line ends.
 fn read_line(list: &mut [u8]) -> Option<usize> {
-    let mut len = 0;
+    let mut page = Page::new(list);
     for _ in 0..LONGEST {
         let b = heard_byte()?;
         if b == b'\n' {
             break;
         }
-        len = text::put_byte(list, len, b);
+        page.put_byte(b);
     }
-    Some(len)
+    Some(page.at)
 }
 
 // The next byte of a file; none at its end.
 fn read_byte(file: &mut impl Read) -> std::io::Result<Option<u8>> {
-    let mut one = [0u8; 1];
+    let mut one = [0; 1];
     if file.read(&mut one)? == 0 {
         return Ok(None);
     }
@@ -76,14 +79,14 @@ fn read_byte(file: &mut impl Read) -> std::io::Result<Option<u8>> {
 // Reads a file into the front of a list, up to its end, and answers how many bytes of it the list holds; bytes that
 // have no room are dropped.
 fn read_to_end(file: &mut impl Read, list: &mut [u8]) -> std::io::Result<usize> {
-    let mut len = 0;
+    let mut page = Page::new(list);
     for _ in 0..LONGEST {
         match read_byte(file)? {
             None => break,
-            Some(b) => len = text::put_byte(list, len, b),
+            Some(b) => page.put_byte(b),
         }
     }
-    Ok(len)
+    Ok(page.at)
 }
 
 // Opens the file that some bytes name. A name that is no text is refused.
@@ -96,7 +99,7 @@ fn open_named<R: Files>(rt: &R, name: &[u8]) -> std::io::Result<R::File> {
 
 // Opens the file that the first word names; 4,095 bytes hold every name that the system takes.
 fn open_reference<R: Env + Files>(rt: &R) -> std::io::Result<R::File> {
-    let mut name = [0u8; 4095];
+    let mut name = [0; 4095];
     match rt.arg(1, &mut name) {
         Ok(n) => open_named(rt, text::front(&name, n)),
         Err(FillError::TooLong) => Err(Error::from_raw_os_error(ENAMETOOLONG)),
@@ -110,11 +113,11 @@ fn read_file(rt: &(impl Env + Files), list: &mut [u8]) -> std::io::Result<usize>
     read_to_end(&mut file, list)
 }
 
-// The test that the words ask for, where `four` says whether there is a fourth.
-fn asked_for(rt: &impl Env, four: bool) -> Asked {
-    let mut k = [0u8; 64];
-    let mut h = [0u8; 64];
-    let mut word = [0u8; 64];
+// The test that the words ask for, if they ask for one, where `four` says whether there is a fourth.
+fn asked_for(rt: &impl Env, four: bool) -> Option<Asked> {
+    let mut k = [0; 64];
+    let mut h = [0; 64];
+    let mut word = [0; 64];
     let a = arguments::put_word(rt, 2, &mut k);
     let b = arguments::put_word(rt, 3, &mut h);
     let c = arguments::put_word(rt, 4, &mut word);
@@ -157,7 +160,7 @@ fn without_number(said: &str) -> &str {
 
 // Says on standard error why the file cannot be read.
 fn unread(error: Error) {
-    let mut list = [0u8; 256];
+    let mut list = [0; 256];
     let n = put_error(&mut list, error);
     let said = match str::from_utf8(text::front(&list, n)) {
         Ok(said) => without_number(said),
@@ -168,35 +171,49 @@ fn unread(error: Error) {
     io::write_all(STDERR_FILENO, b"\n");
 }
 
-// Writes what an opening prints, on a reference of n nodes and e events; `fault` is its own refusal.
-fn say_opening(asked: Asked, n: u8, e: u8, fault: u8, a: Answer) -> bool {
-    let mut out = [0u8; 128];
-    let len = live_lines::put_opening(&mut out, asked, n, e, fault, a);
+// Writes what the opening of a test prints, on a reference of n nodes and e events.
+fn say_opening(asked: Asked, n: u8, e: u8, answer: Answer) -> bool {
+    let mut out = [0; 128];
+    let mut page = Page::new(&mut out);
+    live_lines::put_opening(&mut page, asked, n, e, 0, answer);
+    let len = page.at;
     written(text::front(&out, len))
 }
 
+// Writes that the reference is refused.
+fn say_reference_refused(refusal: Refusal) {
+    let mut out = [0; 128];
+    let mut page = Page::new(&mut out);
+    live_lines::put_reference_refused(&mut page, u8::from(refusal));
+    let len = page.at;
+    written(text::front(&out, len));
+}
+
+// Writes that the words ask for no test.
+fn say_no_test() {
+    let mut out = [0; 128];
+    let mut page = Page::new(&mut out);
+    live_lines::put_test_refused(&mut page, u8::from(Refusal::Test));
+    let len = page.at;
+    written(text::front(&out, len));
+}
+
 // Writes what the answer to a report prints, where `offered` is the set that stood offered.
-fn say_answer(offered: u16, a: Answer) -> bool {
-    let mut out = [0u8; 128];
-    let len = live_lines::put_answer(&mut out, offered, a);
+fn say_answer(offered: u16, answer: Answer) -> bool {
+    let mut out = [0; 128];
+    let mut page = Page::new(&mut out);
+    live_lines::put_answer(&mut page, offered, answer);
+    let len = page.at;
     written(text::front(&out, len))
 }
 
 // Writes that the lines were too many, or that the input ended.
-fn say_stop(many: bool) -> bool {
-    let mut out = [0u8; 128];
-    let len = live_lines::put_stop(&mut out, many);
-    written(text::front(&out, len))
-}
-
-// Writes that the words ask for no test.
-fn say_no_test() -> bool {
-    let none = Asked {
-        k: 65535,
-        h: 0,
-        trace_only: false,
-    };
-    say_opening(none, 0, 0, 0, Answer::Denied(14))
+fn say_stop(many: bool) {
+    let mut out = [0; 128];
+    let mut page = Page::new(&mut out);
+    live_lines::put_stop(&mut page, many);
+    let len = page.at;
+    written(text::front(&out, len));
 }
 
 // ---- the run
@@ -209,50 +226,29 @@ struct Heard {
     run: Run,
 }
 
-// Whether a run has begun, by the answer to its opening.
-fn has_begun(a: Answer) -> bool {
-    match a {
-        Answer::Going(set) => true,
-        Answer::Stray(event) => false,
-        Answer::Refused(set) => false,
-        Answer::Passed => false,
-        Answer::Inconclusive => false,
-        Answer::Denied(number) => false,
-    }
-}
-
 // One round of a run: hears a line, steps the run and writes the answer; a run whose answer is not written ends.
 fn take_line(sheet: Sheet, run: Run, offered: u16, line: &[u8]) -> Heard {
     let stepped = tests::step(sheet, run, live_words::heard(line));
-    let a = stepped.answer;
-    let after = stepped.run;
-    let next = live_lines::next_offer(offered, a);
-    if say_answer(offered, a) {
-        return Heard {
-            going: live_lines::goes_on(a),
-            offered: next,
-            run: after,
-        };
-    }
+    let said = say_answer(offered, stepped.answer);
     Heard {
-        going: false,
-        offered: next,
-        run: after,
+        going: said && live_lines::goes_on(stepped.answer),
+        offered: live_lines::next_offer(offered, stepped.answer),
+        run: stepped.run,
     }
 }
 
 // Reads a line and answers it; of a longer line the first 64 bytes are kept, which are no report. Bytes after which the
 // input ends are no line.
 fn next_line(sheet: Sheet, run: Run, offered: u16) -> Heard {
-    let mut line = [0u8; 64];
+    let mut line = [0; 64];
     match read_line(&mut line) {
         Some(len) => take_line(sheet, run, offered, text::front(&line, len)),
         None => {
             say_stop(false);
             Heard {
                 going: false,
-                offered: offered,
-                run: run,
+                offered,
+                run,
             }
         }
     }
@@ -273,36 +269,39 @@ fn answer_lines(sheet: Sheet, first: Run, set: u16) {
     say_stop(true);
 }
 
-// Opens the test that is asked for, and answers its lines. Bytes that are refused give a sheet of zeros, which opens no
-// test.
-fn run_test(bytes: &[u8], asked: Asked) {
-    let reference = sheet::read(bytes);
-    let s = reference.sheet;
-    let opened = tests::open_test(s, asked.k, asked.h, asked.trace_only);
-    let a = opened.answer;
-    let run = opened.run;
-    if !say_opening(asked, s.n, s.e, reference.refusal, a) {
+// Opens the test that is asked for, and answers its lines.
+fn run_test(sheet: Sheet, asked: Asked) {
+    let opened = tests::open_test(sheet, asked.k, asked.h, asked.trace_only);
+    if !say_opening(asked, sheet.n, sheet.e, opened.answer) {
         return;
     }
-    if has_begun(a) {
-        answer_lines(s, run, live_lines::next_offer(0, a));
+    if let Answer::Going(offered) = opened.answer {
+        answer_lines(sheet, opened.run, offered);
+    }
+}
+
+// Opens the test that is asked for on the reference that the bytes spell. A reference that is refused comes first, then
+// words that ask for no test.
+fn run_bytes(bytes: &[u8], asked: Option<Asked>) {
+    match sheet::read(bytes) {
+        Err(refusal) => say_reference_refused(refusal),
+        Ok(sheet) => match asked {
+            None => say_no_test(),
+            Some(asked) => run_test(sheet, asked),
+        },
     }
 }
 
 // Reads the file and the words, and runs the test. The program's own name counts as a word.
 fn main(rt: HostRuntime) {
     let words = arguments::word_count(&rt);
-    if words < 4 {
-        say_no_test();
-        return;
-    }
-    if words > 5 {
+    if !(4..=5).contains(&words) {
         say_no_test();
         return;
     }
     let mut space = io::buffer();
     match read_file(&rt, &mut space) {
-        Ok(n) => run_test(text::front(&space, n), asked_for(&rt, words == 5)),
+        Ok(n) => run_bytes(text::front(&space, n), asked_for(&rt, words == 5)),
         Err(error) => unread(error),
     }
 }

@@ -31,8 +31,11 @@ last_ok there word = not there || same_text word (ascii "traces")
 unfoldable pub words_ok : List ℕ → List ℕ → Bool → List ℕ → Bool
 words_ok k h there word = leb (number_of k) 65535 && (leb (number_of h) 65535 && last_ok there word)
 
--- the test that the words ask for; the word `traces` makes it trace-only. Bad words ask for test 65,535, which is none,
--- so that its opening is refused with 14
+-- test 65,535, which is none: its opening is refused with 14
+abbrev pub no_test : Asked
+no_test = record { k = 65535; h = 0; trace_only = false }
+
+-- the test that the words ask for; the word `traces` makes it trace-only. Bad words ask for none
 unfoldable pub asked_of : List ℕ → List ℕ → Bool → List ℕ → Asked
 asked_of k h there word =
-    cond (words_ok k h there word) (record { k = number_of k; h = number_of h; trace_only = there }) (record { k = 65535; h = 0; trace_only = false })
+    cond (words_ok k h there word) (record { k = number_of k; h = number_of h; trace_only = there }) no_test

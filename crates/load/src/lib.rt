@@ -1,21 +1,23 @@
 // A reproducible load (02, K9). `walk` takes any sheet, seed, wish and list: it writes the walk of the seed to the
-// front of the list and answers its length, or the number of the refusal. The initials of each node are listed once,
+// front of the list and answers its length, or why it refuses. The initials of each node are listed once,
 // and its successors laid out in a flat table; the walk goes by these tables alone.
 #![tactic(auto)]
 
-ghost use Rattle.std.specs.Prelude.{◌≡◌, List, ℕ, ◌≤◌, ◌<◌, length};
+ghost use Rattle.std.specs.Prelude.{◌≡◌, ◌≤◌, ◌<◌, length};
+ghost use Rattle.refusals.specs.Numbers.{refusal_in, numbered};
 ghost use Rattle.base.specs.Front.{at_front};
 ghost use Rattle.events.specs.Lists.{events_in};
 ghost use Rattle.load_spec.specs.Xorshift.{next_state};
 ghost use Rattle.load_spec.specs.Calls.{walk_fault, walked_numbers, walk_length, walked_of, walk_after};
 ghost use Rattle.load.specs.Shapes.{count_with, Listed, Tabled, Leads, table_walk};
 
-use load_spec::Walked;
+use refusals::Refusal;
 use sheet_spec::{Row, Sheet};
 
 // ---- the generator
 
 // The state that follows another.
+#[tactic(auto, unfolding(load_spec::specs::Xorshift::next_state, load_spec::specs::Xorshift::mixed_left, load_spec::specs::Xorshift::mixed_right, load_spec::specs::Xorshift::shifted_left, load_spec::specs::Xorshift::shifted_right))]
 fn next_state(x: u32) -> u32
     ensures { result ≡ next_state x }
 {
@@ -27,14 +29,12 @@ fn next_state(x: u32) -> u32
 // ---- the tables
 
 // How many events of a set are listed once event i was written: one more if it is in the set.
+#[tactic(auto, unfolding(crate::specs::Shapes::count_with))]
 fn count_with(count: usize, set: u16, i: usize) -> usize
     requires { (count ≤ i) × (i < 12) }
     ensures { result ≡ count_with count set i }
 {
-    if events::contains(set, i) {
-        return count + 1;
-    }
-    count
+    count + usize::from(events::contains(set, i))
 }
 
 // Lists the events of a set, ascending, in the first of the twelve places of node v, and answers how many they are. An
@@ -57,8 +57,7 @@ fn list_initials(rows: [Row; 32], e: usize, n: usize, lists: &mut [u8; 384], cou
     ensures { Tabled rows e n lists.new counts.new }
 {
     for v in 0..n {
-        let row = rows[v];
-        let set = sheet_rows::initials_of(row, e);
+        let set = sheet_rows::initials_of(rows[v], e);
         let count = list_events(lists, set, v);
         counts[v] = count as u32;
     }
@@ -83,8 +82,7 @@ fn walk_tables(
 {
     let mut x = seed;
     let mut v: usize = 0;
-    let mut j: usize = 0;
-    while j < wish {
+    for j in 0..wish {
         let m = counts[v];
         if m == 0 {
             return j;
@@ -92,59 +90,45 @@ fn walk_tables(
         x = next_state(x);
         let event = lists[v * 12 + (x % m) as usize];
         out[j] = event;
-        v = base::wide(next[v * 12 + base::wide(event)]);
-        j += 1;
+        v = usize::from(next[v * 12 + usize::from(event)]);
     }
-    j
+    wish
 }
 
 // ---- the call
 
-// The refusal of a call with a list of `room` places: the sheet's own; 27, the seed is 0; 28, a list shorter than the
-// wish, or a wish over 4,096; 0 for none.
-fn fault_on(sheet: Sheet, seed: u32, wish: u16, room: usize) -> u8
-    ensures { (out : List ℕ) → room ≡ length out → result ≡ walk_fault sheet seed wish out }
+// Why a call is refused, if it is: the sheet's own; 27, the seed is 0; 28, a list shorter than the wish, or a wish over
+// 4,096.
+#[tactic(auto, unfolding(load_spec::specs::Calls::walk_fault, load_spec::specs::Calls::seed_ok, load_spec::specs::Calls::wish_ok))]
+fn fault_on(sheet: Sheet, seed: u32, wish: u16, out: &[u8]) -> Result<(), Refusal>
+    ensures { refusal_in result ≡ walk_fault sheet seed wish out.now }
 {
-    let own = sheet::check(sheet);
-    if own != 0 {
-        return own;
-    }
+    sheet::check(sheet)?;
     if seed == 0 {
-        return 27;
+        return Err(Refusal::Seed);
     }
-    if room < wish as usize {
-        return 28;
+    if out.len() < usize::from(wish) || wish > 4096 {
+        return Err(Refusal::Wish);
     }
-    if wish > 4096 {
-        return 28;
-    }
-    0
+    Ok(())
 }
 
-// Writes the walk of the seed, of at most `wish` events, to the front of the lent list and answers its length; or the
-// number of the refusal, and the list is as it was: the sheet's own; 27, the seed is 0; 28, a list shorter than the
-// wish, or a wish over 4,096.
-pub fn walk(sheet: Sheet, seed: u32, wish: u16, out: &mut [u8]) -> Walked
-    ensures { (result ≡ walked_of sheet seed wish out.old)
-        × (walked_numbers result
+// Writes the walk of the seed, of at most `wish` events, to the front of the lent list and answers its length; or why it
+// refuses, and the list is as it was: the sheet's own; 27, the seed is 0; 28, a list shorter than the wish, or a wish
+// over 4,096.
+pub fn walk(sheet: Sheet, seed: u32, wish: u16, out: &mut [u8]) -> Result<u16, Refusal>
+    ensures { (numbered result ≡ walked_of sheet seed wish out.old)
+        × (walked_numbers (numbered result)
         ≡ (walk_fault sheet seed wish out.old, walk_length sheet seed wish out.old))
         × (out.new ≡ walk_after sheet seed wish out.old) }
 {
-    let fault = fault_on(sheet, seed, wish, out.len());
-    if fault != 0 {
-        return Walked::Denied(fault);
-    }
-    let rows = sheet.rows;
-    let next = sheet_rows::flat(rows);
+    fault_on(sheet, seed, wish, out)?;
+    let next = sheet_rows::flat(sheet.rows);
+    let e = usize::from(sheet.e);
+    let n = usize::from(sheet.n);
     let mut lists = [0u8; 384];
     let mut counts = [0u32; 32];
-    list_initials(
-        rows,
-        base::wide(sheet.e),
-        base::wide(sheet.n),
-        &mut lists,
-        &mut counts,
-    );
-    let length = walk_tables(&lists, &counts, &next, seed, wish as usize, out);
-    Walked::Length(length as u16)
+    list_initials(sheet.rows, e, n, &mut lists, &mut counts);
+    let length = walk_tables(&lists, &counts, &next, seed, usize::from(wish), out);
+    Ok(length as u16)
 }

@@ -1,6 +1,6 @@
 -- Nothing to believe: laws. The call: when each refusal is given, what is answered, and what stands in the list; and
 -- that it depends on nothing else.
-use Rattle.std.specs.Prelude.{◌≡◌, ◌⊎◌, ◌↔◌, ◌≢◌, Bool, List, eqb, length, get_or, take}
+use Rattle.std.specs.Prelude.{◌≡◌, ◌⊎◌, ◌↔◌, ◌≢◌, Bool, List, Ok, Err, eqb, length, get_or, take}
 use Rattle.std.proofs.Math.Path.{refl}
 use Rattle.std.proofs.Common.{sym, ap, ◌∙◌, length-take, get_or-take}
 use Rattle.std.proofs.Math.Logic.{inl, inr}
@@ -19,17 +19,16 @@ use Rattle.sheet_spec.specs.Kept.{recoded}
 use Rattle.sheet_spec.specs.Refusals.{sheet_fault, Own, NotOwn}
 use Rattle.sheet_spec.proofs.Chains.{further, finally}
 use Rattle.sheet_spec.proofs.CheckLaws.{check_other, check_own, own_other}
-use Rattle.load_spec.specs.declared.Walked.TheVariants.{Length, Denied}
 use Rattle.load_spec.specs.Walks.{walk_of}
 use Rattle.load_spec.specs.Calls.{seed_ok, wish_ok, walk_fault, walked_numbers, walk_length, walked_of, walk_after}
 use Rattle.load_spec.proofs.WalkLaws.{walk_short, walk_front, recoded_walk}
 
 -- the numbers of each case of an answer, for crates that may not unfold them
-pub walked_numbers_length : (l : ℕ) → walked_numbers (Length l) ≡ (0, l)
+pub walked_numbers_length : (l : ℕ) → walked_numbers (Ok l) ≡ (0, l)
 unfolding walked_numbers
 walked_numbers_length l = refl
 
-pub walked_numbers_denied : (k : ℕ) → walked_numbers (Denied k) ≡ (k, 0)
+pub walked_numbers_denied : (k : ℕ) → walked_numbers (Err k) ≡ (k, 0)
 unfolding walked_numbers
 walked_numbers_denied k = refl
 
@@ -116,7 +115,7 @@ module _ (s : Sheet) (seed wish : ℕ) (out : List ℕ) where
 
   module _ (n : walk_fault s seed wish out ≢ 0) where
     -- a refusal answers its number, and alters nothing
-    pub walked_denied : walked_of s seed wish out ≡ Denied (walk_fault s seed wish out)
+    pub walked_denied : walked_of s seed wish out ≡ Err (walk_fault s seed wish out)
     unfolding walked_of
     walked_denied = rw (ne_eqb (walk_fault s seed wish out) 0 n)
 
@@ -131,7 +130,7 @@ module _ (s : Sheet) (seed wish : ℕ) (out : List ℕ) where
 
   module _ (z : walk_fault s seed wish out ≡ 0) where
     -- without a refusal the walk's length is answered
-    pub walked_length : walked_of s seed wish out ≡ Length (length (walk_of s seed wish))
+    pub walked_length : walked_of s seed wish out ≡ Ok (length (walk_of s seed wish))
     unfolding walked_of
     walked_length = rw (eq-eqb (walk_fault s seed wish out) 0 z)
 
@@ -195,7 +194,7 @@ module _ (s : Sheet) (seed wish : ℕ) (out other : List ℕ) (z : walk_fault s 
 module _ (s : Sheet) (codes : List ℕ) (seed wish : ℕ) (out : List ℕ) (z : walk_fault s seed wish out ≡ 0) (y : walk_fault (recoded s codes) seed wish out ≡ 0) where
   pub recoded_answer : walked_of (recoded s codes) seed wish out ≡ walked_of s seed wish out
   recoded_answer =
-      walked_length (recoded s codes) seed wish out y ∙ ap (λ (t : List ℕ). Length (length t)) (recoded_walk s codes seed wish) ∙ sym (walked_length s seed wish out z)
+      walked_length (recoded s codes) seed wish out y ∙ ap (λ (t : List ℕ). Ok (length t)) (recoded_walk s codes seed wish) ∙ sym (walked_length s seed wish out z)
 
   pub recoded_after : walk_after (recoded s codes) seed wish out ≡ walk_after s seed wish out
   recoded_after = after_front (recoded s codes) seed wish out y ∙ ap (at_front out) (recoded_walk s codes seed wish) ∙ sym (after_front s seed wish out z)

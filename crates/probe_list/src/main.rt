@@ -4,7 +4,9 @@
 
 ghost use Rattle.std.specs.Prelude.{◌≡◌, length};
 
-use sheet_spec::{ReadSheet, Sheet};
+use refusals::Refusal;
+use sheet_spec::Sheet;
+use text::Page;
 
 // The number of standard input.
 const STDIN_FILENO: i32 = 0;
@@ -24,19 +26,20 @@ fn line_space() -> [u8; 262144]
 }
 
 // Writes the first line of a sheet as it was read, and answers whether it could.
-fn say_head(a: ReadSheet) -> bool {
+fn say_head(read: &Result<Sheet, Refusal>) -> bool {
     let mut out = io::buffer();
-    let len = text_sheet::put_head(&mut out, 0, a);
-    io::write_all(STDOUT_FILENO, &out[..len])
+    let mut page = Page::new(&mut out);
+    text_sheet::put_head(&mut page, &read.map_err(u8::from));
+    let len = page.at;
+    io::write_all(STDOUT_FILENO, text::front(&out, len))
 }
 
 // Writes the lines of each node, and answers whether it could.
-fn say_nodes(s: Sheet) -> bool {
-    let n = s.n;
+fn say_nodes(sheet: Sheet) -> bool {
     let mut out = line_space();
-    for v in 0..n {
-        let len = probe_list_lines::put_node(s, v, &mut out);
-        if !io::write_all(STDOUT_FILENO, &out[..len]) {
+    for v in 0..sheet.n {
+        let len = probe_list_lines::put_node(sheet, v, &mut out);
+        if !io::write_all(STDOUT_FILENO, text::front(&out, len)) {
             return false;
         }
     }
@@ -44,22 +47,21 @@ fn say_nodes(s: Sheet) -> bool {
 }
 
 // Writes the lines of a sheet as it was read, and answers whether it could; a refused sheet has the first line alone.
-fn say_sheet(a: ReadSheet) -> bool {
-    if !say_head(a) {
+fn say_sheet(read: &Result<Sheet, Refusal>) -> bool {
+    if !say_head(read) {
         return false;
     }
-    if a.refusal != 0 {
-        return true;
+    match read {
+        Ok(sheet) => say_nodes(*sheet),
+        Err(_) => true,
     }
-    say_nodes(a.sheet)
 }
 
 // Reads the sheet and writes its lines, or says on standard error that they could not be written.
 fn main() {
     let mut space = io::buffer();
     let n = io::read_full(STDIN_FILENO, &mut space);
-    let a = sheet::read(&space[..n]);
-    if !say_sheet(a) {
+    if !say_sheet(&sheet::read(&space[..n])) {
         io::write_all(
             STDERR_FILENO,
             b"probe_list: the output could not be written\n",

@@ -15,12 +15,9 @@ fn put_sets(sets: &[u16], out: &mut [u16], at: usize) -> usize
         ≡ at_front out.old (take at out.old ++ sets.now))
         × (result ≡ at + length sets.now) }
 {
-    let mut next = at;
-    for i in 0..sets.len() {
-        out[next] = sets[i];
-        next += 1;
-    }
-    next
+    let end = at + sets.len();
+    out[at..end].copy_from_slice(sets);
+    end
 }
 
 // Writes the acceptances of node `v`, if it is one of the nodes, from place `at` of a list on, and answers the place
@@ -31,24 +28,23 @@ fn put_node(row: Row, nodes: u32, v: usize, out: &mut [u16], at: usize) -> usize
         ≡ at_front out.old (take at out.old ++ (if has nodes v then acceptances row else [])))
         × (result ≡ at + length (if has nodes v then acceptances row else [])) }
 {
-    if !nodes::has_node(nodes, v) {
-        return at;
+    if nodes::has_node(nodes, v) {
+        put_sets(&row.sets[..usize::from(row.c)], out, at)
+    } else {
+        at
     }
-    let sets = row.sets;
-    put_sets(&sets[..base::wide(row.c)], out, at)
 }
 
 // Writes the acceptances of the nodes to the front of a list of 512 places or more, and answers how many they are.
+#[tactic(auto, using(crate::proofs::Lists::sheet_nodes, crate::proofs::Lists::node_count_lem, crate::proofs::several::Gathered::of_room))]
 pub(crate) fn gather(sheet: Sheet, nodes: u32, out: &mut [u16]) -> usize
     requires { (sheet_fault sheet ≡ 0) × (512 ≤ length out.old) }
     ensures { (out.new ≡ at_front out.old (set_acceptances sheet nodes))
         × (result ≡ length (set_acceptances sheet nodes)) }
 {
-    let n = base::wide(sheet.n);
-    let mut at: usize = 0;
-    for v in 0..n {
-        let row = sheet.rows[v];
-        at = put_node(row, nodes, v, out, at);
+    let mut at = 0;
+    for v in 0..usize::from(sheet.n) {
+        at = put_node(sheet.rows[v], nodes, v, out, at);
     }
     at
 }

@@ -14,10 +14,9 @@ fn put_size(found: &[u16], size: usize, out: &mut [u16], at: usize) -> usize
         × (result ≡ at + length (of_size found.now size)) }
 {
     let mut next = at;
-    for i in 0..found.len() {
-        let x = found[i];
-        if u16::count_ones(x) as usize == size {
-            out[next] = x;
+    for x in found {
+        if x.count_ones() as usize == size {
+            out[next] = *x;
             next += 1;
         }
     }
@@ -30,8 +29,8 @@ pub(crate) fn put_by_size(found: &[u16], e: usize, out: &mut [u16])
     requires { (e ≤ 12) × (length found.now ≤ length out.old) }
     ensures { out.new ≡ at_front out.old (joined (of_size found.now) (suc e)) }
 {
-    let mut at: usize = 0;
-    for size in 0..e + 1 {
+    let mut at = 0;
+    for size in 0..=e {
         at = put_size(found, size, out, at);
     }
 }

@@ -1,6 +1,6 @@
 -- Nothing to believe: laws. What the comparison's definition names, in plain words and both directions; and that it
 -- names something exactly if some device acceptance includes no reference acceptance.
-use Rattle.std.specs.Prelude.{◌≡◌, ◌⊎◌, ◌↔◌, Bool, true, false, cond, List, [], ◌∷◌, ℕ, zero, suc, ◌≤◌, ◌<◌, length, get_or}
+use Rattle.std.specs.Prelude.{◌≡◌, ◌⊎◌, ◌↔◌, Bool, true, false, cond, List, [], ◌∷◌, ℕ, Option, Some, None, zero, suc, ◌≤◌, ◌<◌, length, get_or}
 use Rattle.std.proofs.Math.Path.{refl}
 use Rattle.std.proofs.Common.{sym, ap, ◌∙◌, subst, inl, inr, arith}
 use Rattle.base.proofs.Truth.{dec, clash, lt_or_ge}
@@ -10,20 +10,19 @@ use Rattle.events.specs.Bit.{Within, Apart}
 use Rattle.events.specs.Sets.{inside, meets}
 use Rattle.events.proofs.Sets.{inside→, inside←, meets_not, meets_apart}
 use Rattle.probes_spec.specs.declared.Missed.{Missed}
-use Rattle.probes_spec.specs.declared.Missed.TheVariants.{Nothing, Found}
 use Rattle.probes_spec.specs.Probes.{probes, Narrow}
 use Rattle.probes_spec.proofs.ProbeLaws.{probe_at, probe_listed, missed→, missed←}
 use Rattle.probes_spec.specs.FirstMissed.{missing, or_next, first_missing, first_missed, missed_numbers, NoneMissed, MissedFirst}
 
 -- what an answer about a list of sets says, in plain words
-abbrev Says : List ℕ → List ℕ → Missed → Type 0
-Says ps dev Nothing = NoneMissed ps dev
-Says ps dev (Found p a) = MissedFirst ps dev p a
+abbrev Says : List ℕ → List ℕ → Option Missed → Type 0
+Says ps dev None = NoneMissed ps dev
+Says ps dev (Some m) = MissedFirst ps dev m.probe m.acceptance
 
 -- what an answer about one set says, in plain words
-abbrev SaysOne : ℕ → List ℕ → Missed → Type 0
-SaysOne p dev Nothing = (j : ℕ) → j < length dev → ¬ Apart p (get_or dev j 0)
-SaysOne p dev (Found q a) = (q ≡ p) × ((j : ℕ) × (j < length dev) × (get_or dev j 0 ≡ a) × Apart p a × ((k : ℕ) → k < j → ¬ Apart p (get_or dev k 0)))
+abbrev SaysOne : ℕ → List ℕ → Option Missed → Type 0
+SaysOne p dev None = (j : ℕ) → j < length dev → ¬ Apart p (get_or dev j 0)
+SaysOne p dev (Some m) = (m.probe ≡ p) × ((j : ℕ) × (j < length dev) × (get_or dev j 0 ≡ m.acceptance) × Apart p m.acceptance × ((k : ℕ) → k < j → ¬ Apart p (get_or dev k 0)))
 
 says_one : (p : ℕ) (dev : List ℕ) → SaysOne p dev (missing p dev)
 unfolding missing
@@ -41,10 +40,10 @@ says_one p (a ∷ dev) = go (meets p a) refl (missing p dev) (says_one p dev)
     before t j h zero l = met t
     before t j h (suc k) l = h k (omega arith)
 
-    go : (b : Bool) → meets p a ≡ b → (m : Missed) → SaysOne p dev m → SaysOne p (a ∷ dev) (cond b m (Found p a))
+    go : (b : Bool) → meets p a ≡ b → (m : Option Missed) → SaysOne p dev m → SaysOne p (a ∷ dev) (cond b m (Some (record { probe = p; acceptance = a })))
     go false t m s = (refl, (0, omega arith, refl, meets_not p a t, λ k l. absurd (omega arith)))
-    go true t Nothing s = none t s
-    go true t (Found q c) (r, (j, l, e, z, h)) = (r, (suc j, omega arith, e, z, before t j h))
+    go true t None s = none t s
+    go true t (Some m) (r, (j, l, e, z, h)) = (r, (suc j, omega arith, e, z, before t j h))
 
 says : (ps dev : List ℕ) → Says ps dev (first_missing ps dev)
 unfolding first_missing or_next
@@ -60,8 +59,8 @@ says (p ∷ ps) dev = go (missing p dev) (first_missing ps dev) (says_one p dev)
     before h y g zero l = h
     before h y g (suc x) l = g x (omega arith)
 
-    go : (m n : Missed) → SaysOne p dev m → Says ps dev n → Says (p ∷ ps) dev (or_next m n)
-    go (Found q a) n (r, (j, l, e, z, h)) t = rw r (record {
+    go : (m n : Option Missed) → SaysOne p dev m → Says ps dev n → Says (p ∷ ps) dev (or_next m n)
+    go (Some m) n (r, (j, l, e, z, h)) t = rw r (record {
       place = 0;
       place_in = omega arith;
       probe = refl;
@@ -72,7 +71,7 @@ says (p ∷ ps) dev = go (missing p dev) (first_missing ps dev) (says_one p dev)
       earlier = λ x k. absurd (omega arith);
       lower = h;
     })
-    go Nothing (Found q a) s t = record {
+    go None (Some m) s t = record {
       place = suc t.place;
       place_in = omega (arith, t.place_in);
       probe = t.probe;
@@ -83,7 +82,7 @@ says (p ∷ ps) dev = go (missing p dev) (first_missing ps dev) (says_one p dev)
       earlier = before s t.place t.earlier;
       lower = t.lower;
     }
-    go Nothing Nothing s t = none s t
+    go None None s t = none s t
 
 -- two answers of which each is the first are one
 pub missed_once : (ps dev : List ℕ) (p a q b : ℕ) → MissedFirst ps dev p a → MissedFirst ps dev q b → (p ≡ q) × (a ≡ b)
@@ -116,22 +115,22 @@ none_or_first : (ps dev : List ℕ) (p a : ℕ) → NoneMissed ps dev → Missed
 none_or_first ps dev p a h m = h m.place m.place_in m.spot m.spot_in (rw (m.probe, m.acceptance) m.misses)
 
 -- nothing is named exactly if no probe is missed
-pub missed_nothing : (accs : List ℕ) (e : ℕ) (dev : List ℕ) → (first_missed accs e dev ≡ Nothing) ↔ NoneMissed (probes accs e) dev
+pub missed_nothing : (accs : List ℕ) (e : ℕ) (dev : List ℕ) → (first_missed accs e dev ≡ None) ↔ NoneMissed (probes accs e) dev
 unfolding first_missed
 missed_nothing accs e dev = ((λ q. subst (Says (probes accs e) dev) q (says (probes accs e) dev)), λ h. go h (first_missing (probes accs e) dev) refl (says (probes accs e) dev))
   where
-    go : NoneMissed (probes accs e) dev → (m : Missed) → first_missing (probes accs e) dev ≡ m → Says (probes accs e) dev m → first_missing (probes accs e) dev ≡ Nothing
-    go h Nothing q s = q
-    go h (Found p a) q s = absurd (none_or_first (probes accs e) dev p a h s)
+    go : NoneMissed (probes accs e) dev → (m : Option Missed) → first_missing (probes accs e) dev ≡ m → Says (probes accs e) dev m → first_missing (probes accs e) dev ≡ None
+    go h None q s = q
+    go h (Some m) q s = absurd (none_or_first (probes accs e) dev m.probe m.acceptance h s)
 
 -- a probe and an acceptance are named exactly if they are the first
-pub missed_found : (accs : List ℕ) (e : ℕ) (dev : List ℕ) (p a : ℕ) → (first_missed accs e dev ≡ Found p a) ↔ MissedFirst (probes accs e) dev p a
+pub missed_found : (accs : List ℕ) (e : ℕ) (dev : List ℕ) (p a : ℕ) → (first_missed accs e dev ≡ Some (record { probe = p; acceptance = a })) ↔ MissedFirst (probes accs e) dev p a
 unfolding first_missed
 missed_found accs e dev p a = ((λ q. subst (Says (probes accs e) dev) q (says (probes accs e) dev)), λ h. go h (first_missing (probes accs e) dev) refl (says (probes accs e) dev))
   where
-    go : MissedFirst (probes accs e) dev p a → (m : Missed) → first_missing (probes accs e) dev ≡ m → Says (probes accs e) dev m → first_missing (probes accs e) dev ≡ Found p a
-    go h Nothing q s = absurd (none_or_first (probes accs e) dev p a s h)
-    go h (Found r b) q s = let w = missed_once (probes accs e) dev r b p a s h in rw (q, w.0, w.1)
+    go : MissedFirst (probes accs e) dev p a → (m : Option Missed) → first_missing (probes accs e) dev ≡ m → Says (probes accs e) dev m → first_missing (probes accs e) dev ≡ Some (record { probe = p; acceptance = a })
+    go h None q s = absurd (none_or_first (probes accs e) dev p a s h)
+    go h (Some m) q s = let w = missed_once (probes accs e) dev m.probe m.acceptance p a s h in rw (q, ← w.0, ← w.1)
 
 module _ (accs : List ℕ) (e : ℕ) (dev : List ℕ) where
   -- "found" is 0 exactly if no probe is missed
@@ -139,18 +138,18 @@ module _ (accs : List ℕ) (e : ℕ) (dev : List ℕ) where
   unfolding missed_numbers
   found_0 = (λ z. (missed_nothing accs e dev).0 (forth (first_missed accs e dev) z), λ h. rw ((missed_nothing accs e dev).1 h))
     where
-      forth : (m : Missed) → (missed_numbers m).found ≡ 0 → m ≡ Nothing
-      forth Nothing z = refl
-      forth (Found p a) z = absurd (omega arith)
+      forth : (m : Option Missed) → (missed_numbers m).found ≡ 0 → m ≡ None
+      forth None z = refl
+      forth (Some m) z = absurd (omega arith)
 
   -- "found" is 1 exactly if some probe is missed by some acceptance
   pub found_1 : ((missed_numbers (first_missed accs e dev)).found ≡ 1) ↔ (¬ NoneMissed (probes accs e) dev)
   unfolding missed_numbers
   found_1 = (λ z h. omega (arith, z, found_0.1 h), λ n. forth (first_missed accs e dev) (λ q. n ((missed_nothing accs e dev).0 q)))
     where
-      forth : (m : Missed) → (¬ (m ≡ Nothing)) → (missed_numbers m).found ≡ 1
-      forth Nothing n = absurd (n refl)
-      forth (Found p a) n = refl
+      forth : (m : Option Missed) → (¬ (m ≡ None)) → (missed_numbers m).found ≡ 1
+      forth None n = absurd (n refl)
+      forth (Some m) n = refl
 
   -- where no probe is missed, the probe and the acceptance are 0
   pub none_named : NoneMissed (probes accs e) dev → ((missed_numbers (first_missed accs e dev)).probe ≡ 0) × ((missed_numbers (first_missed accs e dev)).acceptance ≡ 0)
@@ -163,19 +162,19 @@ module _ (accs : List ℕ) (e : ℕ) (dev : List ℕ) where
   unfolding missed_numbers
   first_named n = go (first_missed accs e dev) refl
     where
-      go : (m : Missed) → first_missed accs e dev ≡ m → MissedFirst (probes accs e) dev (missed_numbers m).probe (missed_numbers m).acceptance
-      go Nothing q = absurd (n ((missed_nothing accs e dev).0 q))
-      go (Found p a) q = (missed_found accs e dev p a).0 q
+      go : (m : Option Missed) → first_missed accs e dev ≡ m → MissedFirst (probes accs e) dev (missed_numbers m).probe (missed_numbers m).acceptance
+      go None q = absurd (n ((missed_nothing accs e dev).0 q))
+      go (Some m) q = (missed_found accs e dev m.probe m.acceptance).0 q
 
 -- every device acceptance includes a reference acceptance exactly if nothing is named (Lemma 4 over the two lists)
 pub missed_none : (accs : List ℕ) (e : ℕ) → Narrow accs e → (dev : List ℕ)
-    → (first_missed accs e dev ≡ Nothing) ↔ ((k : ℕ) → k < length dev → (j : ℕ) × (j < length accs) × Within (get_or accs j 0) (get_or dev k 0))
+    → (first_missed accs e dev ≡ None) ↔ ((k : ℕ) → k < length dev → (j : ℕ) × (j < length accs) × Within (get_or accs j 0) (get_or dev k 0))
 missed_none accs e n dev = (to, from)
   where
     part : ℕ → ℕ → Bool
     part k j = inside (get_or accs j 0) (get_or dev k 0)
 
-    to : first_missed accs e dev ≡ Nothing → (k : ℕ) → k < length dev → (j : ℕ) × (j < length accs) × Within (get_or accs j 0) (get_or dev k 0)
+    to : first_missed accs e dev ≡ None → (k : ℕ) → k < length dev → (j : ℕ) × (j < length accs) × Within (get_or accs j 0) (get_or dev k 0)
     to q k l = go (dec (any (part k) (length accs)))
       where
         go : (any (part k) (length accs) ≡ true) ⊎ (any (part k) (length accs) ≡ false) → (j : ℕ) × (j < length accs) × Within (get_or accs j 0) (get_or dev k 0)
@@ -185,5 +184,5 @@ missed_none accs e n dev = (to, from)
             let x = probe_listed accs e n m.0 m.1 in
             absurd ((missed_nothing accs e dev).0 q x.0 x.1 k l (rw x.2 m.2))
 
-    from : ((k : ℕ) → k < length dev → (j : ℕ) × (j < length accs) × Within (get_or accs j 0) (get_or dev k 0)) → first_missed accs e dev ≡ Nothing
+    from : ((k : ℕ) → k < length dev → (j : ℕ) × (j < length accs) × Within (get_or accs j 0) (get_or dev k 0)) → first_missed accs e dev ≡ None
     from h = (missed_nothing accs e dev).1 (λ x l k b z. let w = h k b in missed← accs (get_or (probes accs e) x 0) (get_or dev k 0) (probe_at accs e x l) z w.0 w.1 w.2)

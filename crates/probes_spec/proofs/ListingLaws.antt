@@ -1,6 +1,6 @@
 -- Nothing to believe: laws. The probe call: when each refusal is given, what is answered, and what stands in the list;
 -- and the probes of a sheet's node.
-use Rattle.std.specs.Prelude.{◌≡◌, ◌⊎◌, ◌↔◌, ◌≢◌, Bool, cond, List, ℕ, ◌≤◌, ◌<◌, ltb, leb, get_or}
+use Rattle.std.specs.Prelude.{◌≡◌, ◌⊎◌, ◌↔◌, ◌≢◌, Bool, cond, List, ℕ, Ok, Err, ◌≤◌, ◌<◌, ltb, leb, get_or}
 use Rattle.std.proofs.Math.Path.{refl}
 use Rattle.std.proofs.Common.{sym, ◌∙◌, inl, inr}
 use Rattle.std.proofs.Math.Bool.{true, false}
@@ -23,17 +23,16 @@ use Rattle.sheet_spec.proofs.CheckLaws.{check_other, own_other}
 use Rattle.sheet_spec.proofs.RowLaws.{may_stop_means, acceptances_length, acceptances_at}
 use Rattle.sheet_spec.specs.Sound.{Sound}
 use Rattle.sheet_spec.proofs.SoundLaws.{check_sound}
-use Rattle.probes_spec.specs.declared.Listed.TheVariants.{Count, Denied}
 use Rattle.probes_spec.specs.Probes.{probes, Probe, Before, ProbeList, Narrow}
 use Rattle.probes_spec.proofs.ProbeLaws.{probe_at, probe_listed, probes_most, probes_none, probes_some, probes_ordered, probes_only, probes_counted}
 use Rattle.probes_spec.specs.Listing.{node_probes, list_fault, list_count, listed_numbers, listed_of, list_after}
 
 -- the numbers of each case of an answer, for crates that may not unfold them
-pub listed_numbers_count : (m : ℕ) → listed_numbers (Count m) ≡ (0, m)
+pub listed_numbers_count : (m : ℕ) → listed_numbers (Ok m) ≡ (0, m)
 unfolding listed_numbers
 listed_numbers_count m = refl
 
-pub listed_numbers_denied : (k : ℕ) → listed_numbers (Denied k) ≡ (k, 0)
+pub listed_numbers_denied : (k : ℕ) → listed_numbers (Err k) ≡ (k, 0)
 unfolding listed_numbers
 listed_numbers_denied k = refl
 
@@ -93,7 +92,7 @@ module _ (s : Sheet) (v : ℕ) (out : List ℕ) where
 
   module _ (n : list_fault s v out ≢ 0) where
     -- a refusal answers its number, and alters nothing
-    pub listed_denied : listed_of s v out ≡ Denied (list_fault s v out)
+    pub listed_denied : listed_of s v out ≡ Err (list_fault s v out)
     unfolding listed_of
     listed_denied = rw (ne_eqb (list_fault s v out) 0 n)
 
@@ -108,7 +107,7 @@ module _ (s : Sheet) (v : ℕ) (out : List ℕ) where
 
   module _ (z : list_fault s v out ≡ 0) where
     -- without a refusal the number of probes is answered
-    pub listed_count : listed_of s v out ≡ Count (length (node_probes s v))
+    pub listed_count : listed_of s v out ≡ Ok (length (node_probes s v))
     unfolding listed_of
     listed_count = rw (eq-eqb (list_fault s v out) 0 z)
 

@@ -1,7 +1,7 @@
 -- Nothing to believe: laws. One probe for several nodes (02, K10): what is listed, in words of the nodes; the list of
 -- one node; where there is no probe; and the call: when each refusal is given, what is answered, and what stands in the
 -- list.
-use Rattle.std.specs.Prelude.{◌≡◌, refl, ◌⊎◌, ◌↔◌, ◌≢◌, false, not, ◌&&◌, cond, ℕ, zero, suc, ◌+◌, ◌^◌, ◌≤◌, ◌<◌, eqb, ltb, leb}
+use Rattle.std.specs.Prelude.{◌≡◌, refl, ◌⊎◌, ◌↔◌, ◌≢◌, false, not, ◌&&◌, cond, ℕ, Ok, Err, zero, suc, ◌+◌, ◌^◌, ◌≤◌, ◌<◌, eqb, ltb, leb}
 use Rattle.std.proofs.Math.Path.{sym, ap}
 use Rattle.std.proofs.Common.{◌∙◌, eq-or-lt_of_le}
 use Rattle.std.proofs.Math.Logic.{inl, inr}
@@ -35,7 +35,6 @@ use Rattle.sheet_spec.proofs.CheckLaws.{check_other, own_other}
 use Rattle.sheet_spec.proofs.RowLaws.{may_stop_means, acceptances_length, acceptances_at}
 use Rattle.sheet_spec.specs.Sound.{Sound}
 use Rattle.sheet_spec.proofs.SoundLaws.{check_sound}
-use Rattle.probes_spec.specs.declared.Listed.TheVariants.{Count, Denied}
 use Rattle.probes_spec.specs.Probes.{probes, Hits, Probe, Before, Narrow}
 use Rattle.probes_spec.proofs.HitLaws.{probe_inside}
 use Rattle.probes_spec.proofs.ProbeLaws.{probes_most, probes_none, probes_some, probes_ordered, probes_are, probes_only, probes_counted}
@@ -361,7 +360,7 @@ module _ (s : Sheet) (X : ℕ) (out : List ℕ) where
 
   module _ (n : nodes_fault s X out ≢ 0) where
     -- a refusal answers its number, has no count beside it, and alters nothing
-    pub nodes_denied : nodes_listed s X out ≡ Denied (nodes_fault s X out)
+    pub nodes_denied : nodes_listed s X out ≡ Err (nodes_fault s X out)
     unfolding nodes_listed
     nodes_denied = rw (ne_eqb (nodes_fault s X out) 0 n)
 
@@ -375,7 +374,7 @@ module _ (s : Sheet) (X : ℕ) (out : List ℕ) where
 
   module _ (z : nodes_fault s X out ≡ 0) where
     -- without a refusal the number of probes is answered, and they stand at the front of the list
-    pub nodes_listed_lem : nodes_listed s X out ≡ Count (length (nodes_probes s X))
+    pub nodes_listed_lem : nodes_listed s X out ≡ Ok (length (nodes_probes s X))
     unfolding nodes_listed
     nodes_listed_lem = rw (eq-eqb (nodes_fault s X out) 0 z)
 

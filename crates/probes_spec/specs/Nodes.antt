@@ -1,7 +1,7 @@
 -- One probe for several nodes (02, K10): the minimal sets of events that meet every acceptance of every node of a set,
 -- and the call that lists them: what it answers, and what the lent list then holds. A set of nodes is a number in which
 -- node v adds 2 ^ v.
-use Rattle.std.specs.Prelude.{Bool, not, ◌&&◌, cond, List, [], ℕ, ◌^◌, eqb, ltb, leb, length}
+use Rattle.std.specs.Prelude.{Bool, not, ◌&&◌, cond, List, [], ℕ, Result, Ok, Err, ◌^◌, eqb, ltb, leb, length}
 use Rattle.base.specs.Refusal.{unless, or_else}
 use Rattle.base.specs.Front.{at_front}
 use Rattle.base.specs.Joined.{joined}
@@ -9,8 +9,6 @@ use Rattle.events.specs.Sets.{has}
 use Rattle.sheet_spec.specs.declared.Sheet.{Sheet}
 use Rattle.sheet_spec.specs.Kept.{row, acceptances}
 use Rattle.sheet_spec.specs.Refusals.{sheet_fault}
-use Rattle.probes_spec.specs.declared.Listed.{Listed}
-use Rattle.probes_spec.specs.declared.Listed.TheVariants.{Count, Denied}
 use Rattle.probes_spec.specs.Probes.{probes}
 
 -- the acceptances of the nodes of the set X, node after node
@@ -36,8 +34,8 @@ unfoldable pub nodes_count : Sheet → ℕ → List ℕ → ℕ
 nodes_count s X out = cond (eqb (nodes_fault s X out) 0) (length (nodes_probes s X)) 0
 
 -- the answer of the call: the refusal, or how many probes there are
-unfoldable pub nodes_listed : Sheet → ℕ → List ℕ → Listed
-nodes_listed s X out = cond (eqb (nodes_fault s X out) 0) (Count (length (nodes_probes s X))) (Denied (nodes_fault s X out))
+unfoldable pub nodes_listed : Sheet → ℕ → List ℕ → Result ℕ ℕ
+nodes_listed s X out = cond (eqb (nodes_fault s X out) 0) (Ok (length (nodes_probes s X))) (Err (nodes_fault s X out))
 
 -- the list after the call: the probes at its front; after a refusal as it was
 unfoldable pub nodes_list_after : Sheet → ℕ → List ℕ → List ℕ

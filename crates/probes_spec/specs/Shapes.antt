@@ -1,6 +1,6 @@
 -- Nothing to believe: the shapes of loops. The code's test of one set in a single pass, when it succeeds; the probes as
 -- they are found, by their number; and those of a size among them. Laws join them to Probes.
-use Rattle.std.specs.Prelude.{◌≡◌, Bool, false, cond, List, [], ◌∷◌, ℕ, zero, suc, ◌-◌, ◌^◌, ◌<◌, eqb, length, get_or}
+use Rattle.std.specs.Prelude.{◌≡◌, Bool, false, cond, List, [], ◌∷◌, ℕ, ◌-◌, ◌^◌, ◌<◌, eqb, length, get_or}
 use Rattle.std.specs.Int.Bits.{bit_and, bit_or}
 use Rattle.base.specs.Gather.{select}
 use Rattle.events.specs.Size.{size}
@@ -28,12 +28,3 @@ probes_by_number accs e = select (is_probe accs) (2 ^ e)
 unfoldable pub of_size : List ℕ → ℕ → List ℕ
 of_size [] j = []
 of_size (x ∷ l) j = cond (eqb (size x) j) (x ∷ of_size l j) (of_size l j)
-
--- the first number from x on that passes the test, if it is among the next k, else the number after these
-unfoldable pub next_in : (ℕ → Bool) → ℕ → ℕ → ℕ
-next_in p zero x = x
-next_in p (suc k) x = cond (p x) x (next_in p k (suc x))
-
--- the first number from x on that passes the test, if it is below n, else n
-unfoldable pub next_from : (ℕ → Bool) → ℕ → ℕ → ℕ
-next_from p n x = next_in p (n - x) x

@@ -3,16 +3,14 @@
 // rely on. It has no function.
 #![tactic(auto)]
 
-// What the probe call answers: how many probes there are, or the number of the refusal.
-#[derive(Clone, Copy)]
-pub enum Listed {
-    Count(u16),
-    Denied(u8),
-}
+use refusals::Refusal;
 
-// What a comparison names: nothing, or a probe and an acceptance that has no event of it.
+// What the probe call answers: how many probes there are, or why it is refused.
+pub type Listed = Result<u16, Refusal>;
+
+// What a comparison names: a probe, and an acceptance that has no event of it.
 #[derive(Clone, Copy)]
-pub enum Missed {
-    Nothing,
-    Found(u16, u16),
+pub struct Missed {
+    pub probe: u16,
+    pub acceptance: u16,
 }

@@ -1,23 +1,20 @@
 -- One law for each way out of `has_refusal`. r is the reference's row, q the device's; both are owned, so each has 16
 -- sets, and the place after these reads as the empty set.
-use mathlib.Core.Path.{◌≡◌, sym, ◌∙◌}
-use mathlib.Core.Logic.{◌⊎◌, inl, inr}
-use mathlib.Core.Bool.{Bool, true, false, not}
-use mathlib.Core.List.{List}
-use Prim.Native.Nat.{ℕ, ◌<◌}
-use native.Mathlib.Omega.{arith}
-use mir.Val.{Val}
-use denote.Laws.{Is}
-use borrow.Author.Tests.{not-true}
+use Rattle.std.specs.Prelude.{◌≡◌, ◌⊎◌, Bool, true, false, not, List, ℕ, zero, suc, ◌≤◌, ◌<◌, length, get_or, take}
+use Rattle.std.specs.List.{list_any}
+use Rattle.std.proofs.Math.Path.{refl}
+use Rattle.std.proofs.Common.{sym, ap, ◌∙◌, inl, inr, arith, add-one}
+use Rattle.std.proofs.lemmas.Bool.{not-true}
+use Rattle.std.proofs.lemmas.List.Folds.{list_any_more}
+use lib.ListN.{get_or-eq_default}
+use Rattle.base.specs.Range.{any}
 use Rattle.base.proofs.Truth.{dec, clash, not_i, not_t, t_not}
-use Rattle.base.proofs.Range.{any→, any←}
+use Rattle.base.proofs.Range.{any→, any←, any_ext}
 use Rattle.events.proofs.Bit.{bits_zero}
 use Rattle.events.specs.Sets.{inside}
 use Rattle.events.proofs.Sets.{inside→, inside←}
 use Rattle.sheet_spec.specs.declared.Row.{Row}
 use Rattle.sheet_spec.specs.Kept.{acceptance}
-use Rattle.sheet_spec.specs.contracts.Row as R
-use Rattle.sheet_rows.proofs.Shape.{set_out}
 use Rattle.refinement_spec.specs.ViolatingPairs.{covers, has_refusal}
 use Rattle.refinement.specs.Shapes.{covering, refusing}
 
@@ -29,9 +26,17 @@ empty_inside A = inside← 0 A (λ i. omega (arith, bits_zero i))
 inside_all : (X A : ℕ) → inside X 0 ≡ true → inside X A ≡ true
 inside_all X A t = inside← X A (λ i. omega (arith, inside→ X 0 t i, bits_zero i))
 
+-- one of the first n elements passes a test exactly if one of the places below n does
+any_listed : (p : ℕ → Bool) (xs : List ℕ) (n : ℕ) → n ≤ length xs → list_any p (take n xs) ≡ any (λ i. p (get_or xs i 0)) n
+unfolding any
+any_listed p xs zero h = refl
+any_listed p xs (suc n) h =
+    rw (← add-one n, list_any_more p xs n 0 (omega arith), any_listed p xs n (omega arith))
+
 -- the place after the 16 sets of a row reads as the empty set
-after_sets : (r : Row) (vs : List Val) → Is R.the_row r vs → acceptance r 16 ≡ 0
-after_sets r vs p = sym (set_out r vs p 16 (omega arith))
+after_sets : (r : Row) → length r.sets ≡ 16 → acceptance r 16 ≡ 0
+unfolding acceptance
+after_sets r e = get_or-eq_default r.sets 0 (omega (arith, e))
 
 -- a row that covers the empty set covers every set
 covers_all : (r : Row) → covers r 0 ≡ true → (A : ℕ) → covers r A ≡ true
@@ -41,9 +46,9 @@ covers_all r t A =
     any← (λ l. inside (acceptance r l) A) r.c w.0 w.1 (inside_all (acceptance r w.0) A w.2)
 
 -- the test over the sets of a row, lent alone, is that of the row
-pub covering_is : (r : Row) (A : ℕ) {c : ℕ} {b : Bool} → c ≡ r.c → b ≡ covering r.sets c A → b ≡ covers r A
-unfolding covering covers acceptance
-covering_is r A e h = h ∙ rw e
+pub covering_is : (r : Row) (A : ℕ) {c : ℕ} → c ≡ r.c → c ≤ length r.sets → covering (take c r.sets) A ≡ covers r A
+unfolding covers acceptance
+covering_is r A {c} e l = any_listed (λ x. inside x A) r.sets c l ∙ rw e
 
 module _ (r q : Row) where
   -- where the reference covers the empty set, nothing is refused
@@ -52,20 +57,23 @@ module _ (r q : Row) where
   covered t = not_i (λ h. let w = any→ (λ j. not (covers r (acceptance q j))) q.c h in clash (covers_all r t (acceptance q w.0)) (not-true _ w.2))
 
   -- the way out for a reference of more than 16 sets
-  pub reference_over : (vs : List Val) → Is R.the_row r vs → 16 < r.c → false ≡ has_refusal r q
+  pub reference_over : length r.sets ≡ 16 → 16 < r.c → has_refusal r q ≡ false
   unfolding covers
-  reference_over vs p l = sym (covered (any← (λ j. inside (acceptance r j) 0) r.c 16 l (rw (after_sets r vs p) (empty_inside 0))))
+  reference_over e l = covered (any← (λ j. inside (acceptance r j) 0) r.c 16 l (rw (after_sets r e) (empty_inside 0)))
 
   -- the way out for a device of more than 16 sets
-  pub device_over : (vs : List Val) → Is R.the_row q vs → 16 < q.c → {b : Bool} → b ≡ covers r 0 → not b ≡ has_refusal r q
+  pub device_over : length q.sets ≡ 16 → 16 < q.c → has_refusal r q ≡ not (covers r 0)
   unfolding has_refusal
-  device_over vs p l e = rw e (go (dec (covers r 0)))
+  device_over e l = go (dec (covers r 0))
     where
-      go : (covers r 0 ≡ true) ⊎ (covers r 0 ≡ false) → not (covers r 0) ≡ has_refusal r q
-      go (inl t) = t_not t ∙ sym (covered t)
-      go (inr f) = not_t f ∙ sym (any← (λ j. not (covers r (acceptance q j))) q.c 16 l (rw (after_sets q vs p) (not_t f)))
+      go : (covers r 0 ≡ true) ⊎ (covers r 0 ≡ false) → has_refusal r q ≡ not (covers r 0)
+      go (inl t) = covered t ∙ sym (t_not t)
+      go (inr f) = any← (λ j. not (covers r (acceptance q j))) q.c 16 l (rw (after_sets q e) (not_t f)) ∙ sym (not_t f)
 
   -- the way out for rows of at most 16 sets
-  pub refusing_is : {c d : ℕ} {b : Bool} → c ≡ r.c → d ≡ q.c → b ≡ refusing r.sets c q.sets d → b ≡ has_refusal r q
-  unfolding refusing covering has_refusal covers acceptance
-  refusing_is ec ed h = h ∙ rw (ec, ed)
+  pub refusing_is : {c d : ℕ} → c ≡ r.c → d ≡ q.c → c ≤ length r.sets → d ≤ length q.sets → refusing (take c r.sets) (take d q.sets) ≡ has_refusal r q
+  unfolding has_refusal acceptance
+  refusing_is {c} {d} ec ed lc ld =
+      any_listed (λ A. not (covering (take c r.sets) A)) q.sets d ld
+      ∙ any_ext _ _ d (λ j l. ap not (covering_is r (get_or q.sets j 0) ec lc))
+      ∙ rw ed

@@ -1,18 +1,18 @@
 -- Nothing to believe: the tests over lent sets, as the loops make them. Laws join them to the definitions.
-use Rattle.std.specs.Prelude.{◌≡◌, refl, Bool, not, ◌&&◌, ◌||◌, List, ℕ, eqb, get_or}
-use Rattle.base.specs.Range.{any}
+use Rattle.std.specs.Prelude.{◌≡◌, refl, Bool, not, ◌&&◌, ◌||◌, List, ℕ, eqb}
+use Rattle.std.specs.List.{list_any}
 use Rattle.events.specs.Sets.{inside}
 use Rattle.sheet_spec.specs.declared.Row.{Row}
 use Rattle.sheet_spec.specs.Kept.{initials}
 use Rattle.refinement_spec.specs.ViolatingPairs.{strays, has_stray, has_refusal, violates}
 
--- the set A includes one of the first c sets
-unfoldable pub covering : List ℕ → ℕ → ℕ → Bool
-covering sets c A = any (λ l. inside (get_or sets l 0) A) c
+-- the set A includes one of the sets
+abbrev pub covering : List ℕ → ℕ → Bool
+covering sets A = list_any (λ x. inside x A) sets
 
--- one of the first d of the other sets includes none of the first c sets
-unfoldable pub refusing : List ℕ → ℕ → List ℕ → ℕ → Bool
-refusing sets c others d = any (λ j. not (covering sets c (get_or others j 0))) d
+-- one of the others includes none of the sets
+abbrev pub refusing : List ℕ → List ℕ → Bool
+refusing sets others = list_any (λ x. not (covering sets x)) others
 
 -- a pair of rows is violating, by a set x in place of the reference's initials and a set y in place of the device's
 unfoldable pub violates_by : Bool → ℕ → ℕ → Row → Row → Bool

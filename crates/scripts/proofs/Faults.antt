@@ -1,37 +1,42 @@
--- The refusal of a call, picked test by test: one law for each way out of `fault_on`.
-use mathlib.Core.Path.{◌≡◌, sym}
-use mathlib.Core.Logic.{◌≢◌}
-use Prim.Native.Nat.{ℕ, ◌≤◌, ◌<◌}
-use native.Mathlib.Omega.{arith}
+-- The refusal of a call: what the two sheets give, then the test of the length.
+use Rattle.std.specs.Prelude.{◌≡◌, refl, ℕ, zero, suc, Result, Ok, Err, ◌≤◌, ◌<◌, leb}
+use Rattle.std.proofs.Common.{sym, ap, ◌∙◌, arith}
 use borrow.Author.Tests.{le-leb, lt-leb}
+use Rattle.refusals.specs.declared.Refusal.{Refusal}
+use Rattle.refusals.specs.Numbers.{number, refusal_in}
+use Rattle.refusals.proofs.NumberLaws.{number_some}
+use Rattle.base.specs.Refusal.{unless, or_else}
 use Rattle.base.proofs.Refusal.{or_else_some}
 use Rattle.sheet_spec.specs.declared.Sheet.{Sheet}
-use Rattle.sheet_spec.specs.Refusals.{sheet_fault, shared_fault}
+use Rattle.sheet_spec.specs.Refusals.{sheet_fault, shared_fault, pair_fault}
 use Rattle.scripts_spec.specs.Scripts.{scripts_fault}
 
-module _ (P Q : Sheet) (L : ℕ) {j : ℕ} (ej : j ≡ sheet_fault P) where
-  -- the way out with the reference's own refusal
-  pub own : j ≢ 0 → j ≡ scripts_fault P Q L
+-- what follows the refusals of two sheets counts where these are none
+pub pair_then : (P Q : Sheet) (rest : ℕ) → pair_fault P Q rest ≡ or_else (pair_fault P Q 0) rest
+pair_then P Q rest = go (sheet_fault P) (sheet_fault Q) (shared_fault P.e P.codes Q.e Q.codes)
+  where
+    go : (a b c : ℕ) → or_else a (or_else b (or_else c rest)) ≡ or_else (or_else a (or_else b (or_else c 0))) rest
+    go (suc a) b c = refl
+    go zero (suc b) c = refl
+    go zero zero (suc c) = refl
+    go zero zero zero = refl
+
+module _ (P Q : Sheet) (L : ℕ) {r : Result Unit Refusal} (e : refusal_in r ≡ pair_fault P Q 0) where
+  -- the way out with a refusal of the sheets
+  pub unpaired : {cause : Refusal} {t : Result Unit Refusal} → r ≡ Err cause → t ≡ Err cause → refusal_in t ≡ scripts_fault P Q L
   unfolding scripts_fault
-  own n = rw (← ej) (sym (or_else_some j _ (omega (arith, n))))
+  unpaired {cause} p q =
+      let m : number cause ≡ pair_fault P Q 0 = ap refusal_in (sym p) ∙ e in
+      rw (q, pair_then P Q (unless (leb L 16) 20 0)) (m ∙ sym (or_else_some (pair_fault P Q 0) _ (omega (arith, number_some cause, m))))
 
-  module _ {k : ℕ} (z : j ≡ 0) (ek : k ≡ sheet_fault Q) where
-    -- the way out with the device's own refusal
-    pub other : k ≢ 0 → k ≡ scripts_fault P Q L
+  module _ {u : Unit} (p : r ≡ Ok u) where
+    rest : scripts_fault P Q L ≡ unless (leb L 16) 20 0
     unfolding scripts_fault
-    other n = rw (← ej, z, ← ek) (sym (or_else_some k _ (omega (arith, n))))
+    rest = let z : pair_fault P Q 0 ≡ 0 = sym e ∙ ap refusal_in p in pair_then P Q (unless (leb L 16) 20 0) ∙ rw z
 
-    module _ (y : k ≡ 0) {h : ℕ} (eh : h ≡ shared_fault P.e P.codes Q.e Q.codes) where
-      -- the way out with what the two must share
-      pub unshared : h ≢ 0 → h ≡ scripts_fault P Q L
-      unfolding scripts_fault
-      unshared n = rw (← ej, z, ← ek, y, ← eh) (sym (or_else_some h _ (omega (arith, n))))
+    -- the ways out by the length
+    pub twenty : 16 < L → 20 ≡ scripts_fault P Q L
+    twenty l = sym (rest ∙ rw (lt-leb L 16 l))
 
-      module _ (s : h ≡ 0) where
-        pub twenty : 16 < L → 20 ≡ scripts_fault P Q L
-        unfolding scripts_fault
-        twenty l = rw (← ej, z, ← ek, y, ← eh, s, lt-leb L 16 l)
-
-        pub no_fault : L ≤ 16 → 0 ≡ scripts_fault P Q L
-        unfolding scripts_fault
-        no_fault l = rw (← ej, z, ← ek, y, ← eh, s, le-leb L 16 l)
+    pub no_fault : L ≤ 16 → 0 ≡ scripts_fault P Q L
+    no_fault l = sym (rest ∙ rw (le-leb L 16 l))

@@ -1,11 +1,10 @@
 -- The counts over the flat tables of two sheets' successors are those of the sheets.
-use mathlib.Core.Path.{◌≡◌, refl, sym, ap, ◌∙◌}
+use mathlib.Core.Path.{◌≡◌, refl, ◌∙◌}
 use mathlib.Core.Logic.{◌⊎◌, inl, inr}
 use mathlib.Core.List.{List}
 use Prim.Native.Nat.{ℕ, zero, suc, ◌+◌, ◌*◌, ◌^◌, ◌≤◌, ◌<◌}
-use native.Mathlib.Nat.{pow-zero}
 use native.Mathlib.Omega.{arith}
-use lib.ListN.{length, get_or}
+use lib.ListN.{get_or}
 use borrow.Author.Tests.{lt-ltb, le-ltb}
 use Rattle.base.proofs.Truth.{lt_or_ge}
 use Rattle.base.specs.Sum.{sum}
@@ -15,7 +14,7 @@ use Rattle.sheet_spec.specs.declared.Sheet.{Sheet}
 use Rattle.sheet_spec.specs.Kept.{sheet_with, step}
 use Rattle.sheet_rows.specs.Tables.{flat_at, flat_holds}
 use Rattle.scripts_spec.specs.Scripts.{Fate, Walked, DeviceStops, ReferenceStops, beginning, count_from}
-use Rattle.scripts.specs.declared.Counts.{Counts}
+use Rattle.scripts_spec.specs.declared.Counts.{Counts}
 use Rattle.scripts.specs.Shapes.{counts_from, plus, event_counts, sums, table_counts}
 use Rattle.scripts.proofs.tables.Sums.{event_both, event_reference, event_device}
 

@@ -3,7 +3,7 @@
 use Rattle.std.specs.Prelude.{◌≡◌, ◌≢◌, cond, List, ℕ, zero, suc, ◌+◌, ◌*◌, ◌/◌, ◌%◌, ◌^◌, ◌≤◌, ◌<◌, ltb, length, get_or}
 use Rattle.sheet_spec.specs.declared.Sheet.{Sheet}
 use Rattle.scripts_spec.specs.Scripts.{Walked, DeviceStops, ReferenceStops, count_from}
-use Rattle.scripts.specs.declared.Counts.{Counts}
+use Rattle.scripts_spec.specs.declared.Counts.{Counts}
 
 -- the counts of two sheets for l events from the pair (n, m) on
 abbrev pub counts_from : Sheet → Sheet → ℕ → ℕ → ℕ → Counts

@@ -1,49 +1,30 @@
 // How many key scripts of a length go where (02, K2). `count` takes any two sheets and any length: it answers the three
-// counts, or the number of the refusal. The successors are laid out in flat tables once; the counts of all pairs of
+// counts, or why it refuses. The successors are laid out in flat tables once; the counts of all pairs of
 // nodes for one event more are worked from those for one event fewer, and no script is enumerated.
 #![tactic(auto)]
 
 mod tables;
 
 ghost use Rattle.std.specs.Prelude.{◌≡◌, ◌≤◌, ◌<◌};
+ghost use Rattle.refusals.specs.Numbers.{refusal_in};
 ghost use Rattle.sheet_spec.specs.Kept.{sheet_with};
-ghost use Rattle.scripts_spec.specs.Scripts.{scripts_fault, scripts_of};
+ghost use Rattle.scripts_spec.specs.Scripts.{scripts_fault, scripts_of, counted};
 ghost use Rattle.scripts.specs.Shapes.{counts_from};
 
-use scripts_spec::Scripts;
+use refusals::Refusal;
+use scripts_spec::Counts;
 use sheet_spec::{Row, Sheet};
 
-// How many scripts go each way from a pair of nodes on.
-#[derive(Clone, Copy)]
-struct Counts {
-    walked: u64,
-    device: u64,
-    reference: u64,
-}
-
-// The refusal of a call: the reference's own, the device's own; 11, E differs; 19, a code differs; 20, a length above
-// 16; 0 for none.
-fn fault_on(reference: Sheet, device: Sheet, length: u16) -> u8
-    ensures { result ≡ scripts_fault reference device length }
+// Why a call is refused, if it is: the reference's own, the device's own; 11, E differs; 19, a code differs; 20, a
+// length above 16.
+fn fault_on(reference: Sheet, device: Sheet, length: u16) -> Result<(), Refusal>
+    ensures { refusal_in result ≡ scripts_fault reference device length }
 {
-    let first = sheet::check(reference);
-    if first != 0 {
-        return first;
-    }
-    let second = sheet::check(device);
-    if second != 0 {
-        return second;
-    }
-    let own = reference.codes;
-    let others = device.codes;
-    let shared = sheet_codes::shared_fault(reference.e, &own, device.e, &others);
-    if shared != 0 {
-        return shared;
-    }
+    sheet::check_pair(reference, device)?;
     if length > 16 {
-        return 20;
+        return Err(Refusal::ScriptLength);
     }
-    0
+    Ok(())
 }
 
 // The counts of scripts of `length` events, from the pair of the two first nodes on.
@@ -73,30 +54,13 @@ fn count_rows(
 }
 
 // Counts the scripts of `length` events by what becomes of them: both sheets walk them to the end; they stop first at an
-// event that the device cannot do; or at one that the device can do and the reference cannot. Or answers the number of
-// the refusal, and 0 in the other places.
-pub fn count(reference: Sheet, device: Sheet, length: u16) -> Scripts
-    ensures { result ≡ scripts_of reference device length }
+// event that the device cannot do; or at one that the device can do and the reference cannot. Or answers why it refuses.
+pub fn count(reference: Sheet, device: Sheet, length: u16) -> Result<Counts, Refusal>
+    ensures { counted result ≡ scripts_of reference device length }
 {
-    let fault = fault_on(reference, device, length);
-    if fault != 0 {
-        return Scripts {
-            refusal: fault,
-            walked: 0,
-            device: 0,
-            reference: 0,
-        };
-    }
-    let e = base::wide(reference.e);
-    let p = base::wide(reference.n);
-    let q = base::wide(device.n);
-    let mine = reference.rows;
-    let theirs = device.rows;
-    let counts = count_rows(mine, p, theirs, q, e, length as usize);
-    Scripts {
-        refusal: 0,
-        walked: counts.walked,
-        device: counts.device,
-        reference: counts.reference,
-    }
+    fault_on(reference, device, length)?;
+    let e = usize::from(reference.e);
+    let p = usize::from(reference.n);
+    let q = usize::from(device.n);
+    Ok(count_rows(reference.rows, p, device.rows, q, e, usize::from(length)))
 }

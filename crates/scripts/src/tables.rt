@@ -7,7 +7,7 @@ ghost use Rattle.std.specs.Prelude.{◌≡◌, ◌+◌, ◌*◌, ◌≤◌, ◌<
 ghost use Rattle.scripts.specs.Shapes.{one, most, cell, plus, place, place_sums, next_cell, table_counts};
 ghost use Rattle.scripts.specs.Shapes.{Most, Sizes, Small, Stored, Stopped, Filled, Begun};
 
-use super::Counts;
+use scripts_spec::Counts;
 
 // The counts at a place.
 fn load(table: &[u64; 3078], place: usize) -> Counts
@@ -37,8 +37,8 @@ fn place_of(p: usize, q: usize, x: u8, y: u8) -> usize
     requires { (p ≤ 32) × (q ≤ 32) }
     ensures { result ≡ place p q x y }
 {
-    let n = base::wide(x);
-    let m = base::wide(y);
+    let n = usize::from(x);
+    let m = usize::from(y);
     let mut place = n * q + m;
     if n >= p {
         place = p * q;

@@ -1,12 +1,15 @@
 -- How many scripts of L events go where (02, K2). P is the reference, Q the device. A count for l events is worked from
 -- those for one event fewer. What becomes of a script, with no count in it, is said in Fates; that these are the
 -- numbers of such scripts, in CountLaws.
-use Rattle.std.specs.Prelude.{cond, ℕ, zero, suc, ◌^◌, eqb, ltb, leb}
+use Rattle.std.specs.Prelude.{cond, ℕ, zero, suc, Result, Ok, Err, ◌^◌, eqb, ltb, leb}
+use Rattle.refusals.specs.declared.Refusal.{Refusal}
+use Rattle.refusals.specs.Numbers.{number}
 use Rattle.base.specs.Refusal.{unless}
 use Rattle.base.specs.Sum.{sum}
 use Rattle.sheet_spec.specs.declared.Sheet.{Sheet}
 use Rattle.sheet_spec.specs.Kept.{step}
 use Rattle.sheet_spec.specs.Refusals.{pair_fault}
+use Rattle.scripts_spec.specs.declared.Counts.{Counts}
 use Rattle.scripts_spec.specs.declared.Scripts.{Scripts}
 
 -- what becomes of a script: both walk it to the end; it stops first at an event that the device cannot do; it stops
@@ -49,3 +52,8 @@ scripts_of P Q L =
     cond (eqb (scripts_fault P Q L) 0)
     (record { refusal = 0; walked = count_of P Q L Walked; device = count_of P Q L DeviceStops; reference = count_of P Q L ReferenceStops })
     (record { refusal = scripts_fault P Q L; walked = 0; device = 0; reference = 0 })
+
+-- what C is told of an answer: its counts, or the number of its refusal and 0 in their places
+unfoldable pub counted : Result Counts Refusal → Scripts
+counted (Ok c) = record { refusal = 0; walked = c.walked; device = c.device; reference = c.reference }
+counted (Err cause) = record { refusal = number cause; walked = 0; device = 0; reference = 0 }

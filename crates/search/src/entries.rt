@@ -16,11 +16,12 @@ pub(crate) struct Entry {
 }
 
 // The pair of an entry.
+#[tactic(auto, unfolding(search_theory::specs::Words::node_at))]
 pub(crate) fn node_at(work: &[u16], place: usize) -> usize
     requires { place < length work.now }
     ensures { result ≡ node_at work.now place }
 {
-    work[place] as usize
+    usize::from(work[place])
 }
 
 // Makes a pair the last entry, unless it is an entry; the new number of entries.
@@ -55,9 +56,9 @@ pub(crate) fn try_event(
     ensures { st result work.new ≡ tried (table_pairs a.now b.now p q e) at.place
         (at.reference * q + at.device) k (st tail work.old) }
 {
-    let r = base::wide(a[at.reference * 12 + k]);
+    let r = usize::from(a[at.reference * 12 + k]);
     if r < p {
-        let d = base::wide(b[at.device * 12 + k]);
+        let d = usize::from(b[at.device * 12 + k]);
         if d < q {
             return visit(work, n, tail, r * q + d, at.place * 16 + k + 2);
         }

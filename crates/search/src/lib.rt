@@ -39,9 +39,7 @@ fn settle(q: usize, work: &mut [u16], n: usize, stop: Stop, trace: &mut [u8]) ->
 fn clear(words: &mut [u16])
     ensures { words.new ≡ replicate (length words.old) 0 }
 {
-    for i in 0..words.len() {
-        words[i] = 0;
-    }
+    words.fill(0);
 }
 
 // Searches the pairs that common traces of two graphs reach for the nearest bad one. Node v's successor on event i

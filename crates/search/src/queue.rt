@@ -64,8 +64,8 @@ fn entry_at(work: &[u16], q: usize, place: usize) -> Entry
     let node = entries::node_at(work, place);
     let reference = quotient(node, q);
     Entry {
-        place: place,
-        reference: reference,
+        place,
+        reference,
         device: node - reference * q,
     }
 }
@@ -88,10 +88,8 @@ fn scan(
 {
     let at = entry_at(work, q, place);
     let mut t = tail;
-    let mut k = 0;
-    while k < e {
+    for k in 0..e {
         t = entries::try_event(a, b, p, q, e, work, n, t, at, k);
-        k += 1;
     }
     t
 }

@@ -6,20 +6,13 @@ ghost use Rattle.search_theory.specs.Queue.{read_back};
 ghost use Rattle.search_theory.specs.Words.{node_at, link_at};
 ghost use Rattle.search_theory.specs.Read.{link_in, linked, front_of, LinksOk, BackOk, TraceOk};
 
-// A word of the work list as a number.
-fn number(word: u16) -> usize
-    ensures { result ≡ word }
-{
-    word as usize
-}
-
 // Puts the links of the first m entries in the entries' places.
 fn put_links(work: &mut [u16], n: usize, m: usize)
     requires { LinksOk n work.old m }
     ensures { work.new ≡ linked n work.old m }
 {
     for x in 0..m {
-        let node = number(work[x]);
+        let node = usize::from(work[x]);
         work[x] = work[n + node];
     }
 }
@@ -36,7 +29,7 @@ fn read_back(links: &&[u16], place: usize, d: usize, events: &mut [u8; 1024])
     if d == 0 {
         return;
     }
-    let link = number(links[place]);
+    let link = usize::from(links[place]);
     events[d - 1] = ((link - 2) % 16) as u8;
     read_back(links, (link - 2) / 16, d - 1, events);
 }

@@ -8,27 +8,24 @@ mod layout;
 ghost use Rattle.std.specs.Prelude.{◌≡◌, ◌≤◌, ◌<◌};
 ghost use Rattle.base.specs.Table.{up_to};
 ghost use Rattle.base.specs.Refusal.{or_else};
+ghost use Rattle.refusals.specs.Numbers.{refusal_in};
 ghost use Rattle.sheet_spec.specs.Spelling.{event_count, node_count, nodes_at, start_of, succ_of, sets_of, row_at, unused_row, row_of, sheet_of};
 ghost use Rattle.sheet_spec.specs.Refusals.{head_fault, codes_fault, layout_fault};
 
+use refusals::Refusal;
 use sheet_spec::{Row, Sheet};
+use std::array;
 
-// The refusal of the bytes before the graph that they spell is looked at, 0 for none: 1, 2, 3; 4 and 18 of the codes;
-// then 4 and 5 of the nodes, by position.
-pub fn fault_in(bytes: &[u8]) -> u8
-    ensures { result ≡ or_else (head_fault bytes.now)
+// The refusal of the bytes before the graph that they spell is looked at: 1, 2, 3; 4 and 18 of the codes; then 4 and 5
+// of the nodes, by position.
+pub fn fault_in(bytes: &[u8]) -> Result<(), Refusal>
+    ensures { refusal_in result ≡ or_else (head_fault bytes.now)
         (or_else (codes_fault bytes.now)
         (layout_fault bytes.now (event_count bytes.now)
         (node_count bytes.now) (nodes_at bytes.now))) }
 {
-    let head = layout::head_fault(bytes);
-    if head != 0 {
-        return head;
-    }
-    let fault = codes::codes_fault(bytes);
-    if fault != 0 {
-        return fault;
-    }
+    layout::head_fault(bytes)?;
+    codes::codes_fault(bytes)?;
     layout::layout_fault(bytes, layout::byte_at(bytes, 5), layout::byte_at(bytes, 6))
 }
 
@@ -49,12 +46,7 @@ fn succs_of(bytes: &[u8], at: usize, e: usize) -> [u8; 12]
     requires { at < 1000000 }
     ensures { result ≡ up_to (succ_of bytes.now at e) 12 }
 {
-    let mut succ = [255u8; 12];
-    for i in 0..12 {
-        let x = succ_of(bytes, at, e, i);
-        succ[i] = x;
-    }
-    succ
+    array::from_fn(|i| succ_of(bytes, at, e, i))
 }
 
 // The set at place j of the sets that begin at a place, 0 from place `c` on.
@@ -74,12 +66,7 @@ fn sets_of(bytes: &[u8], at: usize, c: usize) -> [u16; 16]
     requires { at < 900000 }
     ensures { result ≡ up_to (sets_of bytes.now at c) 16 }
 {
-    let mut sets = [0u16; 16];
-    for j in 0..16 {
-        let x = set_of(bytes, at, c, j);
-        sets[j] = x;
-    }
-    sets
+    array::from_fn(|j| set_of(bytes, at, c, j))
 }
 
 // The row of the node that begins at a place.
@@ -88,12 +75,10 @@ fn row_at(bytes: &[u8], e: usize, at: usize) -> Row
     ensures { result ≡ row_at bytes.now e at }
 {
     let c = layout::byte_at(bytes, at + e);
-    let succ = succs_of(bytes, at, e);
-    let sets = sets_of(bytes, at + e + 1, c as usize);
     Row {
-        succ: succ,
-        sets: sets,
-        c: c,
+        succ: succs_of(bytes, at, e),
+        sets: sets_of(bytes, at + e + 1, usize::from(c)),
+        c,
     }
 }
 
@@ -101,11 +86,9 @@ fn row_at(bytes: &[u8], e: usize, at: usize) -> Row
 fn unused_row() -> Row
     ensures { result ≡ unused_row }
 {
-    let succ = [255u8; 12];
-    let sets = [0u16; 16];
     Row {
-        succ: succ,
-        sets: sets,
+        succ: [255; 12],
+        sets: [0; 16],
         c: 0,
     }
 }
@@ -127,12 +110,10 @@ fn rows_of(bytes: &[u8], e: usize, n: usize) -> [Row; 32]
     requires { e ≤ 255 }
     ensures { result ≡ up_to (row_of bytes.now e n) 32 }
 {
-    let unused = unused_row();
-    let mut rows = [unused; 32];
+    let mut rows = [unused_row(); 32];
     let mut at = layout::nodes_at(bytes);
     for v in 0..32 {
-        let row = row_of(bytes, e, n, v, at);
-        rows[v] = row;
+        rows[v] = row_of(bytes, e, n, v, at);
         at = layout::next_at(bytes, e, at);
     }
     rows
@@ -144,12 +125,10 @@ pub fn sheet_of(bytes: &[u8]) -> Sheet
 {
     let e = layout::byte_at(bytes, 5);
     let n = layout::byte_at(bytes, 6);
-    let rows = rows_of(bytes, e as usize, n as usize);
-    let codes = codes::codes_of(bytes);
     Sheet {
-        rows: rows,
-        e: e,
-        n: n,
-        codes: codes,
+        rows: rows_of(bytes, usize::from(e), usize::from(n)),
+        e,
+        n,
+        codes: codes::codes_of(bytes),
     }
 }

@@ -1,32 +1,51 @@
 -- The table of successors, filled row by row.
-use mathlib.Core.Path.{◌≡◌}
-use mathlib.Core.List.{List}
-use Prim.Native.Nat.{ℕ, zero, suc, ◌+◌, ◌*◌, ◌≤◌, ◌<◌}
-use native.Mathlib.Omega.{arith}
+use mathlib.Core.Path.{◌≡◌, sym, ap, ◌∙◌}
+use mathlib.Core.List.{List, [], ◌∷◌, ◌++◌, append_assoc}
+use Rattle.std.proofs.Common.{append-nil}
 use native.Mathlib.Nat.{add-zero}
-use native.Mathlib.Numerals.{add-one}
+use Prim.Native.Nat.{ℕ, zero, suc, ◌+◌, ◌-◌, ◌*◌, ◌<◌}
+use native.Mathlib.Omega.{arith}
 use lib.Arith.{digits_div, digits_mod}
-use lib.ListN.{get_or, set}
-use Rattle.base.proofs.Loops.{Filling, stored}
+use lib.ListN.{get_or, length, take, drop, replicate, length-append, length-replicate}
+use Rattle.std.proofs.lemmas.List.{take_at, drop-replicate}
+use Rattle.std.proofs.Math.Seq.{drop-append-add}
+use Rattle.base.specs.Table.{up_to}
+use Rattle.base.proofs.Table.{length_up_to, up_to_all, up_to_ext}
+use Rattle.base.proofs.Loops.{Filling}
 use Rattle.sheet_spec.specs.declared.Row.{Row}
 use Rattle.sheet_spec.specs.Kept.{no_row, successor}
-use Rattle.sheet_rows.specs.Tables.{flat_at, row_put}
+use Rattle.sheet_rows.specs.Tables.{flat_at}
 
--- one successor more of a node is put in its place
-pub row_more : (t : List ℕ) (row : Row) (v i : ℕ) {x : ℕ} {out : List ℕ} → out ≡ row_put t row v i → x ≡ successor row i
-    → set out (v * 12 + i) x ≡ row_put t row v (i + 1)
-unfolding row_put
-row_more t row v i h e = rw (add-one i, e, h)
+-- a table of so many places, and of the places after them
+more : {A : Type 0} (f : ℕ → A) (m n : ℕ) → up_to f m ++ up_to (λ i. f (m + i)) n ≡ up_to f (m + n)
+unfolding up_to
+more f m zero = rw (append-nil, add-zero)
+more f m (suc n) =
+    let e : m + suc n ≡ suc (m + n) = omega arith in
+    rw e (sym (append_assoc (up_to f m) (up_to (λ i. f (m + i)) n) (f (m + n) ∷ [])) ∙ ap (λ l. l ++ (f (m + n) ∷ [])) (more f m n))
+
+-- the successors of node v are what the table has at its places
+row_is : (rows : List Row) (v : ℕ) → length (get_or rows v no_row).succ ≡ 12 → (get_or rows v no_row).succ ≡ up_to (λ i. flat_at rows (v * 12 + i)) 12
+unfolding flat_at successor
+row_is rows v q = sym (up_to_all _ 12 255 q) ∙ up_to_ext _ _ 12 (λ i l. rw (digits_div v {m = 12} l, digits_mod v {m = 12} l))
 
 -- the places of one node more are filled
-row_filled : (rows : List Row) (v : ℕ) {t : List ℕ} (i : ℕ) → v < 32 → i ≤ 12 → Filling (flat_at rows) 255 384 (v * 12) t
-    → Filling (flat_at rows) 255 384 (v * 12 + i) (row_put t (get_or rows v no_row) v i)
-unfolding row_put flat_at
-row_filled rows v zero l k h = rw (add-zero (v * 12)) h
-row_filled rows v (suc i) l k h =
-    let e : v * 12 + suc i ≡ v * 12 + i + 1 = omega arith in
-    rw e (stored (row_filled rows v i l (omega arith) h) (omega arith) (rw (digits_div v {m = 12} k, digits_mod v {m = 12} k)))
-
-pub row_stored : (rows : List Row) {v : ℕ} {t out : List ℕ} → Filling (flat_at rows) 255 384 (v * 12) t → v < 32 → out ≡ row_put t (get_or rows v no_row) v 12
-    → Filling (flat_at rows) 255 384 ((v + 1) * 12) out
-row_stored rows {v} h l p = let e : (v + 1) * 12 ≡ v * 12 + 12 = omega arith in rw (e, p) (row_filled rows v 12 l (omega arith) h)
+pub row_stored : (rows : List Row) {v : ℕ} {t out : List ℕ} → Filling (flat_at rows) 255 384 (v * 12) t → v < 32 → length out ≡ 384
+    → out ≡ take (v * 12) t ++ (get_or rows v no_row).succ ++ drop (v * 12 + 12) t → Filling (flat_at rows) 255 384 ((v + 1) * 12) out
+row_stored rows {v} {t} {out} h l n p =
+    let f : ℕ → ℕ = flat_at rows in
+    let b : List ℕ = replicate (384 - v * 12) 255 in
+    let s : List ℕ = (get_or rows v no_row).succ in
+    let front : take (v * 12) t ≡ up_to f (v * 12) = rw h.holds (take_at (up_to f (v * 12)) b (v * 12) (length_up_to f (v * 12))) in
+    let rest : drop (v * 12 + 12) t ≡ replicate (384 - v * 12 - 12) 255 =
+    rw h.holds (ap (λ k. drop (k + 12) (up_to f (v * 12) ++ b)) (sym (length_up_to f (v * 12))) ∙ drop-append-add (up_to f (v * 12)) b 12 ∙ drop-replicate 12 (384 - v * 12) 255) in
+    let whole : out ≡ up_to f (v * 12) ++ s ++ replicate (384 - v * 12 - 12) 255 = p ∙ rw (front, rest) in
+    let sizes : length out ≡ v * 12 + length s + (384 - v * 12 - 12) =
+    ap length whole ∙ length-append (up_to f (v * 12) ++ s) (replicate (384 - v * 12 - 12) 255) ∙ rw (length-append (up_to f (v * 12)) s, length_up_to f (v * 12), length-replicate) in
+    let e : (v + 1) * 12 ≡ v * 12 + 12 = omega arith in
+    let d : 384 - v * 12 - 12 ≡ 384 - (v * 12 + 12) = omega arith in
+    let same : s ≡ up_to (λ i. f (v * 12 + i)) 12 = row_is rows v (omega (arith, sizes, n)) in
+    rw e (record {
+      below = omega arith;
+      holds = whole ∙ rw (same, d) (ap (λ k. k ++ replicate (384 - (v * 12 + 12)) 255) (more f (v * 12) 12));
+    })

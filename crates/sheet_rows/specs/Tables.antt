@@ -1,6 +1,6 @@
 -- Nothing to believe: for contracts of inner functions. Tables over all rows: the successors of all nodes, twelve to a
 -- node, and the initials of each node.
-use Rattle.std.specs.Prelude.{◌≡◌, List, ℕ, zero, suc, ◌+◌, ◌*◌, ◌/◌, ◌%◌, ◌<◌, get_or, set}
+use Rattle.std.specs.Prelude.{◌≡◌, List, ℕ, ◌+◌, ◌*◌, ◌/◌, ◌%◌, ◌<◌, get_or}
 use Rattle.std.proofs.Common.{◌∙◌, arith}
 use Rattle.std.proofs.Math.Arith.{digits_div, digits_mod}
 use Rattle.base.specs.Table.{up_to}
@@ -19,11 +19,6 @@ initials_in e rows v = initials e (row_in rows v)
 -- the successor that stands at place j of the table: that of node j / 12 on event j % 12
 unfoldable pub flat_at : List Row → ℕ → ℕ
 flat_at rows j = successor (get_or rows (j / 12) no_row) (j % 12)
-
--- a table in which the first i successors of node v were put in their places
-unfoldable pub row_put : List ℕ → Row → ℕ → ℕ → List ℕ
-row_put t row v zero = t
-row_put t row v (suc i) = set (row_put t row v i) (v * 12 + i) (successor row i)
 
 -- the table of successors holds that of each node on each event
 pub flat_holds : (rows : List Row) (v i : ℕ) → v < 32 → i < 12 → get_or (up_to (flat_at rows) 384) (v * 12 + i) 0 ≡ successor (get_or rows v no_row) i

@@ -2,13 +2,14 @@
 // every row, event and place. And the tables of all rows: the successors of each node, and its initials.
 #![tactic(auto)]
 
-ghost use Rattle.std.specs.Prelude.{◌≡◌, ◌<◌};
+ghost use Rattle.std.specs.Prelude.{◌≡◌, ◌<◌, ◌+◌, ◌*◌, ◌++◌, take, drop};
 ghost use Rattle.sheet_spec.specs.Kept.{successor, acceptance, initials, may_stop};
 ghost use Rattle.base.specs.Table.{up_to};
-ghost use Rattle.sheet_rows.specs.Tables.{initials_in, row_put, flat_at};
+ghost use Rattle.sheet_rows.specs.Tables.{initials_in, flat_at};
 ghost use Rattle.sheet_rows.specs.Shapes.{initial_added};
 
 use sheet_spec::Row;
+use std::array;
 
 // The successor of a row on an event, 255 for none; no event from 12 on has one.
 pub fn successor_of(row: Row, event: usize) -> u8
@@ -52,15 +53,8 @@ fn with_initial(set: u16, x: u8, e: usize, i: usize) -> u16
 pub fn may_stop(row: Row) -> bool
     ensures { result ≡ may_stop row }
 {
-    let c = base::wide(row.c);
-    for j in 0..16 {
-        if j < c {
-            if row.sets[j] == 0 {
-                return true;
-            }
-        }
-    }
-    false
+    let c = usize::from(row.c);
+    (0..16).any(|j| j < c && row.sets[j] == 0)
 }
 
 // ---- a table of all rows
@@ -68,21 +62,18 @@ pub fn may_stop(row: Row) -> bool
 // The successors of node `v` are put in its twelve places.
 fn put_row(table: &mut [u8; 384], row: Row, v: usize)
     requires { v < 32 }
-    ensures { table.new ≡ row_put table.old row v 12 }
+    ensures { table.new ≡ take (v * 12) table.old ++ row.succ ++ drop (v * 12 + 12) table.old }
 {
-    for i in 0..12 {
-        table[v * 12 + i] = row.succ[i];
-    }
+    table[v * 12..v * 12 + 12].copy_from_slice(&row.succ);
 }
 
 // The successors of all nodes, twelve to a node.
 pub fn flat(rows: [Row; 32]) -> [u8; 384]
     ensures { result ≡ up_to (flat_at rows) 384 }
 {
-    let mut table = [255u8; 384];
+    let mut table = [255; 384];
     for v in 0..32 {
-        let row = rows[v];
-        put_row(&mut table, row, v);
+        put_row(&mut table, rows[v], v);
     }
     table
 }
@@ -91,11 +82,5 @@ pub fn flat(rows: [Row; 32]) -> [u8; 384]
 pub fn all_initials(rows: [Row; 32], e: usize) -> [u16; 32]
     ensures { result ≡ up_to (initials_in e rows) 32 }
 {
-    let mut sets = [0u16; 32];
-    for v in 0..32 {
-        let row = rows[v];
-        let x = initials_of(row, e);
-        sets[v] = x;
-    }
-    sets
+    array::from_fn(|v| initials_of(rows[v], e))
 }

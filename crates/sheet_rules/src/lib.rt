@@ -8,35 +8,27 @@ mod rows;
 mod sets;
 
 ghost use Rattle.std.specs.Prelude.{◌≡◌, ◌≤◌};
+ghost use Rattle.refusals.specs.Numbers.{refusal_in};
 ghost use Rattle.sheet_spec.specs.Rules.{ranges_ok, count_ok, counts_ok, successors_ok, sets_ok, blanks_ok};
 ghost use Rattle.sheet_spec.specs.Refusals.{graph_fault, sheet_fault};
 
+use refusals::Refusal;
 use sheet_spec::Sheet;
 
 // 3: whether E and N are in range.
+#[tactic(auto, unfolding(sheet_spec::specs::Rules::ranges_ok))]
 pub fn ranges_ok(e: u8, n: u8) -> bool
     ensures { result ≡ ranges_ok e n }
 {
-    if e < 1 {
-        return false;
-    }
-    if e > 12 {
-        return false;
-    }
-    if n < 1 {
-        return false;
-    }
-    n <= 32
+    (1..=12).contains(&e) && (1..=32).contains(&n)
 }
 
 // 5: whether a count is 1 to 16.
+#[tactic(auto, unfolding(sheet_spec::specs::Rules::count_ok))]
 pub fn count_ok(c: u8) -> bool
     ensures { result ≡ count_ok c }
 {
-    if c < 1 {
-        return false;
-    }
-    c <= 16
+    (1..=16).contains(&c)
 }
 
 // 5: whether the count of every node is 1 to 16.
@@ -44,14 +36,10 @@ fn counts_ok(s: Sheet) -> bool
     requires { s.n ≤ 32 }
     ensures { result ≡ counts_ok s }
 {
-    let n = s.n as usize;
-    for v in 0..n {
+    (0..usize::from(s.n)).all(|v| {
         let row = s.rows[v];
-        if !count_ok(row.c) {
-            return false;
-        }
-    }
-    true
+        count_ok(row.c)
+    })
 }
 
 // 6: whether the successors of every node are 255 or below N.
@@ -59,15 +47,9 @@ fn successors_ok(s: Sheet) -> bool
     requires { s.n ≤ 32 }
     ensures { result ≡ successors_ok s }
 {
-    let e = s.e as usize;
-    let n = s.n as usize;
-    for v in 0..n {
-        let row = s.rows[v];
-        if !rows::row_successors_ok(row, e, n) {
-            return false;
-        }
-    }
-    true
+    let e = usize::from(s.e);
+    let n = usize::from(s.n);
+    (0..n).all(|v| rows::row_successors_ok(s.rows[v], e, n))
 }
 
 // 7: whether the sets of every node ascend, lie inside its initials, and include none before them.
@@ -75,77 +57,65 @@ fn sets_ok(s: Sheet) -> bool
     requires { s.n ≤ 32 }
     ensures { result ≡ sets_ok s }
 {
-    let e = s.e as usize;
-    let n = s.n as usize;
-    for v in 0..n {
-        let row = s.rows[v];
-        if !sets::row_sets_ok(row, e) {
-            return false;
-        }
-    }
-    true
+    let e = usize::from(s.e);
+    (0..usize::from(s.n)).all(|v| sets::row_sets_ok(s.rows[v], e))
 }
 
 // 7: whether the unused places of every row hold 255 and 0.
 fn blanks_ok(s: Sheet) -> bool
     ensures { result ≡ blanks_ok s }
 {
-    let e = s.e as usize;
-    let n = s.n as usize;
-    for v in 0..32 {
-        let row = s.rows[v];
-        if !rows::unused_ok(row, e, n, v) {
-            return false;
-        }
-    }
-    true
+    let e = usize::from(s.e);
+    let n = usize::from(s.n);
+    (0..32).all(|v| rows::unused_ok(s.rows[v], e, n, v))
 }
 
-// The refusal of the graph that bytes spell, 0 for none: 6, 7, 8, each looked for in the whole sheet.
-pub fn graph_fault(sheet: Sheet) -> u8
+// The refusal of the graph that bytes spell: 6, 7, 8, each looked for in the whole sheet.
+#[tactic(auto, unfolding(sheet_spec::specs::Refusals::graph_fault))]
+pub fn graph_fault(sheet: Sheet) -> Result<(), Refusal>
     requires { sheet.n ≤ 32 }
-    ensures { result ≡ graph_fault sheet }
+    ensures { refusal_in result ≡ graph_fault sheet }
 {
     if !successors_ok(sheet) {
-        return 6;
+        return Err(Refusal::Successor);
     }
     if !sets_ok(sheet) {
-        return 7;
+        return Err(Refusal::Acceptances);
     }
     if !reached::reached_ok(sheet) {
-        return 8;
+        return Err(Refusal::Unreached);
     }
-    0
+    Ok(())
 }
 
-// The refusal of a kept sheet with any content, 0 for none: 3, 18, 5, 6, 7, 8, each looked for in the whole sheet.
-pub fn sheet_fault(s: Sheet) -> u8
-    ensures { result ≡ sheet_fault s }
+// The refusal of a kept sheet with any content: 3, 18, 5, 6, 7, 8, each looked for in the whole sheet.
+#[tactic(auto, unfolding(sheet_spec::specs::Refusals::sheet_fault))]
+pub fn sheet_fault(s: Sheet) -> Result<(), Refusal>
+    ensures { refusal_in result ≡ sheet_fault s }
 {
     if !ranges_ok(s.e, s.n) {
-        return 3;
+        return Err(Refusal::Ranges);
     }
-    let codes = s.codes;
-    if !sheet_codes::is_distinct(&codes, s.e) {
-        return 18;
+    if !sheet_codes::is_distinct(&s.codes, s.e) {
+        return Err(Refusal::CodeTwice);
     }
     if !counts_ok(s) {
-        return 5;
+        return Err(Refusal::Count);
     }
     if !successors_ok(s) {
-        return 6;
+        return Err(Refusal::Successor);
     }
     if !sets_ok(s) {
-        return 7;
+        return Err(Refusal::Acceptances);
     }
     if !blanks_ok(s) {
-        return 7;
+        return Err(Refusal::Acceptances);
     }
-    if !sheet_codes::is_blank_from(&codes, s.e) {
-        return 7;
+    if !sheet_codes::is_blank_from(&s.codes, s.e) {
+        return Err(Refusal::Acceptances);
     }
     if !reached::reached_ok(s) {
-        return 8;
+        return Err(Refusal::Unreached);
     }
-    0
+    Ok(())
 }

@@ -6,19 +6,14 @@ ghost use Rattle.sheet_rules.specs.ReachShapes.{targets_of, with_targets, grown,
 
 use super::rows;
 use sheet_spec::Sheet;
+use std::array;
 
 // For each node the set of nodes to which one event leads.
 fn targets(s: Sheet) -> [u32; 32]
     ensures { result ≡ up_to (targets_of s) 32 }
 {
-    let e = s.e as usize;
-    let mut sets = [0u32; 32];
-    for v in 0..32 {
-        let row = s.rows[v];
-        let x = rows::targets_of(row, e);
-        sets[v] = x;
-    }
-    sets
+    let e = usize::from(s.e);
+    array::from_fn(|v| rows::targets_of(s.rows[v], e))
 }
 
 // The nodes of `set` join `next`, if node `u` is among those seen.
@@ -62,13 +57,7 @@ pub(crate) fn reached_ok(s: Sheet) -> bool
     requires { s.n ≤ 32 }
     ensures { result ≡ reached_ok s }
 {
-    let n = s.n as usize;
-    let sets = targets(s);
-    let seen = seen_after(sets, n);
-    for v in 0..n {
-        if !nodes::has_node(seen, v) {
-            return false;
-        }
-    }
-    true
+    let n = usize::from(s.n);
+    let seen = seen_after(targets(s), n);
+    (0..n).all(|v| nodes::has_node(seen, v))
 }

@@ -15,77 +15,52 @@ fn succ_at(succ: &[u8; 12], event: usize) -> u8
 }
 
 // 6: whether a successor is 255 or below `n`.
+#[tactic(auto, unfolding(sheet_spec::specs::Rules::successor_ok))]
 fn successor_ok(n: usize, x: u8) -> bool
     ensures { result ≡ successor_ok n x }
 {
-    if x == 255 {
-        return true;
-    }
-    base::wide(x) < n
+    x == 255 || usize::from(x) < n
 }
 
 // 6: whether the successor on every event below `e` is 255 or below `n`.
 pub(crate) fn row_successors_ok(row: Row, e: usize, n: usize) -> bool
     ensures { result ≡ row_successors_ok e n row }
 {
-    for i in 0..e {
-        if !successor_ok(n, succ_at(&row.succ, i)) {
-            return false;
-        }
-    }
-    true
+    (0..e).all(|i| successor_ok(n, succ_at(&row.succ, i)))
 }
 
 // 7: whether the successors from event `e` on hold 255.
 fn succs_blank(row: Row, e: usize) -> bool
     ensures { result ≡ blank_succs e row }
 {
-    for i in 0..12 {
-        if e <= i {
-            if row.succ[i] != 255 {
-                return false;
-            }
-        }
-    }
-    true
+    (0..12).all(|i| i < e || succ_at(&row.succ, i) == 255)
 }
 
 // 7: whether the sets from place `c` on hold 0.
 fn sets_blank(row: Row, c: usize) -> bool
     ensures { result ≡ blank_sets c row }
 {
-    for j in 0..16 {
-        if c <= j {
-            if row.sets[j] != 0 {
-                return false;
-            }
-        }
-    }
-    true
+    (0..16).all(|j| j < c || row.sets[j] == 0)
 }
 
 // 7: whether the successors from event `e` on hold 255 and the sets from place `c` on hold 0.
+#[tactic(auto, unfolding(sheet_spec::specs::Rules::blank, crate::specs::RowShapes::blank_succs, crate::specs::RowShapes::blank_sets))]
 fn is_blank(row: Row, e: usize, c: usize) -> bool
     ensures { result ≡ blank e c row }
 {
-    if !succs_blank(row, e) {
-        return false;
-    }
-    sets_blank(row, c)
+    succs_blank(row, e) && sets_blank(row, c)
 }
 
 // 7: whether the unused places of node `v`, all of them if it is an unused node, hold 255 and 0.
+#[tactic(auto, unfolding(sheet_spec::specs::Rules::unused_ok))]
 pub(crate) fn unused_ok(row: Row, e: usize, n: usize, v: usize) -> bool
     ensures { result ≡ unused_ok e n v row }
 {
-    let c = row.c;
     if v < n {
-        return is_blank(row, e, base::wide(c));
+        is_blank(row, e, usize::from(row.c))
+    } else {
+        row.c == 0 && is_blank(row, 0, 0)
     }
-    if c != 0 {
-        return false;
-    }
-    is_blank(row, 0, 0)
 }
 
 // A set of nodes with a successor added; a number from 32 on is no node.
@@ -105,7 +80,7 @@ pub(crate) fn targets_of(row: Row, e: usize) -> u32
 {
     let mut set: u32 = 0;
     for i in 0..e {
-        set = with_target(set, base::wide(succ_at(&row.succ, i)));
+        set = with_target(set, usize::from(succ_at(&row.succ, i)));
     }
     set
 }

@@ -6,14 +6,12 @@ ghost use Rattle.sheet_rules.specs.SetShapes.{sets_alone};
 use sheet_spec::Row;
 
 // 7: whether the set at place j is greater than the one before it.
+#[tactic(auto, unfolding(sheet_spec::specs::Rules::ascends, sheet_spec::specs::Kept::acceptance, crate::specs::SetShapes::sets_alone))]
 fn is_ascending(sets: &[u16; 16], j: usize) -> bool
     requires { j < 16 }
     ensures { result ≡ ascends (sets_alone sets.now) j }
 {
-    if j == 0 {
-        return true;
-    }
-    sets[j - 1] < sets[j]
+    j == 0 || sets[j - 1] < sets[j]
 }
 
 // 7: whether no set before place j is included in the one there.
@@ -21,27 +19,16 @@ fn is_apart(sets: &[u16; 16], j: usize) -> bool
     requires { j < 16 }
     ensures { result ≡ none_inside (sets_alone sets.now) j }
 {
-    let y = sets[j];
-    for k in 0..j {
-        if events::is_inside(sets[k], y) {
-            return false;
-        }
-    }
-    true
+    (0..j).all(|k| !events::is_inside(sets[k], sets[j]))
 }
 
 // 7: whether the set at place j ascends, lies inside the initials, and includes none before it.
+#[tactic(auto, unfolding(sheet_spec::specs::Rules::set_ok, sheet_spec::specs::Kept::acceptance, crate::specs::SetShapes::sets_alone))]
 fn set_ok(initial: u16, sets: &[u16; 16], j: usize) -> bool
     requires { j < 16 }
     ensures { result ≡ set_ok initial (sets_alone sets.now) j }
 {
-    if !is_ascending(sets, j) {
-        return false;
-    }
-    if !events::is_inside(sets[j], initial) {
-        return false;
-    }
-    is_apart(sets, j)
+    is_ascending(sets, j) && events::is_inside(sets[j], initial) && is_apart(sets, j)
 }
 
 // 7: whether all sets of the row ascend, lie inside its initials, and include none before them; the sets are lent, so
@@ -50,14 +37,9 @@ pub(crate) fn row_sets_ok(row: Row, e: usize) -> bool
     ensures { result ≡ row_sets_ok e row }
 {
     let initial = sheet_rows::initials_of(row, e);
-    let c = base::wide(row.c);
+    let c = usize::from(row.c);
     if c > 16 {
         return false;
     }
-    for j in 0..c {
-        if !set_ok(initial, &row.sets, j) {
-            return false;
-        }
-    }
-    true
+    (0..c).all(|j| set_ok(initial, &row.sets, j))
 }

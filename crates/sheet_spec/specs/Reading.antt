@@ -1,6 +1,8 @@
 -- What reading a sheet from its bytes answers: the sheet that they spell (Spelling), or a refusal 1 to 8 or 18
 -- (Refusals) and 0 in every other place.
-use Rattle.std.specs.Prelude.{◌≡◌, cond, List, ℕ, ◌<◌, eqb, length, get_or, replicate}
+use Rattle.std.specs.Prelude.{◌≡◌, cond, List, ℕ, ◌<◌, eqb, length, get_or, replicate, Result, Ok, Err}
+use Rattle.refusals.specs.declared.Refusal.{Refusal}
+use Rattle.refusals.specs.Numbers.{number}
 use Rattle.sheet_spec.specs.declared.Row.{Row}
 use Rattle.sheet_spec.specs.declared.Sheet.{Sheet}
 use Rattle.sheet_spec.specs.declared.ReadSheet.{ReadSheet}
@@ -23,6 +25,11 @@ read_sheet b = answer (bytes_fault b) (sheet_of b)
 -- the answer that accepts: no refusal, and the sheet
 abbrev pub accepted : Sheet → ReadSheet
 accepted s = record { refusal = 0; sheet = s }
+
+-- the answer of a reading as C has it: the sheet, or the number of the refusal and a sheet of zeros
+abbrev pub kept : Result Sheet Refusal → ReadSheet
+kept (Ok s) = accepted s
+kept (Err cause) = record { refusal = number cause; sheet = zero_sheet }
 
 -- 0 in every place of a row
 pub record ZeroRow (r : Row) : Type 0 where

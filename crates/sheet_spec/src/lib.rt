@@ -24,7 +24,7 @@ pub struct Sheet {
     pub codes: [u16; 12],
 }
 
-// What reading answers: the number of the refusal, 0 for none, and the sheet, all 0 where it is refused.
+// What reading answers in C: the number of the refusal, 0 for none, and the sheet, all 0 where it is refused.
 #[repr(C)]
 #[derive(Clone, Copy)]
 pub struct ReadSheet {

@@ -16,6 +16,7 @@ fn unwritten() {
 }
 
 // Reads the input and writes the text.
+#[tactic(auto, using(text_spec::proofs::HoldsLaws::holds_front))]
 fn main() {
     let mut space = io::buffer();
     let n = io::read_full(STDIN_FILENO, &mut space);

@@ -22,7 +22,7 @@ fn main() {
     let n = io::read_full(STDIN_FILENO, &mut space);
     let mut out = io::large_buffer();
     let len = suite_lines::suite_text(&space[..n], &mut out);
-    if !io::write_all(STDOUT_FILENO, &out[..len]) {
+    if !io::write_all(STDOUT_FILENO, text::front(&out, len)) {
         unwritten();
     }
 }

@@ -1,5 +1,5 @@
 -- Nothing to believe: laws. How long the text can be: at most 17,495 bytes.
-use Rattle.std.specs.Prelude.{◌≡◌, Bool, true, false, cond, List, ◌++◌, ℕ, ◌+◌, ◌-◌, ◌*◌, ◌≤◌, ◌<◌, eqb, length, get_or}
+use Rattle.std.specs.Prelude.{◌≡◌, Bool, true, false, cond, List, ◌++◌, ℕ, ◌-◌, ◌*◌, ◌≤◌, ◌<◌, eqb, length, get_or}
 use Rattle.std.proofs.Common.{inl, inr, arith, length-append}
 use Rattle.base.proofs.JoinedLaws.{joined_length}
 use Rattle.sheet_spec.specs.declared.Sheet.{Sheet}

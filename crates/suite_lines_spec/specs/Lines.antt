@@ -1,11 +1,9 @@
 -- The lines that `suite` prints after the two sheets, as the codes of their characters. A list of verdicts has at place
 -- k the number of test k's: 11 for "passes", 12 for "fails".
-use Rattle.std.specs.Prelude.{cond, List, ◌++◌, ℕ, ◌-◌, eqb, get_or}
+use Rattle.std.specs.Prelude.{cond, List, ◌++◌, ℕ, ◌-◌, eqb, get_or, Result, Ok, Err}
 use Rattle.base.specs.Count.{count}
 use Rattle.base.specs.Joined.{joined}
 use Rattle.text_spec.specs.Lines.{ascii, decimal, number_line}
-use Rattle.verdicts_spec.specs.declared.Suite.{Suite}
-use Rattle.verdicts_spec.specs.declared.Suite.TheVariants.{Judged, Denied}
 use Rattle.verdicts_spec.specs.Numbers.{passes_number}
 
 -- the line of a test: `test k passes`, where the verdict's number is that of "passes", or `test k fails`
@@ -30,6 +28,6 @@ last_line total run passed = ascii "tests " ++ (decimal total ++ (ascii " run " 
 
 -- the lines of an answer, where there are so many tests: a line for each that was run, and the last line; or the
 -- refusal
-unfoldable pub suite_lines : ℕ → Suite → List ℕ → List ℕ
-suite_lines total (Judged n) verdicts = test_lines verdicts n ++ last_line total n (passed_of verdicts n)
-suite_lines total (Denied k) verdicts = number_line (ascii "suite refused ") k
+unfoldable pub suite_lines : ℕ → Result ℕ ℕ → List ℕ → List ℕ
+suite_lines total (Ok n) verdicts = test_lines verdicts n ++ last_line total n (passed_of verdicts n)
+suite_lines total (Err k) verdicts = number_line (ascii "suite refused ") k

@@ -1,86 +1,64 @@
--- The answers of an opening and of a report, test by test in the order of the code.
-use mathlib.Core.Path.{◌≡◌, sym, ap, ◌∙◌}
-use mathlib.Core.Bool.{Bool, true, false, not, ◌&&◌}
-use Prim.Native.Nat.{ℕ, ◌≤◌, ◌<◌}
-use native.Mathlib.Omega.{arith}
-use lib.Dec.{ltb, leb}
-use borrow.Author.Tests.{le-leb, lt-leb, ne_eqb}
-use Rattle.base.specs.Refusal.{unless}
-use Rattle.base.proofs.Refusal.{or_else_some}
+-- What an opening or a report that is not refused tells of the sheet and the record; and the refusal of an answer.
+use Rattle.std.specs.Prelude.{◌≡◌, ◌≢◌, ◌⊎◌, refl, Bool, true, false, ℕ, ◌≤◌, ◌<◌}
+use Rattle.std.proofs.Common.{sym, ap, ◌∙◌, inl, inr, arith}
+use Rattle.base.proofs.Truth.{lt_or_ge}
+use Rattle.events.specs.Sets.{has}
+use Rattle.events.proofs.Sets.{has→}
 use Rattle.sheet_spec.specs.declared.Sheet.{Sheet}
-use Rattle.sheet_spec.specs.Kept.{row, first_codes, sheet_with}
+use Rattle.sheet_spec.specs.Kept.{row, successor, initials}
 use Rattle.sheet_spec.specs.Refusals.{sheet_fault}
-use Rattle.sheet_spec.proofs.CodeLaws.{first_accepted}
+use Rattle.sheet_spec.proofs.RuleLaws.{initials→}
+use Rattle.sheet_spec.specs.Sound.{Sound}
+use Rattle.sheet_spec.proofs.SoundLaws.{check_sound}
 use Rattle.tests_spec.specs.declared.Run.{Run}
 use Rattle.tests_spec.specs.declared.Report.{Report}
-use Rattle.tests_spec.specs.declared.Answer.TheVariants.{Going, Denied}
 use Rattle.tests_spec.specs.declared.Stepped.{Stepped}
+use Rattle.tests_spec.specs.Runs.{open_fault, report_fault}
+use mir.Val.{bool_byte}
 use Rattle.tests_spec.specs.Flags.{flag, flag_of}
-use Rattle.tests_spec.specs.Runs.{new_run, answered, open_fault, open_of, record_ok, event_fault, report_fault, step_of}
-use Rattle.tests_spec.proofs.Recoded.{recoded_step}
 use Rattle.tests_spec.specs.Numbers.{said}
-use Rattle.tests_spec.proofs.NumberLaws.{opening_refusal, report_refusal}
-use Rattle.tests.specs.OfferShapes.{offer_at}
-use Rattle.tests.specs.ReportShapes.{record_fault}
-use Rattle.tests.proofs.reports.Answers.{offer_is, sound, refused}
-use Rattle.tests.specs.OpenShapes.{not_opened}
+use Rattle.tests_spec.specs.Reports.{WrongRecord}
+use Rattle.tests_spec.proofs.RunLaws.{open_0, report_0, answer_of_lem, run_of}
 
--- the answer of the definition says the refusal of the call: of an opening, and of a report
-pub told_open : (s : Sheet) (k h : ℕ) (trace_only : Bool) {o : Stepped} → o ≡ open_of trace_only s k h → (o ≡ open_of trace_only s k h) × ((said o.answer).refusal ≡ open_fault s k)
-told_open s k h trace_only p = (p, ap (λ (z : Stepped). (said z.answer).refusal) p ∙ opening_refusal trace_only s k h)
+-- where an opening is not refused, the sheet is accepted, and has a first node
+pub opened : (s : Sheet) (k : ℕ) → open_fault s k ≡ 0 → (sheet_fault s ≡ 0) × (0 < s.n)
+opened s k z = let g = ((open_0 s k).0 z).0 in (g, omega (arith, (check_sound s g).ranges.n_low))
 
-pub told_step : (s : Sheet) (r : Run) (x : Report) {o : Stepped} → o ≡ step_of s r x → (o ≡ step_of s r x) × ((said o.answer).refusal ≡ report_fault s r x)
-told_step s r x p = (p, ap (λ (z : Stepped). (said z.answer).refusal) p ∙ report_refusal s r x)
+-- where a report is not refused, the sheet is accepted, and the record fits it
+pub reported : (s : Sheet) (r : Run) (x : Report) → report_fault s r x ≡ 0 → (sheet_fault s ≡ 0) × (r.node < s.n) × (r.k ≤ 1023)
+reported s r x z = (fitting.0.0, inside (lt_or_ge r.node s.n), low (lt_or_ge 1023 r.k))
+  where
+    fitting : ((sheet_fault s ≡ 0) × (¬ (flag r.ended ≡ true))) × (¬ WrongRecord s r)
+    fitting = ((report_0 s r x).0 z).0.0
 
--- ---- opening
+    inside : (r.node < s.n) ⊎ (s.n ≤ r.node) → r.node < s.n
+    inside (inl l) = l
+    inside (inr l) = absurd (fitting.1 (inl l))
 
-module _ (s : Sheet) (k h : ℕ) (trace_only : Bool) {f : ℕ} (p : f ≡ sheet_fault s) where
-  -- a run at its start, with this byte as its flag
-  abbrev started : ℕ → Run
-  started b = record { k = k; h = h; trace_only = b; ended = 0; node = 0; depth = 0 }
+    low : (1023 < r.k) ⊎ (r.k ≤ 1023) → r.k ≤ 1023
+    low (inl l) = absurd (fitting.1 (inr (inr l)))
+    low (inr l) = l
 
-  pub open_sheet : {o : Stepped} → (f ≡ 0 → ⊥) → o ≡ not_opened f → o ≡ open_of trace_only s k h
-  unfolding open_of open_fault
-  open_sheet n q = q ∙ rw (← p, or_else_some f (unless (leb k 1023) 14 0) (omega arith), ne_eqb f 0 n)
+-- an initial of a node of an accepted sheet leads to one of its nodes
+pub lands : (s : Sheet) (v i : ℕ) → sheet_fault s ≡ 0 → v < s.n → has (initials s.e (row s v)) i ≡ true → successor (row s v) i < s.n
+lands s v i g l t = go h (o.successors v i l h.0)
+  where
+    o : Sound s
+    o = check_sound s g
 
-  pub open_k : {o : Stepped} → f ≡ 0 → 1023 < k → o ≡ not_opened 14 → o ≡ open_of trace_only s k h
-  unfolding open_of open_fault
-  open_k z l q = q ∙ rw (← p, z, lt-leb k 1023 l)
+    h : (i < s.e) × (successor (row s v) i ≢ 255)
+    h = initials→ s.e (row s v) o.ranges.e_high i (has→ _ i t)
 
-  pub opened : {e x b : ℕ} → f ≡ 0 → k ≤ 1023 → e ≡ s.e → b ≡ flag_of trace_only → x ≡ offer_at e (row s 0) (started b) → answered (Going x) (started b) ≡ open_of trace_only s k h
-  unfolding open_of open_fault new_run
-  opened z l d c q = rw (← p, z, le-leb k 1023 l, q, d, c, ← offer_is s (new_run trace_only k h))
+    go : (i < s.e) × (successor (row s v) i ≢ 255) → (successor (row s v) i ≡ 255) ⊎ (successor (row s v) i < s.n) → successor (row s v) i < s.n
+    go h (inl f) = absurd (h.1 f)
+    go h (inr f) = f
 
--- an accepted sheet has a first node
-module _ (s : Sheet) {f : ℕ} (p : f ≡ sheet_fault s) (z : f ≡ 0) where
-  pub first_node : 0 < s.n
-  first_node = omega (arith, (sound s p z).ranges.n_low)
+-- an answer of the definition says its refusal
+pub told : {z o : Stepped} {m : ℕ} → z ≡ o → (said z.answer).refusal ≡ m → (o ≡ z) × ((said o.answer).refusal ≡ m)
+told e q = (sym e, ap (λ (o : Stepped). (said o.answer).refusal) (sym e) ∙ q)
 
--- ---- reports
-
-module _ (s : Sheet) (r : Run) (report : Report) where
-  pub by_sheet : {f : ℕ} → f ≡ sheet_fault s → (f ≡ 0 → ⊥) → answered (Denied f) r ≡ step_of s r report
-  by_sheet {f} p n = refused s r report at n
-    where
-      at : report_fault s r report ≡ f
-      at = unfold report_fault in rw (← p) (or_else_some f _ (omega arith))
-
-  -- of the two tests of 16 and 9, where one gives its number, that stands whatever follows
-  chain : (a b : Bool) (x g : ℕ) → g ≡ unless a 16 (unless b 9 0) → (g ≡ 0 → ⊥) → unless a 16 (unless b 9 x) ≡ g
-  chain true true x g p n = absurd (n p)
-  chain true false x g p n = sym p
-  chain false b x g p n = sym p
-
-  pub by_record : {f g n : ℕ} → f ≡ sheet_fault s → f ≡ 0 → n ≡ s.n → g ≡ record_fault n r → (g ≡ 0 → ⊥) → answered (Denied g) r ≡ step_of s r report
-  by_record {f} {g} {n} p z d q h = refused s r report at h
-    where
-      at : report_fault s r report ≡ g
-      at = unfold report_fault record_ok in rw (← p, z) (chain (not (flag r.ended)) (ltb r.node s.n && (leb r.depth r.k && leb r.k 1023)) (event_fault s r report) g (unfold record_fault in q ∙ rw d) h)
-
--- the sheet of the rows copied out answers as the sheet: codes play no part
-module _ (s : Sheet) (r : Run) {f g n e : ℕ} (p : f ≡ sheet_fault s) (z : f ≡ 0) (dn : n ≡ s.n) (de : e ≡ s.e) (q : g ≡ record_fault n r) (y : g ≡ 0) where
-  pub apart_requires : (sheet_fault (sheet_with s.rows e n) ≡ 0) × (record_fault n r ≡ 0)
-  apart_requires = (rw (dn, de) (first_accepted s (sym p ∙ z)), sym q ∙ y)
-
-  pub apart : {report report' : Report} {o : Stepped} → report ≡ report' → o ≡ step_of (sheet_with s.rows e n) r report' → o ≡ step_of s r report
-  apart {report} u h = h ∙ rw (dn, de, ← u) (recoded_step s (first_codes s.e) (sym p ∙ z) (first_accepted s (sym p ∙ z)) r report)
+-- the byte of a truth value is the flag that it sets
+pub flag_byte : (b : Bool) → bool_byte b ≡ flag_of b
+unfolding flag_of
+flag_byte true = refl
+flag_byte false = refl

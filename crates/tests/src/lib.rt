@@ -6,102 +6,78 @@ mod offers;
 mod reports;
 
 ghost use Rattle.std.specs.Prelude.{◌≡◌};
-ghost use Rattle.tests_spec.specs.Flags.{flag_of};
+ghost use Rattle.refusals.specs.Numbers.{refusal_in};
 ghost use Rattle.tests_spec.specs.Runs.{open_fault, open_of, report_fault, step_of};
 ghost use Rattle.tests_spec.specs.Numbers.{said};
-ghost use Rattle.tests.specs.OpenShapes.{not_opened};
 
+use refusals::Refusal;
 use sheet_spec::Sheet;
 use tests_spec::{Answer, Report, Run, Stepped};
 
 // ---- opening
 
-// A refused opening: the number and a record of zeros.
-fn not_opened(number: u8) -> Stepped
-    ensures { result ≡ not_opened number }
+// The refusal of an opening, if there is one.
+#[tactic(auto, unfolding(tests_spec::specs::Runs::open_fault))]
+fn open_fault(sheet: Sheet, k: u16) -> Result<(), Refusal>
+    ensures { refusal_in result ≡ open_fault sheet k }
 {
-    let run = Run {
-        k: 0,
-        h: 0,
-        trace_only: 0,
-        ended: 0,
-        node: 0,
-        depth: 0,
-    };
-    Stepped {
-        answer: Answer::Denied(number),
-        run: run,
+    sheet::check(sheet)?;
+    if k > 1023 {
+        return Err(Refusal::Test);
     }
+    Ok(())
 }
 
-// The byte with which a flag is set or cleared: 1 or 0.
-fn flag_of(set: bool) -> u8
-    ensures { result ≡ flag_of «set» }
-{
-    if set {
-        return 1;
-    }
-    0
-}
-
-// Opens test `k` with the choice number `h`: the first offer and the record, or the number of a refusal.
+// Opens test `k` with the choice number `h`: the first offer and the record, or a refusal and a record of zeros.
 pub fn open_test(sheet: Sheet, k: u16, h: u16, trace_only: bool) -> Stepped
     ensures { (result ≡ open_of trace_only sheet k h)
         × ((said result.answer).refusal ≡ open_fault sheet k) }
 {
-    let fault = sheet::check(sheet);
-    if fault != 0 {
-        return not_opened(fault);
-    }
-    if k > 1023 {
-        return not_opened(14);
-    }
-    let run = Run {
-        k: k,
-        h: h,
-        trace_only: flag_of(trace_only),
-        ended: 0,
-        node: 0,
-        depth: 0,
-    };
-    let row = sheet.rows[0];
-    let first = offers::offer(row, base::wide(sheet.e), run);
-    Stepped {
-        answer: Answer::Going(first),
-        run: run,
+    match open_fault(sheet, k) {
+        Ok(()) => {
+            let run = Run {
+                k,
+                h,
+                trace_only: u8::from(trace_only),
+                ended: 0,
+                node: 0,
+                depth: 0,
+            };
+            let first = offers::offer(&sheet, run);
+            Stepped {
+                answer: Answer::Going(first),
+                run,
+            }
+        }
+        Err(refusal) => Stepped {
+            answer: Answer::Denied(u8::from(refusal)),
+            run: Run {
+                k: 0,
+                h: 0,
+                trace_only: 0,
+                ended: 0,
+                node: 0,
+                depth: 0,
+            },
+        },
     }
 }
 
 // ---- reports
 
-// Answers a report, and gives the record after it; a refusal gives its number and the record as it came.
+// Answers a report, and gives the record after it; a refusal gives the record as it came.
 pub fn step(sheet: Sheet, run: Run, report: Report) -> Stepped
     ensures { (result ≡ step_of sheet run report) × ((said result.answer).refusal ≡ report_fault sheet run report) }
 {
-    let fault = sheet::check(sheet);
-    if fault != 0 {
-        return Stepped {
-            answer: Answer::Denied(fault),
-            run: run,
-        };
-    }
-    let n = base::wide(sheet.n);
-    let e = base::wide(sheet.e);
-    let wrong = reports::record_fault(run, n);
-    if wrong != 0 {
-        return Stepped {
-            answer: Answer::Denied(wrong),
-            run: run,
-        };
-    }
-    let rows = sheet.rows;
-    match report {
-        Report::Event(event) => {
-            return reports::on_event(rows, n, e, run, event);
+    match reports::report_fault(&sheet, run, report) {
+        Ok(()) => {
+            let (answer, run) = reports::answer(&sheet, run, report);
+            Stepped { answer, run }
         }
-        Report::Blocked => {
-            return reports::on_blocked(rows, n, e, run);
-        }
+        Err(refusal) => Stepped {
+            answer: Answer::Denied(u8::from(refusal)),
+            run,
+        },
     }
 }
 

@@ -1,11 +1,12 @@
 // What a run offers at a node (01, "Test k and a live run"): all events below depth k, and at depth k the chosen probe
 // and the events outside the node's initials; in a trace-only run all events at every depth.
-ghost use Rattle.std.specs.Prelude.{◌≡◌, ◌≤◌};
+ghost use Rattle.std.specs.Prelude.{◌≡◌, ◌≤◌, ◌<◌};
 ghost use Rattle.probes_spec.specs.Probes.{probes};
-ghost use Rattle.tests_spec.specs.Runs.{all_events, chosen};
-ghost use Rattle.tests.specs.OfferShapes.{offers_all, offer_at};
+ghost use Rattle.sheet_spec.specs.Kept.{acceptances};
+ghost use Rattle.sheet_spec.specs.Refusals.{sheet_fault};
+ghost use Rattle.tests_spec.specs.Runs.{all_events, chosen, offer_of};
 
-use sheet_spec::Row;
+use sheet_spec::{Row, Sheet};
 use tests_spec::Run;
 
 // All `e` events, as a set.
@@ -13,44 +14,32 @@ fn all_events(e: usize) -> u16
     requires { e ≤ 12 }
     ensures { result ≡ all_events e }
 {
-    (1u16 << e) - 1
+    (1 << e) - 1
 }
 
-// Probe number (h remainder m) of m probes, the empty set where there is none.
-fn chosen_probe(sets: &[u16], e: usize, h: u16) -> u16
-    requires { e ≤ 12 }
-    ensures { result ≡ chosen (probes sets.now e) h }
-{
-    let mut found = [0u16; 4096];
-    let m = probes::fill(sets, e, &mut found);
-    if m == 0 {
-        return 0;
-    }
-    found[(h as usize) % m]
-}
-
-// Whether a run offers all events: below depth k, and at every depth if it is trace-only.
-fn offers_all(run: Run) -> bool
-    ensures { result ≡ offers_all run }
-{
-    if run.depth < run.k {
-        return true;
-    }
-    run.trace_only != 0
-}
-
-// What a run offers at a node with this row: all events, or the chosen probe and the events outside the initials.
-pub(crate) fn offer(row: Row, e: usize, run: Run) -> u16
+// Probe number (h remainder m) of the m probes of a node with this row, the empty set where there is none.
+#[tactic(auto, using(probes_spec::proofs::ProbeLaws::probes_most))]
+fn chosen_probe(row: Row, e: usize, h: u16) -> u16
     requires { (row.c ≤ 16) × (e ≤ 12) }
-    ensures { result ≡ offer_at e row run }
+    ensures { result ≡ chosen (probes (acceptances row) e) h }
 {
+    let mut found = [0; 4096];
+    let m = probes::fill(&row.sets[..usize::from(row.c)], e, &mut found);
+    if m == 0 { 0 } else { found[usize::from(h) % m] }
+}
+
+// What a run offers at its node: all events, or the chosen probe and the events outside the initials.
+#[tactic(auto, unfolding(tests_spec::specs::Runs::offer_of, tests_spec::specs::Runs::outside, tests_spec::specs::Runs::probes_at, tests_spec::specs::Flags::flag), using(probes::proofs::Lists::sheet_nodes, probes::proofs::Lists::sheet_events, probes::proofs::Lists::node_count_lem, crate::proofs::offers::Offers::inside))]
+pub(crate) fn offer(sheet: &Sheet, run: Run) -> u16
+    requires { (sheet_fault sheet.now ≡ 0) × (run.node < sheet.now.n) }
+    ensures { result ≡ offer_of sheet.now run }
+{
+    let e = usize::from(sheet.e);
     let all = all_events(e);
-    let initials = sheet_rows::initials_of(row, e);
-    if offers_all(run) {
+    if run.trace_only != 0 || run.depth < run.k {
         return all;
     }
-    let outside = all - initials;
-    let sets = row.sets;
-    let probe = chosen_probe(&sets[..base::wide(row.c)], e, run.h);
-    probe | outside
+    let row = sheet.rows[usize::from(run.node)];
+    let probe = chosen_probe(row, e, run.h);
+    probe | (all - sheet_rows::initials_of(row, e))
 }

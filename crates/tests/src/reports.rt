@@ -1,136 +1,112 @@
-// The answer to one report on a run (01, "Test k and a live run"; 02, K4): the refusals of a record, and an event or
-// "blocked" at a node of a sheet that is not refused.
+// One report on a run (01, "Test k and a live run"; 02, K4): why it is refused, and else its answer, at an event or at
+// "blocked".
 ghost use Rattle.std.specs.Prelude.{◌≡◌, ◌≤◌, ◌<◌};
+ghost use Rattle.refusals.specs.Numbers.{refusal_in};
 ghost use Rattle.sheet_spec.specs.Refusals.{sheet_fault};
-ghost use Rattle.tests_spec.specs.Runs.{ended_run, step_of};
+ghost use Rattle.tests_spec.specs.Runs.{answered, ended_run, event_fault, report_fault, answer_of};
 ghost use Rattle.tests_spec.specs.declared.Report.TheVariants.{Event, Blocked};
-ghost use Rattle.sheet_spec.specs.Kept.{sheet_with};
-ghost use Rattle.tests.specs.ReportShapes.{record_fault, event_fault_at, moved_to};
 
 use super::offers;
-use sheet_spec::Row;
-use tests_spec::{Answer, Run, Stepped};
+use refusals::Refusal;
+use sheet_spec::Sheet;
+use tests_spec::{Answer, Report, Run};
 
-// The refusals 16 and 9 of a record, with `n` nodes on the sheet; 0 for none.
-pub(crate) fn record_fault(run: Run, n: usize) -> u8
-    ensures { result ≡ record_fault n run }
+// ---- refusals
+
+// The refusal that comes from the event of a report, if there is one: it is not on the sheet, or was not offered.
+#[tactic(auto, unfolding(tests_spec::specs::Runs::event_fault))]
+fn event_fault(sheet: &Sheet, run: Run, event: u8) -> Result<(), Refusal>
+    requires { (sheet_fault sheet.now ≡ 0) × (run.node < sheet.now.n) }
+    ensures { refusal_in result ≡ event_fault sheet.now run (Event event) }
 {
+    if event >= sheet.e {
+        return Err(Refusal::Event);
+    }
+    if !events::contains(offers::offer(sheet, run), usize::from(event)) {
+        return Err(Refusal::NotOffered);
+    }
+    Ok(())
+}
+
+// The refusal of a report, if there is one.
+#[tactic(auto, unfolding(tests_spec::specs::Runs::report_fault, tests_spec::specs::Runs::record_ok, tests_spec::specs::Runs::event_fault, tests_spec::specs::Flags::flag))]
+pub(crate) fn report_fault(sheet: &Sheet, run: Run, report: Report) -> Result<(), Refusal>
+    ensures { refusal_in result ≡ report_fault sheet.now run report }
+{
+    sheet::check(*sheet)?;
     if run.ended != 0 {
-        return 16;
+        return Err(Refusal::Ended);
     }
-    if base::wide(run.node) >= n {
-        return 9;
+    if run.node >= sheet.n || run.depth > run.k || run.k > 1023 {
+        return Err(Refusal::Node);
     }
-    if run.depth > run.k {
-        return 9;
+    match report {
+        Report::Event(event) => event_fault(sheet, run, event),
+        Report::Blocked => Ok(()),
     }
-    if run.k > 1023 {
-        return 9;
-    }
-    0
 }
 
-// The refusals 15 and 17 of an event at a node with this row; 0 for none.
-fn event_fault(row: Row, e: usize, run: Run, event: u8) -> u8
-    requires { (row.c ≤ 16) × (e ≤ 12) }
-    ensures { result ≡ event_fault_at e row run event }
-{
-    let i = base::wide(event);
-    if i >= e {
-        return 15;
-    }
-    if !events::contains(offers::offer(row, e, run), i) {
-        return 17;
-    }
-    0
-}
+// ---- answers
 
 // The record, marked with 1 as ended.
+#[tactic(auto, unfolding(tests_spec::specs::Runs::ended_run))]
 fn ended(run: Run) -> Run
     ensures { result ≡ ended_run run }
 {
-    let mut after = run;
-    after.ended = 1;
-    after
-}
-
-// The record, moved on to a node.
-fn moved(run: Run, node: u8) -> Run
-    requires { run.depth < 1024 }
-    ensures { result ≡ moved_to run node }
-{
-    let mut after = run;
-    after.node = node;
-    after.depth = run.depth + 1;
-    after
+    Run { ended: 1, ..run }
 }
 
 // The answer to an event: failed as stray outside the initials; inside them the run moves on below depth k, and has
-// passed at depth k. The sheet of the rows and the record are not refused.
-pub(crate) fn on_event(rows: [Row; 32], n: usize, e: usize, run: Run, event: u8) -> Stepped
-    requires { (sheet_fault (sheet_with rows e n) ≡ 0) × (record_fault n run ≡ 0) }
-    ensures { result ≡ step_of (sheet_with rows e n) run (Event event) }
+// passed at depth k.
+#[tactic(auto, unfolding(tests_spec::specs::Runs::answer_of, tests_spec::specs::Runs::moved_by), using(probes::proofs::Lists::sheet_nodes, crate::proofs::Steps::lands))]
+fn on_event(sheet: &Sheet, run: Run, event: u8) -> (Answer, Run)
+    requires { (sheet_fault sheet.now ≡ 0) × (run.node < sheet.now.n) × (run.k ≤ 1023) }
+    ensures { answered result.0 result.1 ≡ answer_of sheet.now run (Event event) }
 {
-    let row = rows[base::wide(run.node)];
-    let fault = event_fault(row, e, run, event);
-    if fault != 0 {
-        return Stepped {
-            answer: Answer::Denied(fault),
-            run: run,
-        };
-    }
-    let i = base::wide(event);
-    if !events::contains(sheet_rows::initials_of(row, e), i) {
-        return Stepped {
-            answer: Answer::Stray(event),
-            run: ended(run),
-        };
+    let row = sheet.rows[usize::from(run.node)];
+    let i = usize::from(event);
+    if !events::contains(sheet_rows::initials_of(row, usize::from(sheet.e)), i) {
+        return (Answer::Stray(event), ended(run));
     }
     if run.depth >= run.k {
-        return Stepped {
-            answer: Answer::Passed,
-            run: ended(run),
-        };
+        return (Answer::Passed, ended(run));
     }
-    let node = sheet_rows::successor_of(row, i);
-    let after = moved(run, node);
-    let there = rows[base::wide(node)];
-    let next = offers::offer(there, e, after);
-    Stepped {
-        answer: Answer::Going(next),
-        run: after,
-    }
+    let moved = Run {
+        node: sheet_rows::successor_of(row, i),
+        depth: run.depth + 1,
+        ..run
+    };
+    (Answer::Going(offers::offer(sheet, moved)), moved)
 }
 
 // The answer to "blocked": in a trace-only run inconclusive below depth k, passed at depth k; in any other passed if the
-// node may stop, else failed as refused. The sheet of the rows and the record are not refused.
-pub(crate) fn on_blocked(rows: [Row; 32], n: usize, e: usize, run: Run) -> Stepped
-    requires { (sheet_fault (sheet_with rows e n) ≡ 0) × (record_fault n run ≡ 0) }
-    ensures { result ≡ step_of (sheet_with rows e n) run Blocked }
+// node may stop, else failed as refused.
+#[tactic(auto, unfolding(tests_spec::specs::Runs::answer_of, tests_spec::specs::Flags::flag), using(probes::proofs::Lists::sheet_nodes))]
+fn on_blocked(sheet: &Sheet, run: Run) -> (Answer, Run)
+    requires { (sheet_fault sheet.now ≡ 0) × (run.node < sheet.now.n) }
+    ensures { answered result.0 result.1 ≡ answer_of sheet.now run Blocked }
 {
-    let row = rows[base::wide(run.node)];
     let after = ended(run);
     if run.trace_only != 0 {
         if run.depth < run.k {
-            return Stepped {
-                answer: Answer::Inconclusive,
-                run: after,
-            };
+            return (Answer::Inconclusive, after);
         }
-        return Stepped {
-            answer: Answer::Passed,
-            run: after,
-        };
+        return (Answer::Passed, after);
     }
+    let row = sheet.rows[usize::from(run.node)];
     if sheet_rows::may_stop(row) {
-        return Stepped {
-            answer: Answer::Passed,
-            run: after,
-        };
+        return (Answer::Passed, after);
     }
-    let set = offers::offer(row, e, run);
-    Stepped {
-        answer: Answer::Refused(set),
-        run: after,
+    (Answer::Refused(offers::offer(sheet, run)), after)
+}
+
+// The answer to a report that is not refused, and the record after it.
+pub(crate) fn answer(sheet: &Sheet, run: Run, report: Report) -> (Answer, Run)
+    requires { (sheet_fault sheet.now ≡ 0) × (run.node < sheet.now.n) × (run.k ≤ 1023) }
+    ensures { answered result.0 result.1 ≡ answer_of sheet.now run report }
+{
+    match report {
+        Report::Event(event) => on_event(sheet, run, event),
+        Report::Blocked => on_blocked(sheet, run),
     }
 }

@@ -1,43 +1,42 @@
--- Where the first sheet of an input ends; two sheets that are those of an input, with their lines put.
-use mathlib.Core.Path.{◌≡◌, sym, ap, ◌∙◌}
-use mathlib.Core.Logic.{inl, inr}
-use mathlib.Core.Bool.{Bool, ◌&&◌}
-use mathlib.Core.List.{List}
-use Prim.Native.Nat.{ℕ, ◌+◌, ◌≤◌, ◌<◌}
-use native.Mathlib.Omega.{arith}
-use lib.Dec.{eqb}
-use lib.ListN.{length}
-use Rattle.sheet_spec.specs.declared.ReadSheet.{ReadSheet}
-use Rattle.sheet_spec.specs.Reading.{read_sheet}
-use Rattle.sheet_spec.specs.Spelling.{length_field}
-use Rattle.text_spec.specs.Adds.{Adds}
-use Rattle.text_pair_spec.specs.Split.{first_end, first_sheet, second_sheet}
-use Rattle.text_pair_spec.proofs.SplitLaws.{end_all, end_two}
-use Rattle.text_pair_spec.specs.Program.{sheets_lines, input_lines}
-use Rattle.text_pair_spec.specs.Opening.{silent, both_read, Opens}
+-- The lines of sheets as they were read, case by case; two sheets that are those of an input, with their lines put.
+use Rattle.std.specs.Prelude.{◌≡◌, refl, false, ◌++◌, List, ℕ, eqb, Result, Ok, Err}
+use Rattle.std.proofs.Common.{arith, append-nil, ne_eqb}
+use Rattle.refusals.specs.declared.Refusal.{Refusal}
+use Rattle.refusals.specs.Numbers.{number}
+use Rattle.refusals.proofs.NumberLaws.{number_some}
+use Rattle.sheet_spec.specs.declared.Sheet.{Sheet}
+use Rattle.sheet_spec.specs.Reading.{kept, read_sheet}
+use Rattle.text_spec.specs.Lines.{ascii, number_line, sheet_line}
+use Rattle.text.specs.declared.Page.{Page}
+use Rattle.text.specs.Pages.{Puts}
+use Rattle.text_pair_spec.specs.Split.{first_sheet, second_sheet}
+use Rattle.text_pair_spec.specs.Program.{device_lines, sheets_lines, input_lines}
+use Rattle.text_pair_spec.specs.Opening.{silent, Opens}
 
-module _ (input : List ℕ) where
-  -- the way out for an input of under 4 bytes
-  pub end_under : length input < 4 → (length input ≡ first_end input) × (length input ≤ length input)
-  end_under h = (sym (end_all input (inl h)), omega arith)
+-- no refusal is 0
+number_not : (cause : Refusal) → eqb (number cause) 0 ≡ false
+number_not cause = ne_eqb (number cause) 0 (λ e. omega (arith, number_some cause))
 
-  -- the way out for a length field that exceeds the input
-  pub end_over : {f : ℕ} → 4 ≤ length input → (f ≡ length_field input) × (f < 4294967296) → length input < f + 4
-      → (length input ≡ first_end input) × (length input ≤ length input)
-  end_over h e k = (sym (end_all input (inr (omega (arith, e.0, k)))), omega arith)
+-- the lines after an accepted reference's
+pub device_read : (P s : Sheet) → device_lines silent P (kept (Ok s)) ≡ sheet_line (ascii "device ") s.n s.e
+unfolding device_lines silent
+device_read P s = append-nil (sheet_line (ascii "device ") s.n s.e)
 
-  -- the way out for a first sheet that ends inside the input
-  pub end_inside : {f : ℕ} → 4 ≤ length input → (f ≡ length_field input) × (f < 4294967296) → f + 4 ≤ length input
-      → (f + 4 ≡ first_end input) × (f + 4 ≤ length input)
-  end_inside {f} h e k = (ap (λ (x : ℕ). x + 4) e.0 ∙ sym (end_two input h (omega (arith, e.0, k))), k)
+pub device_refused : (P : Sheet) (cause : Refusal) → device_lines silent P (kept (Err cause)) ≡ number_line (ascii "device refused ") (number cause)
+unfolding device_lines
+device_refused P cause = rw (number_not cause)
 
-pub opens_of : (input : List ℕ) {a b : ReadSheet} {both : Bool} {out out' : List ℕ} {at : ℕ} → a ≡ read_sheet (first_sheet input) → b ≡ read_sheet (second_sheet input)
-    → both ≡ (eqb a.refusal 0 && eqb b.refusal 0) → Adds (sheets_lines silent a b) out 0 out' at
-    → Opens input out out' (record { both = both; reference = a.sheet; device = b.sheet; at = at })
-unfolding both_read input_lines
-opens_of input e f h p = record {
-  both_are = rw (e, f) at h;
-  reference_is = rw e;
-  device_is = rw f;
-  put = rw (e, f) at p;
-}
+-- the lines of both sheets
+pub pair_read : (s : Sheet) (b : Result Sheet Refusal) → sheets_lines silent (kept (Ok s)) (kept b) ≡ sheet_line (ascii "reference ") s.n s.e ++ device_lines silent s (kept b)
+unfolding sheets_lines
+pair_read s b = refl
+
+pub pair_refused : (cause : Refusal) (b : Result Sheet Refusal) → sheets_lines silent (kept (Err cause)) (kept b) ≡ number_line (ascii "reference refused ") (number cause)
+unfolding sheets_lines
+pair_refused cause b = rw (number_not cause)
+
+-- the two sheets of an input, with their lines put
+pub opens_of : (input : List ℕ) (a b : Result Sheet Refusal) {before after : Page} → kept a ≡ read_sheet (first_sheet input) → kept b ≡ read_sheet (second_sheet input)
+    → Puts (sheets_lines silent (kept a) (kept b)) before after → Opens input before after a b
+unfolding input_lines
+opens_of input a b e f p = record { reference_is = e; device_is = f; put = rw (e, f) at p }

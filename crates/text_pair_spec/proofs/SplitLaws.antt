@@ -65,3 +65,7 @@ module _ (input : List ℕ) where
   pub second_is : {k : ℕ} → k ≡ first_end input → take (length input - k) (drop k input) ≡ second_sheet input
   unfolding second_sheet
   second_is {k} e = take_all (length input - k) (drop k input) (omega (arith, length-drop k input)) ∙ ap (λ (x : ℕ). drop x input) e
+
+  pub second_from : {k : ℕ} → k ≡ first_end input → drop k input ≡ second_sheet input
+  unfolding second_sheet
+  second_from e = ap (λ (x : ℕ). drop x input) e

@@ -1,10 +1,12 @@
 -- The part of the text in which the findings have no say: the lines of the two sheets.
-use Rattle.std.specs.Prelude.{◌≡◌, Bool, ◌&&◌, List, [], ℕ, eqb}
+use Rattle.std.specs.Prelude.{◌≡◌, Bool, ◌&&◌, List, [], ℕ, eqb, Result}
+use Rattle.refusals.specs.declared.Refusal.{Refusal}
+use Rattle.sheet_spec.specs.declared.Sheet.{Sheet}
 use Rattle.sheet_spec.specs.declared.ReadSheet.{ReadSheet}
-use Rattle.sheet_spec.specs.Reading.{read_sheet}
+use Rattle.sheet_spec.specs.Reading.{kept, read_sheet}
 use Rattle.text_pair_spec.specs.Split.{first_sheet, second_sheet}
-use Rattle.text_spec.specs.Adds.{Adds}
-use Rattle.text_pair_spec.specs.declared.TwoSheets.{TwoSheets}
+use Rattle.text.specs.declared.Page.{Page}
+use Rattle.text.specs.Pages.{Puts}
 use Rattle.text_pair_spec.specs.Program.{Findings, input_lines}
 
 -- no findings: only the lines of the sheets are printed
@@ -15,10 +17,9 @@ silent P Q = []
 unfoldable pub both_read : ReadSheet → ReadSheet → Bool
 both_read a b = eqb a.refusal 0 && eqb b.refusal 0
 
--- an input that is not too long was read: the sheets are those that it holds, and their lines were put from the front
--- of a list
-pub record Opens (input out out' : List ℕ) (r : TwoSheets) : Type 0 where
-  pub both_are : r.both ≡ both_read (read_sheet (first_sheet input)) (read_sheet (second_sheet input))
-  pub reference_is : r.reference ≡ (read_sheet (first_sheet input)).sheet
-  pub device_is : r.device ≡ (read_sheet (second_sheet input)).sheet
-  pub put : Adds (input_lines silent input) out 0 out' r.at
+-- an input that is not too long was read: the sheets, the reference and the device, are those that it holds, each with
+-- its own refusal, and their lines were put on a page
+pub record Opens (input : List ℕ) (before after : Page) (reference device : Result Sheet Refusal) : Type 0 where
+  pub reference_is : kept reference ≡ read_sheet (first_sheet input)
+  pub device_is : kept device ≡ read_sheet (second_sheet input)
+  pub put : Puts (input_lines silent input) before after

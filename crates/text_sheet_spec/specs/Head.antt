@@ -1,6 +1,8 @@
 -- The first line of `show`, `probe_list`, `keypad_check` and `walk`: the size of an accepted sheet, or the refusal of
 -- another with its meaning.
-use Rattle.std.specs.Prelude.{cond, List, [], ◌++◌, ℕ, eqb}
+use Rattle.std.specs.Prelude.{cond, List, [], ◌++◌, ℕ, eqb, Result, Ok, Err}
+use Rattle.sheet_spec.specs.declared.Sheet.{Sheet}
+use Rattle.sheet_spec.specs.Reading.{accepted, zero_sheet}
 use Rattle.sheet_spec.specs.declared.ReadSheet.{ReadSheet}
 use Rattle.text_spec.specs.Lines.{ascii, decimal, sheet_line}
 
@@ -24,6 +26,11 @@ refusal_words k =
 -- the line of a refused sheet: `sheet refused k meaning`
 unfoldable pub refused_sheet_line : ℕ → List ℕ
 refused_sheet_line k = ascii "sheet refused " ++ (decimal k ++ (ascii " " ++ (refusal_words k ++ ascii "\n")))
+
+-- a sheet, or the number of its refusal, as it was read
+abbrev pub told : Result Sheet ℕ → ReadSheet
+told (Ok s) = accepted s
+told (Err k) = record { refusal = k; sheet = zero_sheet }
 
 -- the first line of a sheet: `sheet n nodes e events` of an accepted one, else its refusal
 unfoldable pub head_line : ReadSheet → List ℕ

@@ -1,80 +1,67 @@
 // The verdict of a reference on a device: for one test, and for all tests from one pass over the layers of node pairs.
-// The entry points, `judge` and `judge_all`, take any content and answer, or refuse with a number.
+// The entry points, `judge` and `judge_all`, take any content and answer, or refuse.
 #![tactic(auto)]
 
 ghost use Rattle.std.specs.Prelude.{◌≡◌};
+ghost use Rattle.refusals.specs.Numbers.{numbered};
+ghost use Rattle.verdicts_spec.specs.Numbers.{judged, suited};
 ghost use Rattle.verdicts_spec.specs.Verdicts.{verdict_fault, verdict_of};
-ghost use Rattle.verdicts_spec.specs.Numbers.{judged};
 ghost use Rattle.verdicts_spec.specs.Suites.{suite_fault, suite_of, verdicts_after};
-ghost use Rattle.verdicts_spec.specs.Numbers.{suited};
 
+use refusals::Refusal;
 use sheet_spec::Sheet;
-use verdicts_spec::{Suite, Verdict};
+use verdicts_spec::Verdict;
 
-// The verdict of a reference on a device for test `k`, or the number of a refusal.
-pub fn judge(reference: Sheet, device: Sheet, k: u16, trace_only: bool) -> Verdict
-    ensures { (result ≡ verdict_of trace_only reference device k)
-        × ((judged result).refusal ≡ verdict_fault reference device k) }
+// The verdict of a reference on a device for test `k`, or the refusal: the reference's own, the device's own; 11, E
+// differs; 19, a code differs; 14, no test has this number.
+pub fn judge(reference: Sheet, device: Sheet, k: u16, trace_only: bool) -> Result<Verdict, Refusal>
+    ensures { (numbered result ≡ verdict_of trace_only reference device k)
+        × ((judged (numbered result)).refusal ≡ verdict_fault reference device k) }
 {
-    let fault = sheet::check(reference);
-    if fault != 0 {
-        return Verdict::Denied(fault);
-    }
-    let other = sheet::check(device);
-    if other != 0 {
-        return Verdict::Denied(other);
-    }
-    let own = reference.codes;
-    let others = device.codes;
-    let shared = sheet_codes::shared_fault(reference.e, &own, device.e, &others);
-    if shared != 0 {
-        return Verdict::Denied(shared);
-    }
+    sheet::check_pair(reference, device)?;
     if k > 1023 {
-        return Verdict::Denied(14);
+        return Err(Refusal::Test);
     }
-    let e = base::wide(reference.e);
-    let p = base::wide(reference.n);
-    let q = base::wide(device.n);
-    let mine = reference.rows;
-    let theirs = device.rows;
-    if verdicts_layers::is_failing(mine, p, theirs, q, e, k as usize, trace_only) {
-        return Verdict::Fails;
+    let e = usize::from(reference.e);
+    let p = usize::from(reference.n);
+    let q = usize::from(device.n);
+    if verdicts_layers::is_failing(
+        reference.rows,
+        p,
+        device.rows,
+        q,
+        e,
+        usize::from(k),
+        trace_only,
+    ) {
+        Ok(Verdict::Fails)
+    } else {
+        Ok(Verdict::Passes)
     }
-    Verdict::Passes
 }
 
 // Judges tests 0 to p·q − 1: writes 11 for "passes" or 12 for "fails" for each from the front of the lent list, and
-// answers how many there are; or the number of the refusal, and the list is as it was: the reference's own, the
-// device's own; 11, E differs; 19, a code differs; 10, a list shorter than the tests.
-pub fn judge_all(reference: Sheet, device: Sheet, trace_only: bool, out: &mut [u8]) -> Suite
-    ensures { (result ≡ suite_of reference device out.old)
-        × ((suited result).refusal ≡ suite_fault reference device out.old)
+// answers how many there are; or the refusal, and the list is as it was: the reference's own, the device's own; 11, E
+// differs; 19, a code differs; 10, a list shorter than the tests.
+#[tactic(auto, using(crate::proofs::Pairs::sizes))]
+pub fn judge_all(
+    reference: Sheet,
+    device: Sheet,
+    trace_only: bool,
+    out: &mut [u8],
+) -> Result<u16, Refusal>
+    ensures { (numbered result ≡ suite_of reference device out.old)
+        × ((suited (numbered result)).refusal ≡ suite_fault reference device out.old)
         × (out.new ≡ verdicts_after trace_only reference device out.old) }
 {
-    let first = sheet::check(reference);
-    if first != 0 {
-        return Suite::Denied(first);
-    }
-    let second = sheet::check(device);
-    if second != 0 {
-        return Suite::Denied(second);
-    }
-    let own = reference.codes;
-    let others = device.codes;
-    let shared = sheet_codes::shared_fault(reference.e, &own, device.e, &others);
-    if shared != 0 {
-        return Suite::Denied(shared);
-    }
-    let e = base::wide(reference.e);
-    let p = base::wide(reference.n);
-    let q = base::wide(device.n);
+    sheet::check_pair(reference, device)?;
+    let e = usize::from(reference.e);
+    let p = usize::from(reference.n);
+    let q = usize::from(device.n);
     let total = p * q;
     if out.len() < total {
-        return Suite::Denied(10);
+        return Err(Refusal::ShortList);
     }
-    let mine = reference.rows;
-    let theirs = device.rows;
-    verdicts_layers::failing_all(mine, p, theirs, q, e, trace_only, total, out);
-    Suite::Judged(total as u16)
+    verdicts_layers::failing_all(reference.rows, p, device.rows, q, e, trace_only, total, out);
+    Ok(total as u16)
 }

@@ -88,3 +88,6 @@ module _ (mine theirs early late : List ℕ) (p e total : ℕ) (o : List ℕ) wh
 
   pub judged_all : {k : ℕ} {layer out : List ℕ} {faulty : Bool} → Judged k layer faulty out → total ≤ k → out ≡ up_to kind total ++ drop total o
   judged_all {k} h l = let z : k ≡ total = omega (arith, h.below) in rw z at h.written
+
+-- the rounds of one test
+pub ruleset layer_by_layer = (at_first, at_hit, at_next, at_last)

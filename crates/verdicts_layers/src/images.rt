@@ -27,6 +27,7 @@ pub(crate) fn is_hit(layer: [u32; 32], words: [u32; 32], p: usize) -> bool
 }
 
 // Where event `i` leads from the nodes of a set; only these are looked at.
+#[tactic(auto, using(crate::proofs::images::Images::walking))]
 fn image(bits: &[u32; 384], i: usize, from: u32) -> u32
     requires { i < 12 }
     ensures { result ≡ image bits.now i from 32 }
@@ -35,7 +36,7 @@ fn image(bits: &[u32; 384], i: usize, from: u32) -> u32
     let mut rest = from;
     while rest != 0 {
         let m = nodes::least_node(rest);
-        out = out | bits[i * 32 + m];
+        out |= bits[i * 32 + m];
         rest = nodes::without_least(rest);
     }
     out
@@ -43,17 +44,18 @@ fn image(bits: &[u32; 384], i: usize, from: u32) -> u32
 
 // The pairs of the reference's node `x` and the nodes to which event `i` leads join the layer; from `p` on `x` is no
 // node.
+#[tactic(auto, unfolding(crate::specs::ImageShapes::placed))]
 fn place(out: &mut [u32; 32], theirs: &[u32; 384], x: usize, i: usize, p: usize, from: u32)
     requires { (i < 12) × (p ≤ 32) }
     ensures { out.new ≡ placed out.old theirs.now x i p from }
 {
     if x < p {
-        let set = image(theirs, i, from);
-        out[x] = out[x] | set;
+        out[x] |= image(theirs, i, from);
     }
 }
 
 // The pairs to which one event leads from node `n` of the reference and the nodes of `from`: none from no node.
+#[tactic(auto, unfolding(crate::specs::ImageShapes::spread), using(crate::proofs::images::Moves::spread_none, crate::proofs::images::Moves::spread_more))]
 fn spread(
     out: &mut [u32; 32],
     mine: &[u8; 384],
@@ -71,12 +73,12 @@ fn spread(
         return;
     }
     for i in 0..e {
-        let x = base::wide(mine[n * 12 + i]);
-        place(out, theirs, x, i, p, from);
+        place(out, theirs, usize::from(mine[n * 12 + i]), i, p, from);
     }
 }
 
 // The next layer: the pairs to which one event leads from the pairs of a layer.
+#[tactic(auto, unfolding(crate::specs::ImageShapes::next), using(crate::proofs::images::Moves::next_more))]
 pub(crate) fn next(
     mine: &[u8; 384],
     theirs: &[u32; 384],

@@ -12,11 +12,13 @@ ghost use Rattle.sheet_spec.specs.Kept.{sheet_with};
 ghost use Rattle.verdicts_layers.specs.LayerShapes.{fails_on, kind_of};
 
 use sheet_spec::Row;
+use verdicts_tables::Tables;
 
 // ---- over tables
 
 // Whether test `k` fails, layer after layer from the pair of the two first nodes: `k` times an early fault is looked
 // for, at last a late one.
+#[tactic(auto, using(crate::proofs::Rounds::layer_by_layer))]
 fn is_failing_on(
     mine: &[u8; 384],
     theirs: &[u32; 384],
@@ -41,17 +43,16 @@ fn is_failing_on(
 }
 
 // The number of a verdict: 12, fails, after an early fault or at a late one in this layer; else 11, passes.
+#[tactic(auto, unfolding(crate::specs::LayerShapes::kind_of))]
 fn kind_at(faulty: bool, layer: [u32; 32], late: [u32; 32], p: usize) -> u8
     requires { p ≤ 32 }
     ensures { result ≡ kind_of («faulty» || layer_hits layer late p) }
 {
-    if faulty {
-        return 12;
+    if faulty || images::is_hit(layer, late, p) {
+        12
+    } else {
+        11
     }
-    if images::is_hit(layer, late, p) {
-        return 12;
-    }
-    11
 }
 
 // Whether there was an early fault, or there is one in this layer.
@@ -59,14 +60,12 @@ fn is_faulty(faulty: bool, layer: [u32; 32], early: [u32; 32], p: usize) -> bool
     requires { p ≤ 32 }
     ensures { result ≡ («faulty» || layer_hits layer early p) }
 {
-    if faulty {
-        return true;
-    }
-    images::is_hit(layer, early, p)
+    faulty || images::is_hit(layer, early, p)
 }
 
 // The verdicts of the first `total` tests from one pass over the layers: each is written when its last layer is
 // reached.
+#[tactic(auto, using(crate::proofs::Rounds::judged_all))]
 fn write_verdicts(
     mine: &[u8; 384],
     theirs: &[u32; 384],
@@ -95,6 +94,7 @@ fn write_verdicts(
 // ---- over rows
 
 // Whether the device with the rows `theirs` fails test `k` of the reference with the rows `mine`.
+#[tactic(auto, using(crate::proofs::Fails::failing))]
 pub fn is_failing(
     mine: [Row; 32],
     p: usize,
@@ -107,11 +107,12 @@ pub fn is_failing(
     requires { (0 < p) × (p ≤ 32) × (0 < q) × (q ≤ 32) × (e ≤ 12) }
     ensures { result ≡ fails_from trace_only (sheet_with mine e p) (sheet_with theirs e q) k 0 0 }
 {
-    let tables = verdicts_tables::tables_of(mine, theirs, q, e, trace_only);
-    let reference = tables.mine;
-    let device = tables.theirs;
-    let early = tables.early;
-    let late = tables.late;
+    let Tables {
+        mine: reference,
+        theirs: device,
+        early,
+        late,
+    } = verdicts_tables::tables_of(mine, theirs, q, e, trace_only);
     is_failing_on(&reference, &device, early, late, p, e, k)
 }
 
@@ -132,10 +133,11 @@ pub fn failing_all(
         ≡ up_to (λ k. kind_of (fails_from trace_only (sheet_with mine e p) (sheet_with theirs e q) k 0 0)) total
         ++ drop total out.old }
 {
-    let tables = verdicts_tables::tables_of(mine, theirs, q, e, trace_only);
-    let reference = tables.mine;
-    let device = tables.theirs;
-    let early = tables.early;
-    let late = tables.late;
+    let Tables {
+        mine: reference,
+        theirs: device,
+        early,
+        late,
+    } = verdicts_tables::tables_of(mine, theirs, q, e, trace_only);
     write_verdicts(&reference, &device, early, late, p, e, total, out);
 }

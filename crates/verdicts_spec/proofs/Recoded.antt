@@ -1,6 +1,6 @@
 -- Nothing to believe: laws. Codes play no part in a verdict but by its refusals: sheets that are alike but for codes
 -- get the same verdicts, test by test and all together, wherever neither pair is refused.
-use Rattle.std.specs.Prelude.{◌≡◌, Bool, ◌&&◌, ◌||◌, List}
+use Rattle.std.specs.Prelude.{◌≡◌, Bool, ◌&&◌, ◌||◌, List, Result}
 use Rattle.std.proofs.Math.Path.{refl, sym, ap}
 use Rattle.std.proofs.Common.{◌∙◌}
 use Rattle.std.proofs.Math.Bool.{not}
@@ -54,5 +54,5 @@ module _ (trace_only : Bool) (P Q : Sheet) (c d : List ℕ) where
       same k l =
           let a = (suite_0 P Q out).0 z in
           let b = (suite_0 (recoded P c) (recoded Q d) out).0 y in
-          ap (λ (v : Verdict). (judged v).kind)
+          ap (λ (v : Result Verdict ℕ). (judged v).kind)
           (recoded_verdict k (none_refused P Q a.0.0.0 a.0.0.1 a.0.1 k l) (none_refused (recoded P c) (recoded Q d) b.0.0.0 b.0.0.1 b.0.1 k l))

@@ -1,6 +1,6 @@
 -- Nothing to believe: laws. The call that judges all tests: when each refusal is given, what is then answered, and what
 -- stands in the list.
-use Rattle.std.specs.Prelude.{◌≡◌, ◌⊎◌, ◌≢◌, ◌↔◌, Bool, cond, List, ℕ, ◌≤◌, ◌<◌, leb, get_or}
+use Rattle.std.specs.Prelude.{◌≡◌, ◌⊎◌, ◌≢◌, ◌↔◌, Bool, cond, List, ℕ, ◌≤◌, ◌<◌, leb, get_or, Ok, Err}
 use Rattle.std.proofs.Math.Path.{refl}
 use Rattle.std.proofs.Common.{sym, ap, ◌∙◌, inl, inr, eqb-true, eq-eqb, ne_eqb}
 use Rattle.std.proofs.Math.Bool.{true, false}
@@ -21,7 +21,6 @@ use Rattle.sheet_spec.specs.Refusals.{sheet_fault, BothAccepted, Agree, CodesDif
 use Rattle.sheet_spec.proofs.Chains.{finally}
 use Rattle.sheet_spec.proofs.CheckLaws.{own_other}
 use Rattle.sheet_spec.proofs.PairFaults.{pair_reference, pair_device, pair_sheet, pair_11, pair_19, pair_rest}
-use Rattle.verdicts_spec.specs.declared.Suite.TheVariants.{Judged, Denied}
 use Rattle.verdicts_spec.specs.Suites.{test_count, verdict_number, suite_fault, suite_of, verdicts_after}
 use Rattle.verdicts_spec.specs.Numbers.{Suited, suited}
 
@@ -76,7 +75,7 @@ module _ (P Q : Sheet) (out : List ℕ) where
 
   module _ (n : suite_fault P Q out ≢ 0) where
     -- a refusal answers its number, with no other part, and alters nothing
-    pub denied_suite : suite_of P Q out ≡ Denied (suite_fault P Q out)
+    pub denied_suite : suite_of P Q out ≡ Err (suite_fault P Q out)
     unfolding suite_of
     denied_suite = rw (ne_eqb (suite_fault P Q out) 0 n)
 
@@ -90,7 +89,7 @@ module _ (P Q : Sheet) (out : List ℕ) where
 
   module _ (z : suite_fault P Q out ≡ 0) where
     -- without a refusal the number of tests is answered
-    pub given_suite : suite_of P Q out ≡ Judged (test_count P Q)
+    pub given_suite : suite_of P Q out ≡ Ok (test_count P Q)
     unfolding suite_of
     given_suite = rw (eq-eqb (suite_fault P Q out) 0 z)
 

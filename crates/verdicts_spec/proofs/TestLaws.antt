@@ -1,6 +1,6 @@
 -- Nothing to believe: laws. The theorem that ties tests to violations (001; the mission's demand 2): which traces make
 -- a test fail, and that the tests below p·q together decide refinement, with refusals or with traces alone.
-use Rattle.std.specs.Prelude.{◌≡◌, ◌⊎◌, ◌↔◌, Bool, false, List, length}
+use Rattle.std.specs.Prelude.{◌≡◌, ◌⊎◌, ◌↔◌, Bool, false, List, length, Ok}
 use Rattle.std.proofs.Math.Logic.{inl, inr}
 use Rattle.std.proofs.Math.Bool.{true}
 use Rattle.std.proofs.Common.{true≢false, add-zero}
@@ -218,11 +218,11 @@ module _ (P Q : Sheet) (acc_p : sheet_fault P ≡ 0) (acc_q : sheet_fault Q ≡ 
 
 -- every verdict of a test below p·q is "passes" exactly if the device refines the reference, of sheets that agree
 pub verdicts_complete : (P Q : Sheet) → sheet_fault P ≡ 0 → sheet_fault Q ≡ 0 → Agree P Q → (trace_only : Bool)
-    → ((k : ℕ) → k < P.n * Q.n → verdict_of trace_only P Q k ≡ Passes) ↔ RefinesIn trace_only P Q
+    → ((k : ℕ) → k < P.n * Q.n → verdict_of trace_only P Q k ≡ Ok Passes) ↔ RefinesIn trace_only P Q
 verdicts_complete P Q acc_p acc_q agree trace_only = (λ f. complete.0 (λ k l. (means k l).0 (f k l)), λ r k l. (means k l).1 (complete.1 r k l))
   where
     complete : ((k : ℕ) → k < P.n * Q.n → ¬ FailsTest trace_only P Q k) ↔ RefinesIn trace_only P Q
     complete = runs_complete P Q acc_p acc_q agree.0 trace_only
 
-    means : (k : ℕ) → k < P.n * Q.n → (verdict_of trace_only P Q k ≡ Passes) ↔ (¬ FailsTest trace_only P Q k)
+    means : (k : ℕ) → k < P.n * Q.n → (verdict_of trace_only P Q k ≡ Ok Passes) ↔ (¬ FailsTest trace_only P Q k)
     means k l = verdict_passes P Q acc_p acc_q agree trace_only k (omega (arith, nodes_most (check_sound P acc_p) (check_sound Q acc_q)))

@@ -1,6 +1,6 @@
 -- Nothing to believe: laws. What a verdict means (01, "A device node can do ..."): the test fails exactly if some run
 -- against the device, opened and stepped as the bench does it, can end failed. And which verdicts are refused.
-use Rattle.std.specs.Prelude.{◌≡◌, ◌⊎◌, ◌≢◌, ◌↔◌, Bool, eqb, leb}
+use Rattle.std.specs.Prelude.{◌≡◌, ◌⊎◌, ◌≢◌, ◌↔◌, Bool, eqb, leb, Result, Ok, Err}
 use Rattle.std.proofs.Math.Path.{refl, ap, subst}
 use Rattle.std.proofs.Common.{sym, ◌∙◌, lt-ltb, eqb-true, eq-eqb, ne_eqb}
 use Rattle.std.proofs.Math.Logic.{inl, inr}
@@ -33,13 +33,12 @@ use Rattle.tests_spec.specs.declared.Report.TheVariants.{Event, Blocked}
 use Rattle.tests_spec.specs.declared.Answer.{Answer}
 use Rattle.tests_spec.specs.declared.Answer.TheVariants.{Going, Stray, Refused, Passed, Inconclusive, Denied}
 use Rattle.verdicts_spec.specs.declared.Verdict.{Verdict}
-use Rattle.verdicts_spec.specs.declared.Verdict.TheVariants.{Passes, Fails, Denied as NoVerdict}
+use Rattle.verdicts_spec.specs.declared.Verdict.TheVariants.{Passes, Fails}
 use Rattle.tests_spec.specs.Flags.{flag, flag_of}
 use Rattle.tests_spec.proofs.Flags.{flag_clear, flag_of_lem}
 use Rattle.tests_spec.specs.Runs.{probes_at, chosen, offer_of, new_run, answered, open_of, report_fault, moved_by, step_of}
 use Rattle.verdicts_spec.specs.Verdicts.{CanReport, Failed, device_after, EndsFailed, FailsTest, fails_from, verdict_fault, verdict_of}
 use Rattle.tests_spec.specs.Numbers.{said}
-use Rattle.verdicts_spec.specs.Numbers.{judged}
 use Rattle.tests_spec.proofs.Offers.{offer_all, offer_below, offer_at_lem, offer_outside}
 use Rattle.verdicts_spec.proofs.Blocks.{stop_blocks, all_blocked, block_refusal, refusal_block}
 use Rattle.tests_spec.proofs.RunLaws.{open_0, open_going, blocked_taken, event_taken, answer_of_lem, run_of, kind_same, value_same, stray_step, moving_step, blocked_refused, taken}
@@ -77,33 +76,29 @@ module _ (P Q : Sheet) (k : ℕ) where
       finally (pair_rest P Q _ 0 (inr refl) (λ e. omega arith) (λ e. omega arith)) (λ h. unless_none 14 (finds_le k 1023) (λ e. omega arith))
 
   -- a refused verdict has its number
-  pub verdict_denied : (trace_only : Bool) → verdict_fault P Q k ≢ 0 → verdict_of trace_only P Q k ≡ NoVerdict (verdict_fault P Q k)
+  pub verdict_denied : (trace_only : Bool) → verdict_fault P Q k ≢ 0 → verdict_of trace_only P Q k ≡ Err (verdict_fault P Q k)
   unfolding verdict_of
   verdict_denied trace_only n = rw (ne_eqb (verdict_fault P Q k) 0 n)
 
   -- a verdict that is not refused is the test's
-  pub verdict_given : (trace_only : Bool) → verdict_fault P Q k ≡ 0 → verdict_of trace_only P Q k ≡ cond (fails_from trace_only P Q k 0 0) Fails Passes
+  pub verdict_given : (trace_only : Bool) → verdict_fault P Q k ≡ 0 → verdict_of trace_only P Q k ≡ Ok (cond (fails_from trace_only P Q k 0 0) Fails Passes)
   unfolding verdict_of
   verdict_given trace_only z = rw (eq-eqb (verdict_fault P Q k) 0 z)
 
 -- a verdict is refused exactly with the number of its refusal
-pub verdict_refused : (P Q : Sheet) (k : ℕ) (trace_only : Bool) (m : ℕ) → (verdict_of trace_only P Q k ≡ NoVerdict m) ↔ ((verdict_fault P Q k ≡ m) × (m ≢ 0))
-unfolding judged
+pub verdict_refused : (P Q : Sheet) (k : ℕ) (trace_only : Bool) (m : ℕ) → (verdict_of trace_only P Q k ≡ Err m) ↔ ((verdict_fault P Q k ≡ m) × (m ≢ 0))
 verdict_refused P Q k trace_only m = (λ e. forth e (dec (eqb (verdict_fault P Q k) 0)), back)
   where
-    never : (b : Bool) → cond b Fails Passes ≡ NoVerdict m → ⊥
-    never true q = let z : (judged Fails).kind ≡ (judged (NoVerdict m)).kind = ap (λ (v : Verdict). (judged v).kind) q in omega arith
-    never false q = let z : (judged Passes).kind ≡ (judged (NoVerdict m)).kind = ap (λ (v : Verdict). (judged v).kind) q in omega arith
-
-    forth : verdict_of trace_only P Q k ≡ NoVerdict m → (eqb (verdict_fault P Q k) 0 ≡ true) ⊎ (eqb (verdict_fault P Q k) 0 ≡ false) → (verdict_fault P Q k ≡ m) × (m ≢ 0)
-    forth e (inl t) = absurd (never (fails_from trace_only P Q k 0 0) (sym (verdict_given P Q k trace_only (eqb-true _ 0 t)) ∙ e))
+    forth : verdict_of trace_only P Q k ≡ Err m → (eqb (verdict_fault P Q k) 0 ≡ true) ⊎ (eqb (verdict_fault P Q k) 0 ≡ false) → (verdict_fault P Q k ≡ m) × (m ≢ 0)
+    forth e (inl t) = let g = verdict_given P Q k trace_only (eqb-true _ 0 t) in cc
     forth e (inr t) =
         let n = eqb-false (verdict_fault P Q k) 0 t in
-        let q : verdict_fault P Q k ≡ m = ap (λ (v : Verdict). (judged v).refusal) (sym (verdict_denied P Q k trace_only n) ∙ e) in
+        let d = verdict_denied P Q k trace_only n in
+        let q : verdict_fault P Q k ≡ m = cc in
         (q, λ z. n (q ∙ z))
 
-    back : (verdict_fault P Q k ≡ m) × (m ≢ 0) → verdict_of trace_only P Q k ≡ NoVerdict m
-    back (e, n) = verdict_denied P Q k trace_only (λ z. n (sym e ∙ z)) ∙ ap NoVerdict e
+    back : (verdict_fault P Q k ≡ m) × (m ≢ 0) → verdict_of trace_only P Q k ≡ Err m
+    back (e, n) = verdict_denied P Q k trace_only (λ z. n (sym e ∙ z)) ∙ ap (λ (x : ℕ). Err x) e
 
 -- an answer ends a run as failed exactly if it is a stray or "refused": passed and inconclusive are no failure
 pub failed_means : (a : Answer) → Failed a ↔ (((i : ℕ) × (a ≡ Stray i)) ⊎ ((X : ℕ) × (a ≡ Refused X)))
@@ -399,31 +394,29 @@ module _ (P Q : Sheet) (acc_p : sheet_fault P ≡ 0) (acc_q : sheet_fault Q ≡ 
   unrefused = (verdict_0 P Q k).1 (((acc_p, acc_q), agree), λ l. omega arith)
 
   -- for accepted sheets that agree and k up to 1,023 a verdict is the test's
-  given : verdict_of trace_only P Q k ≡ cond (fails_from trace_only P Q k 0 0) Fails Passes
+  given : verdict_of trace_only P Q k ≡ Ok (cond (fails_from trace_only P Q k 0 0) Fails Passes)
   given = verdict_given P Q k trace_only unrefused
 
   -- the verdict is "fails" exactly if some run can end failed
-  pub verdict_means : (verdict_of trace_only P Q k ≡ Fails) ↔ FailsTest trace_only P Q k
-  unfolding judged
+  pub verdict_means : (verdict_of trace_only P Q k ≡ Ok Fails) ↔ FailsTest trace_only P Q k
   verdict_means =
-      (λ e. means.0 (forth (fails_from trace_only P Q k 0 0) (sym given ∙ e)), λ f. given ∙ ap (λ (b : Bool). cond b Fails Passes) (means.1 f))
+      (λ e. means.0 (forth (fails_from trace_only P Q k 0 0) (sym given ∙ e)), λ f. given ∙ ap (λ (b : Bool). Ok (cond b Fails Passes)) (means.1 f))
     where
-      forth : (b : Bool) → cond b Fails Passes ≡ Fails → b ≡ true
+      forth : (b : Bool) → ◌≡◌ {A = Result Verdict ℕ} (Ok (cond b Fails Passes)) (Ok Fails) → b ≡ true
       forth true e = refl
-      forth false e = absurd (let z : (judged Passes).kind ≡ (judged Fails).kind = ap (λ (v : Verdict). (judged v).kind) e in omega arith)
+      forth false e = cc
 
   -- the verdict is "passes" exactly if no run can end failed
-  pub verdict_passes : (verdict_of trace_only P Q k ≡ Passes) ↔ (¬ FailsTest trace_only P Q k)
-  unfolding judged
+  pub verdict_passes : (verdict_of trace_only P Q k ≡ Ok Passes) ↔ (¬ FailsTest trace_only P Q k)
   verdict_passes = (
     λ e f. forth (fails_from trace_only P Q k 0 0) (sym given ∙ e) (means.1 f),
-    λ n. given ∙ ap (λ (b : Bool). cond b Fails Passes) (not_i (λ t. n (means.0 t))),
+    λ n. given ∙ ap (λ (b : Bool). Ok (cond b Fails Passes)) (not_i (λ t. n (means.0 t))),
   )
     where
-      forth : (b : Bool) → cond b Fails Passes ≡ Passes → b ≡ true → ⊥
-      forth true e t = let z : (judged Fails).kind ≡ (judged Passes).kind = ap (λ (v : Verdict). (judged v).kind) e in omega arith
+      forth : (b : Bool) → ◌≡◌ {A = Result Verdict ℕ} (Ok (cond b Fails Passes)) (Ok Passes) → b ≡ true → ⊥
+      forth true e t = cc
       forth false e t = false≢true t
 
   -- the verdict is never a refusal
-  pub verdict_undenied : (m : ℕ) → verdict_of trace_only P Q k ≢ NoVerdict m
+  pub verdict_undenied : (m : ℕ) → verdict_of trace_only P Q k ≢ Err m
   verdict_undenied m e = let w = (verdict_refused P Q k trace_only m).0 e in w.1 (sym w.0 ∙ unrefused)

@@ -1,9 +1,7 @@
 -- The numbers of a verdict and of the answer for all tests. Of a refusal every other part is 0.
-use Rattle.std.specs.Prelude.{ℕ}
+use Rattle.std.specs.Prelude.{ℕ, Result, Ok, Err}
 use Rattle.verdicts_spec.specs.declared.Verdict.{Verdict}
-use Rattle.verdicts_spec.specs.declared.Verdict.TheVariants.{Passes, Fails, Denied as NoVerdict}
-use Rattle.verdicts_spec.specs.declared.Suite.{Suite}
-use Rattle.verdicts_spec.specs.declared.Suite.TheVariants.{Judged, Denied}
+use Rattle.verdicts_spec.specs.declared.Verdict.TheVariants.{Passes, Fails}
 
 -- the number of the verdict "passes": the first of the ten that verdicts have
 abbrev pub passes_number : ℕ
@@ -21,10 +19,10 @@ pub record Judgement : Type 0 where
   pub kind : ℕ
 
 -- the numbers of a verdict: its own, or its refusal's
-unfoldable pub judged : Verdict → Judgement
-judged (NoVerdict m) = record { refusal = m; kind = 0 }
-judged Passes = record { refusal = 0; kind = passes_number }
-judged Fails = record { refusal = 0; kind = fails_number }
+unfoldable pub judged : Result Verdict ℕ → Judgement
+judged (Err m) = record { refusal = m; kind = 0 }
+judged (Ok Passes) = record { refusal = 0; kind = passes_number }
+judged (Ok Fails) = record { refusal = 0; kind = fails_number }
 
 -- the numbers of an answer for all tests: the refusal's, 0 for none; how many tests were judged
 pub record Suited : Type 0 where
@@ -32,6 +30,6 @@ pub record Suited : Type 0 where
   pub count : ℕ
 
 -- the numbers of the answer for all tests
-unfoldable pub suited : Suite → Suited
-suited (Judged n) = record { refusal = 0; count = n }
-suited (Denied m) = record { refusal = m; count = 0 }
+unfoldable pub suited : Result ℕ ℕ → Suited
+suited (Ok n) = record { refusal = 0; count = n }
+suited (Err m) = record { refusal = m; count = 0 }

@@ -1,7 +1,7 @@
 -- All verdicts at once: what the call answers, and what the lent list then holds. P is the reference, of p nodes, and Q
 -- the device, of q nodes; `trace_only` is true for trace-only tests. The verdict of test k is `verdict_of`, the same that
 -- a single verdict gives.
-use Rattle.std.specs.Prelude.{Bool, cond, List, ℕ, ◌*◌, eqb, leb, length}
+use Rattle.std.specs.Prelude.{Bool, cond, List, ℕ, ◌*◌, eqb, leb, length, Result, Ok, Err}
 use Rattle.base.specs.Refusal.{unless}
 use Rattle.base.specs.Table.{up_to}
 use Rattle.base.specs.Front.{at_front}
@@ -9,8 +9,6 @@ use Rattle.sheet_spec.specs.declared.Sheet.{Sheet}
 use Rattle.sheet_spec.specs.Refusals.{pair_fault}
 use Rattle.verdicts_spec.specs.Verdicts.{verdict_of}
 use Rattle.verdicts_spec.specs.Numbers.{judged}
-use Rattle.verdicts_spec.specs.declared.Suite.{Suite}
-use Rattle.verdicts_spec.specs.declared.Suite.TheVariants.{Judged, Denied}
 
 -- how many tests there are: p times q
 unfoldable pub test_count : Sheet → Sheet → ℕ
@@ -26,8 +24,8 @@ unfoldable pub suite_fault : Sheet → Sheet → List ℕ → ℕ
 suite_fault P Q out = pair_fault P Q (unless (leb (test_count P Q) (length out)) 10 0)
 
 -- the answer of the call: how many tests were judged, or the refusal
-unfoldable pub suite_of : Sheet → Sheet → List ℕ → Suite
-suite_of P Q out = cond (eqb (suite_fault P Q out) 0) (Judged (test_count P Q)) (Denied (suite_fault P Q out))
+unfoldable pub suite_of : Sheet → Sheet → List ℕ → Result ℕ ℕ
+suite_of P Q out = cond (eqb (suite_fault P Q out) 0) (Ok (test_count P Q)) (Err (suite_fault P Q out))
 
 -- the list at exit: the verdicts of tests 0 to p q - 1 at its front and the rest untouched; after a refusal as it was
 unfoldable pub verdicts_after : Bool → Sheet → Sheet → List ℕ → List ℕ

@@ -1,6 +1,6 @@
 -- What a verdict means and what it is (01, "A device node can do ..."). The first part is about runs: the device fails
 -- test k exactly if some run against it, for some h, can end failed. The second is a test that can be run.
-use Rattle.std.specs.Prelude.{◌≡◌, ◌⊎◌, Bool, not, ◌&&◌, ◌||◌, cond, List, [], ◌∷◌, ℕ, zero, suc, ◌<◌, eqb, ltb, leb}
+use Rattle.std.specs.Prelude.{◌≡◌, ◌⊎◌, Bool, not, ◌&&◌, ◌||◌, cond, List, [], ◌∷◌, ℕ, zero, suc, ◌<◌, eqb, ltb, leb, Result, Ok, Err}
 use Rattle.base.specs.Range.{any}
 use Rattle.base.specs.Refusal.{unless}
 use Rattle.events.specs.Bit.{bit}
@@ -15,7 +15,7 @@ use Rattle.tests_spec.specs.declared.Report.TheVariants.{Event, Blocked}
 use Rattle.tests_spec.specs.declared.Answer.{Answer}
 use Rattle.tests_spec.specs.declared.Answer.TheVariants.{Going, Stray, Refused, Passed, Inconclusive, Denied}
 use Rattle.verdicts_spec.specs.declared.Verdict.{Verdict}
-use Rattle.verdicts_spec.specs.declared.Verdict.TheVariants.{Passes, Fails, Denied as NoVerdict}
+use Rattle.verdicts_spec.specs.declared.Verdict.TheVariants.{Passes, Fails}
 use Rattle.tests_spec.specs.Runs.{open_of, step_of}
 
 -- the device at node m can give this report to an offer: an initial event that is offered; blocked, if one of its
@@ -67,5 +67,5 @@ unfoldable pub verdict_fault : Sheet → Sheet → ℕ → ℕ
 verdict_fault P Q k = pair_fault P Q (unless (leb k 1023) 14 0)
 
 -- the verdict of reference P on device Q for test k
-unfoldable pub verdict_of : Bool → Sheet → Sheet → ℕ → Verdict
-verdict_of trace_only P Q k = cond (eqb (verdict_fault P Q k) 0) (cond (fails_from trace_only P Q k 0 0) Fails Passes) (NoVerdict (verdict_fault P Q k))
+unfoldable pub verdict_of : Bool → Sheet → Sheet → ℕ → Result Verdict ℕ
+verdict_of trace_only P Q k = cond (eqb (verdict_fault P Q k) 0) (Ok (cond (fails_from trace_only P Q k 0 0) Fails Passes)) (Err (verdict_fault P Q k))

@@ -11,6 +11,7 @@ use lib.Arith.{digits_div, digits_mod}
 use lib.Dec.{eqb, ltb}
 use lib.Bits.{bit_or, or_zero_l}
 use borrow.Author.Tests.{eq-eqb, ne_eqb}
+use Rattle.base.proofs.Loops.{stored, filled}
 use Rattle.base.specs.Table.{up_to}
 use Rattle.base.proofs.Table.{get_or_up_to}
 use Rattle.events.specs.Bit.{bit, set_of}
@@ -46,6 +47,11 @@ module _ {f : ℕ → Bool} {n : ℕ} where
 
   pub gathered : {m x : ℕ} → Gathers f n m x → n ≤ m → x ≡ set_of f n
   gathered {m} g l = let e : m ≡ n = omega (arith, g.below) in g.holds ∙ rw e
+
+-- how a loop gathers nodes, and how one fills a table
+pub ruleset gathering = (more, gathered)
+
+pub ruleset filling = (stored, filled)
 
 -- which nodes are in a set of one, and in the empty set
 pub has_one : (u v : ℕ) → has (2 ^ u) v ≡ eqb u v

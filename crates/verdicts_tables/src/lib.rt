@@ -23,6 +23,7 @@ pub struct Tables {
 // ---- words
 
 // The set with node `v`, if `is_in`; else the set as it is.
+#[tactic(auto, unfolding(crate::specs::Shapes::node_if))]
 fn with_node_if(set: u32, v: usize, is_in: bool) -> u32
     requires { v < 32 }
     ensures { result ≡ node_if set v is_in }
@@ -34,13 +35,14 @@ fn with_node_if(set: u32, v: usize, is_in: bool) -> u32
 
 // Where event j / 32 leads from node j % 32, as a set: of one node or, where it leads to none of the first `q`, of
 // none. From `q` on there is no node.
+#[tactic(auto, unfolding(crate::specs::Shapes::bit_at, crate::specs::Shapes::node_if))]
 fn bit_at(table: &[u8; 384], q: usize, j: usize) -> u32
     requires { (j < 384) × (q ≤ 32) }
     ensures { result ≡ bit_at table.now q j }
 {
     let m = j % 32;
     if m < q {
-        let y = base::wide(table[m * 12 + j / 32]);
+        let y = usize::from(table[m * 12 + j / 32]);
         if y < q {
             return nodes::with_node(0, y);
         }
@@ -49,14 +51,14 @@ fn bit_at(table: &[u8; 384], q: usize, j: usize) -> u32
 }
 
 // Where each event leads from each node, as sets of one node or none, thirty-two to an event.
+#[tactic(auto, using(crate::proofs::Words::filling))]
 fn bits_of(table: &[u8; 384], q: usize) -> [u32; 384]
     requires { q ≤ 32 }
     ensures { result ≡ up_to (bit_at table.now q) 384 }
 {
     let mut bits = [0u32; 384];
     for j in 0..384 {
-        let x = bit_at(table, q, j);
-        bits[j] = x;
+        bits[j] = bit_at(table, q, j);
     }
     bits
 }
@@ -64,93 +66,97 @@ fn bits_of(table: &[u8; 384], q: usize) -> [u32; 384]
 // ---- where a test fails
 
 // The nodes of the device that have an initial outside those of a node of the reference.
+#[tactic(auto, unfolding(crate::specs::Shapes::stray_word), using(crate::proofs::Words::gathering))]
 fn stray_word(mine: u16, theirs: [u16; 32], q: usize) -> u32
     requires { q ≤ 32 }
     ensures { result ≡ stray_word mine theirs q }
 {
     let mut set: u32 = 0;
     for m in 0..q {
-        let x = refinement::stray_events(mine, theirs[m]);
-        set = with_node_if(set, m, x != 0);
+        set = with_node_if(set, m, refinement::stray_events(mine, theirs[m]) != 0);
     }
     set
 }
 
 // For every node of the reference, by its initials, the nodes of the device that have an initial outside these.
+#[tactic(auto, unfolding(crate::specs::Shapes::stray_words), using(crate::proofs::Words::filling))]
 fn stray_words(mine: [u16; 32], theirs: [u16; 32], q: usize) -> [u32; 32]
     requires { q ≤ 32 }
     ensures { result ≡ up_to (stray_words mine theirs q) 32 }
 {
     let mut words = [0u32; 32];
     for n in 0..32 {
-        let x = stray_word(mine[n], theirs, q);
-        words[n] = x;
+        words[n] = stray_word(mine[n], theirs, q);
     }
     words
 }
 
 // The nodes of the device that may stop.
+#[tactic(auto, unfolding(crate::specs::Shapes::stop_word), using(crate::proofs::Words::gathering))]
 fn stop_word(rows: [Row; 32], q: usize) -> u32
     requires { q ≤ 32 }
     ensures { result ≡ stop_word rows q }
 {
     let mut set: u32 = 0;
     for m in 0..q {
-        let row = rows[m];
-        set = with_node_if(set, m, sheet_rows::may_stop(row));
+        set = with_node_if(set, m, sheet_rows::may_stop(rows[m]));
     }
     set
 }
 
 // The nodes of the device with a refusal against a row of the reference.
+#[tactic(auto, unfolding(crate::specs::Shapes::refusal_word), using(crate::proofs::Words::gathering))]
 fn refusal_word(row: Row, rows: [Row; 32], q: usize) -> u32
     requires { q ≤ 32 }
     ensures { result ≡ refusal_word row rows q }
 {
     let mut set: u32 = 0;
     for m in 0..q {
-        let other = rows[m];
-        set = with_node_if(set, m, refinement::has_refusal(row, other));
+        set = with_node_if(set, m, refinement::has_refusal(row, rows[m]));
     }
     set
 }
 
 // The nodes of the device at which a test fails before its last event: at a stray, or where the device may stop and the
 // reference may not.
+#[tactic(auto, unfolding(crate::specs::Shapes::early_word))]
 fn early_word(strays: u32, may_stop: bool, stops: u32, trace_only: bool) -> u32
     ensures { result ≡ early_word trace_only strays may_stop stops }
 {
-    if trace_only {
-        return strays;
+    if trace_only || may_stop {
+        strays
+    } else {
+        strays | stops
     }
-    if may_stop { strays } else { strays | stops }
 }
 
 // For every node of the reference, the nodes of the device at which a test fails before its last event.
+#[tactic(auto, unfolding(crate::specs::Shapes::early_words), using(crate::proofs::Words::filling))]
 fn early_words(strays: [u32; 32], mine: [Row; 32], stops: u32, trace_only: bool) -> [u32; 32]
     ensures { result ≡ up_to (early_words trace_only strays mine stops) 32 }
 {
     let mut words = [0u32; 32];
     for n in 0..32 {
-        let row = mine[n];
-        let x = early_word(strays[n], sheet_rows::may_stop(row), stops, trace_only);
-        words[n] = x;
+        words[n] = early_word(strays[n], sheet_rows::may_stop(mine[n]), stops, trace_only);
     }
     words
 }
 
 // The nodes of the device at which a test fails at its last event: at a stray or a refusal.
+#[tactic(auto, unfolding(crate::specs::Shapes::late_word))]
 fn late_word(strays: u32, row: Row, theirs: [Row; 32], q: usize, trace_only: bool) -> u32
     requires { q ≤ 32 }
     ensures { result ≡ late_word trace_only strays row theirs q }
 {
     if trace_only {
-        return strays;
+        strays
+    } else {
+        strays | refusal_word(row, theirs, q)
     }
-    strays | refusal_word(row, theirs, q)
 }
 
 // For every node of the reference, the nodes of the device at which a test fails at its last event.
+#[tactic(auto, unfolding(crate::specs::Shapes::late_words), using(crate::proofs::Words::filling))]
 fn late_words(
     strays: [u32; 32],
     mine: [Row; 32],
@@ -163,9 +169,7 @@ fn late_words(
 {
     let mut words = [0u32; 32];
     for n in 0..32 {
-        let row = mine[n];
-        let x = late_word(strays[n], row, theirs, q, trace_only);
-        words[n] = x;
+        words[n] = late_word(strays[n], mine[n], theirs, q, trace_only);
     }
     words
 }
@@ -173,6 +177,7 @@ fn late_words(
 // ---- all tables
 
 // All tables of two sheets' rows.
+#[tactic(auto, unfolding(crate::specs::Shapes::tables_of))]
 pub fn tables_of(mine: [Row; 32], theirs: [Row; 32], q: usize, e: usize, trace_only: bool) -> Tables
     requires { q ≤ 32 }
     ensures { result ≡ tables_of trace_only mine theirs q e }

@@ -1,6 +1,6 @@
 -- Nothing to believe: cases. Words and what they count as, the longest lines, and texts of words and an input, one for
 -- each kind of line.
-use Rattle.std.specs.Prelude.{◌≡◌, refl, List, [], ◌∷◌, ◌++◌, map, ℕ}
+use Rattle.std.specs.Prelude.{◌≡◌, refl, List, [], ◌∷◌, ◌++◌, map, ℕ, Ok, Err}
 use Rattle.base.specs.Range.{all, any}
 use Rattle.base.specs.Gather.{gather, select}
 use Rattle.base.specs.Table.{up_to}
@@ -14,7 +14,6 @@ use Rattle.sheet_spec.specs.Refusals.{head_fault, layout_fault, graph_fault, byt
 use Rattle.sheet_spec.specs.Reading.{read_sheet, answer}
 use Rattle.sheet_spec.specs.Spelling.{length_field, next_at, start_of, succ_of, sets_of, row_at, row_of, sheet_of, code_of, nodes_at}
 use Rattle.sheet_spec.specs.Examples.{example_reference, example_device, coded_reference, stopped, ending}
-use Rattle.load_spec.specs.declared.Walked.TheVariants.{Length, Denied}
 use Rattle.load_spec.specs.Xorshift.{shifted_left, shifted_right, mixed_left, mixed_right, next_state}
 use Rattle.load_spec.specs.Walks.{initials_at, drawn, walk_from, walk_of}
 use Rattle.load_spec.specs.Calls.{seed_ok, wish_ok, walk_fault, walked_of, walk_after}
@@ -38,7 +37,7 @@ unfolding wish_of number_in few_digits all_digits digit_at is_digit value_from a
 wishes_hold = refl
 
 -- lines of walks and of refusals: only the walk's places of the list are printed
-pub lines_hold : length_line 4096 4096 ∷ walk_lines 4096 (Length 3) (0 ∷ 11 ∷ 10 ∷ 7 ∷ []) ∷ walk_lines 8 (Length 0) (5 ∷ []) ∷ walk_lines 8 (Denied 27) (5 ∷ []) ∷ walk_lines 9999 (Denied 28) [] ∷ []
+pub lines_hold : length_line 4096 4096 ∷ walk_lines 4096 (Ok 3) (0 ∷ 11 ∷ 10 ∷ 7 ∷ []) ∷ walk_lines 8 (Ok 0) (5 ∷ []) ∷ walk_lines 8 (Err 27) (5 ∷ []) ∷ walk_lines 9999 (Err 28) [] ∷ []
     ≡ (ascii "walked 4096 of 4096\n" ∷ ascii "walked 3 of 4096\ntrace 0 11 10\n" ∷ ascii "walked 0 of 8\ntrace\n" ∷ ascii "walk refused 27\n" ∷ ascii "walk refused 28\n" ∷ [])
 unfolding length_line walk_lines number_line trace_line event_list decimal decimal_in
 lines_hold = refl

@@ -1,5 +1,5 @@
 -- Nothing to believe: laws. Every text fits in the list that the program puts it in.
-use Rattle.std.specs.Prelude.{◌≡◌, ◌⊎◌, cond, List, [], ◌∷◌, ◌++◌, ℕ, suc, ◌+◌, ◌*◌, ◌≤◌, ◌<◌, eqb, length}
+use Rattle.std.specs.Prelude.{◌≡◌, ◌⊎◌, cond, List, [], ◌∷◌, ◌++◌, ℕ, suc, ◌*◌, ◌≤◌, ◌<◌, eqb, length}
 use Rattle.std.proofs.Common.{inl, inr, arith, eq-eqb, ne_eqb, length-append}
 use Rattle.std.proofs.Math.Decide.{ℕ_discrete}
 use Rattle.sheet_spec.specs.declared.Sheet.{Sheet}

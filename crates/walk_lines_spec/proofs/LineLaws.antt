@@ -1,15 +1,14 @@
 -- Nothing to believe: laws. The lines of different walks differ, and so do those of a walk and a refusal; so a text can
 -- be read back.
-use Rattle.std.specs.Prelude.{◌≡◌, refl, ◌≢◌, List, [], ◌++◌, ℕ, length, get_or, take}
+use Rattle.std.specs.Prelude.{◌≡◌, refl, ◌≢◌, List, [], ◌++◌, ℕ, Ok, Err, length, get_or, take}
 use Rattle.std.proofs.Common.{ap, ◌∙◌, append_assoc, arith}
 use Rattle.text_spec.specs.Lines.{ascii, decimal, event_list, trace_line, number_line}
 use Rattle.text_spec.proofs.TellLaws.{same_rest, after_number, events_tell}
-use Rattle.load_spec.specs.declared.Walked.TheVariants.{Length, Denied}
 use Rattle.walk_lines_spec.specs.Lines.{length_line, walk_lines}
 use Rattle.walk_lines_spec.specs.Says.{walked_text, refused_text}
 
 -- the lines of a walk, in pieces: its events are the first of the list, as many as its length says
-pub length_parts : (wish l : ℕ) (list t : List ℕ) → take l list ≡ t → length t ≡ l → walk_lines wish (Length l) list ≡ walked_text wish t
+pub length_parts : (wish l : ℕ) (list t : List ℕ) → take l list ≡ t → length t ≡ l → walk_lines wish (Ok l) list ≡ walked_text wish t
 unfolding walk_lines length_line trace_line
 length_parts wish l list t e n =
     rw (e, ← n)
@@ -22,12 +21,12 @@ length_parts wish l list t e n =
 
 -- the same, spelled out over any list
 pub lines_spelled : (wish l : ℕ) (list : List ℕ)
-    → walk_lines wish (Length l) list
+    → walk_lines wish (Ok l) list
     ≡ (ascii "walked " ++ (decimal l ++ (ascii " of " ++ (decimal wish ++ ascii "\n")))) ++ (ascii "trace" ++ (event_list (take l list) ++ ascii "\n"))
 unfolding walk_lines length_line trace_line
 lines_spelled wish l list = refl
 
-pub denied_parts : (wish m : ℕ) (list : List ℕ) → walk_lines wish (Denied m) list ≡ refused_text m
+pub denied_parts : (wish m : ℕ) (list : List ℕ) → walk_lines wish (Err m) list ≡ refused_text m
 unfolding walk_lines number_line
 denied_parts wish m list = refl
 

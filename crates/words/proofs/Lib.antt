@@ -1,3 +1,3 @@
-pub mod Loops
+pub mod Digits
 pub mod Parts
 pub mod Same

@@ -1,33 +1,27 @@
-use mathlib.Core.Path.{◌≡◌, refl, sym, ap, ◌∙◌}
-use mathlib.Core.List.{◌++◌}
-use Prim.Native.Nat.{ℕ, ◌+◌, ◌-◌, ◌*◌, ◌≤◌}
-use native.Mathlib.Omega.{arith}
+use Rattle.std.proofs.Common.{◌≡◌, refl, sym, ap, ◌∙◌, ℕ, ◌+◌, ◌*◌, ◌-◌, ◌++◌, arith}
 use Rattle.base.specs.Front.{at_front}
 use Rattle.base.specs.Joined.{joined}
 use Rattle.bound_spec.specs.ByteLaws.{head_bytes, one_set_bytes, climbing_device}
 use Rattle.bound_spec.proofs.ByteLaws.{device_spelled}
-use Rattle.bound.proofs.Steps.{Climbing, starts, goes_on, ends, from_head}
+use Rattle.bound.proofs.Steps.{starts, goes_on, ends, from_head}
 use Rattle.bound.proofs.write_device.Goals as goal
 
 pub loop-v-init : goal.loop-v-init
-loop-v-init c = (omega arith, starts (head_bytes (5 * c.args.q + 3) c.args.q) climbing_device 5 (omega arith) (λ i. refl) _ _ refl)
+loop-v-init c = starts (head_bytes (5 * c.args.q + 3) c.args.q) climbing_device 5 (omega arith) (λ i. refl) _
 
 pub put_one_set-requires : goal.put_one_set-requires
-put_one_set-requires c = omega (arith, c.loop-v.invariant.1.place, c.loop-v.invariant.1.same, c.put_head.auto.out)
-
-pub overflow_add-at : goal.overflow_add-at
-overflow_add-at c = omega (arith, c.loop-v.invariant.1.place)
+put_one_set-requires c = omega (arith, c.loop-v.invariant.same, c.put_head.auto.out)
 
 pub loop-v-preserved : goal.loop-v-preserved
 loop-v-preserved c =
-    let l = c.loop-v.invariant.1 in
-    (omega arith, goes_on (head_bytes (5 * c.args.q + 3) c.args.q) climbing_device 5 (omega arith) (λ i. refl) l (omega (arith, l.place, l.same, c.put_head.auto.out)) c.put_one_set.ensures)
+    let l = c.loop-v.invariant in
+    goes_on (head_bytes (5 * c.args.q + 3) c.args.q) climbing_device 5 (omega arith) (λ i. refl) l (omega arith) (omega (arith, l.same, c.put_head.auto.out)) c.put_one_set.ensures
 
 pub put_one_set-requires-2 : goal.put_one_set-requires-2
-put_one_set-requires-2 c = omega (arith, c.loop-v.invariant.1.place, c.loop-v.invariant.1.same, c.put_head.auto.out)
+put_one_set-requires-2 c = omega (arith, c.loop-v.invariant.same, c.put_head.auto.out)
 
 pub shape_of-out : goal.shape_of-out
-shape_of-out c = c.put_one_set-2.auto.out ∙ c.loop-v.invariant.1.same ∙ c.put_head.auto.out
+shape_of-out c = c.put_one_set-2.auto.out ∙ c.loop-v.invariant.same ∙ c.put_head.auto.out
 
 pub returns : goal.returns
 returns c =
@@ -36,6 +30,6 @@ returns c =
     let head = head_bytes (5 * a.q + 3) a.q in
     let v : l.v ≡ a.q - 1 = omega arith in
     let b = c.put_head.ensures ∙ from_head a.out.now head (omega arith) in
-    ends head climbing_device 5 (omega arith) (λ i. refl) (one_set_bytes 255 0 2) a.out.now l.invariant.1 (omega arith)
-    (omega (arith, l.invariant.1.place, l.invariant.1.same, c.put_head.auto.out)) b c.put_one_set-2.ensures
-    ∙ ap (at_front a.out.now) (ap (λ (k : ℕ). head ++ (joined climbing_device k ++ one_set_bytes 255 0 2)) v ∙ sym (device_spelled a.q (omega arith) (omega arith)))
+    ends head climbing_device 5 (omega arith) (λ i. refl) l.invariant (omega arith) (one_set_bytes 255 0 2) a.out.now (omega arith)
+    (omega (arith, l.invariant.same, c.put_head.auto.out)) b c.put_one_set-2.ensures
+    ∙ ap (at_front a.out.now) (ap (λ (k : ℕ). head ++ (joined climbing_device k ++ (one_set_bytes 255 0 2))) v ∙ sym (device_spelled a.q (omega arith) (omega arith)))

@@ -1,29 +1,16 @@
 -- Refused, the answer is its number; else both sheets are written.
-use mathlib.Core.Path.{refl, sym, ◌∙◌}
-use native.Mathlib.Omega.{arith}
-use Rattle.bound.proofs.Steps.{fits, refused, given}
+use Rattle.std.proofs.Common.{rules}
+use Rattle.bound.proofs.Steps.{refused, reference_fits, device_fits, given}
 use Rattle.bound.proofs.write_pair.Goals as goal
 
-pub returns-then-fault-ne0 : goal.returns-then-fault-ne0
-returns-then-fault-ne0 c = refused c.args.p c.args.q c.args.reference.now c.args.device.now (c.fault_on-fault.ensures c.args.reference.now c.args.device.now refl refl) c.if-fault-ne0.true
+pub returns-in_err-fault_on : goal.returns-in_err-fault_on
+returns-in_err-fault_on c = refused _ _ _ _ c.fault_on.ensures c.in_err-fault_on.was (search rules)
 
 pub write_reference-requires : goal.write_reference-requires
-write_reference-requires c =
-    let w = fits c.args.p c.args.q c.args.reference.now c.args.device.now (c.fault_on-fault.ensures c.args.reference.now c.args.device.now refl refl) c.if-fault-ne0.false in
-    (w.0.0.0, w.0.0.1, w.1.0)
+write_reference-requires c = reference_fits _ _ _ _ c.fault_on.ensures c.in_ok-fault_on.was
 
 pub write_device-requires : goal.write_device-requires
-write_device-requires c =
-    let w = fits c.args.p c.args.q c.args.reference.now c.args.device.now (c.fault_on-fault.ensures c.args.reference.now c.args.device.now refl refl) c.if-fault-ne0.false in
-    (w.0.1.0, w.0.1.1, w.1.1)
-
-pub shape_of-reference : goal.shape_of-reference
-shape_of-reference c = c.write_reference.auto.out
-
-pub shape_of-device : goal.shape_of-device
-shape_of-device c = c.write_device.auto.out
+write_device-requires c = device_fits _ _ _ _ c.fault_on.ensures c.in_ok-fault_on.was
 
 pub returns : goal.returns
-returns c =
-    let e = c.fault_on-fault.ensures c.args.reference.now c.args.device.now refl refl in
-    given c.args.p c.args.q c.args.reference.now c.args.device.now (sym e ∙ c.if-fault-ne0.false) c.write_reference.ensures c.write_device.ensures
+returns c = given _ _ _ _ c.fault_on.ensures c.in_ok-fault_on.was c.write_reference.ensures c.write_device.ensures c.from.ensures c.from-2.ensures

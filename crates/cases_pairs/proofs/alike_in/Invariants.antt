@@ -1,6 +1,5 @@
 -- `cases_pairs::alike_in`. After i rounds the count is at most i.
-use Prim.Native.Nat.{◌-◌, ◌≤◌}
-use native.Mathlib.Omega.{arith}
+use Prim.Native.Nat.{◌≤◌}
 use Rattle.cases_pairs.proofs.alike_in.Given as goal
 
 abbrev pub invariant-loop-i : goal.invariant-loop-i

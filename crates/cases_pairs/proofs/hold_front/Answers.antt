@@ -1,12 +1,6 @@
 -- `cases_pairs::hold_front`: what was read without refusal is accepted.
-use mathlib.Core.Path.{sym}
-use borrow.Author.Rules.{rules}
-use lib.Seq.{length-take-le}
-use Rattle.cases_pairs.proofs.Kept.{kept}
+use Rattle.cases_pairs.proofs.Kept.{kept_fault}
 use Rattle.cases_pairs.proofs.hold_front.Goals as goal
 
-pub slice_bounds-read-end : goal.slice_bounds-read-end
-slice_bounds-read-end c = sym (length-take-le _ _ (search rules))
-
 pub hold_sheet-requires : goal.hold_sheet-requires
-hold_sheet-requires c = kept _ c.read-a.ensures c.if-a-ne0.false
+hold_sheet-requires c = kept_fault _ c.in-Ok.ensures

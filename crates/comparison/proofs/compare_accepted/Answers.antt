@@ -1,5 +1,4 @@
 -- `comparison::compare_accepted`: the tables are laid out, searched, and what is found is told.
-use native.Mathlib.Omega.{arith}
 use Rattle.comparison.specs.Tables.{both_accepted, search_fits, answer_fits, compares_found}
 use Rattle.comparison.proofs.compare_accepted.Goals as goal
 
@@ -14,7 +13,7 @@ search-found-requires c =
     let w = c in
     let s = w in
     let a = s.args in
-    search_fits a.reference a.device a.work.now a.trace.now s.requires w.wide-p.ensures w.wide-q.ensures w.wide-e.ensures
+    search_fits a.reference a.device a.work.now a.trace.now s.requires w.from-p.ensures w.from-q.ensures w.from-e.ensures
 
 pub tell-requires : goal.tell-requires
 tell-requires c =
@@ -23,7 +22,7 @@ tell-requires c =
     let s = w in
     let a = s.args in
     let z = both_accepted a.reference a.device a.work.now a.trace.now s.requires in
-    (z.0, z.1, answer_fits a.reference a.device a.work.now a.trace.now s.requires w.wide-p.ensures w.wide-q.ensures w.wide-e.ensures a.trace_only b.flat-a.ensures b.flat-b.ensures b.table-bad.ensures c.search-found.ensures)
+    (z.0, z.1, answer_fits a.reference a.device a.work.now a.trace.now s.requires w.from-p.ensures w.from-q.ensures w.from-e.ensures a.trace_only b.flat-a.ensures b.flat-b.ensures b.table-bad.ensures c.search-found.ensures)
 
 pub returns : goal.returns
 returns c =
@@ -31,4 +30,4 @@ returns c =
     let w = b in
     let s = w in
     let a = s.args in
-    compares_found a.reference a.device a.work.now a.trace.now s.requires w.wide-p.ensures w.wide-q.ensures w.wide-e.ensures a.trace_only b.flat-a.ensures b.flat-b.ensures b.table-bad.ensures c.search-found.ensures _ c.tell.ensures
+    compares_found a.reference a.device a.work.now a.trace.now s.requires w.from-p.ensures w.from-q.ensures w.from-e.ensures a.trace_only b.flat-a.ensures b.flat-b.ensures b.table-bad.ensures c.search-found.ensures _ c.tell.ensures

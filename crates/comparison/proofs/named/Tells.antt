@@ -51,3 +51,6 @@ module _ (P Q : Sheet) (f : Found) where
   pub bad_told : (d v w n : ℕ) → f ≡ Bad d v w n → (e : ℕ) → e ≡ P.e → (r : Outcome) → r ≡ named d n e (row P v) (row Q w) → r ≡ told P Q f
   unfolding told
   bad_told d v w n x e y r z = rw x (rw y at z)
+
+-- the ways out
+pub ruleset tells = (clear_fits, clear_told, bad_told)

@@ -58,3 +58,6 @@ module _ (P Q : Sheet) (accepted : (sheet_fault P ≡ 0) × (sheet_fault Q ≡ 0
       let h : k ≡ p * q = omega arith in
       let g : k ≡ P.n * Q.n = h ∙ rw (ep, eq) in
       rw g at f.holds
+
+-- the places of a pair and of its nodes
+pub ruleset places = (q_some, pairs_most, first_node, second_node)

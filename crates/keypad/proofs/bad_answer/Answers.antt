@@ -1,15 +1,13 @@
 -- No rule matches the code, or the two lowest that do are named.
-use Prim.Native.Nat.{◌+◌}
-use native.Mathlib.Omega.{arith}
-use Rattle.keypad_spec.proofs.MatchLaws.{from_most}
-use Rattle.keypad.proofs.Steps.{puts_gap, puts_overlap}
+use Rattle.std.proofs.Common.{sym, ◌∙◌}
+use Rattle.keypad.proofs.Steps.{some_more, puts_gap, puts_overlap}
 use Rattle.keypad.proofs.bad_answer.Goals as goal
 
-pub returns-then-i-table : goal.returns-then-i-table
-returns-then-i-table c = search puts_gap
+pub unwrap-k-requires : goal.unwrap-k-requires
+unwrap-k-requires c = some_more _ _ c.in-Some.ensures c.match_from-in-Some.ensures c.requires.1
 
-pub overflow_cast-result-2 : goal.overflow_cast-result-2
-overflow_cast-result-2 c = omega (arith, c.match_from-k.ensures, from_most c.args.table.now c.args.code (c.match_from-i.result + 1))
+pub returns-in-Some : goal.returns-in-Some
+returns-in-Some c = puts_overlap _ _ c.in-Some.ensures (sym c.unwrap-k.ensures ∙ c.match_from-in-Some.ensures)
 
-pub returns : goal.returns
-returns c = search puts_overlap
+pub returns-in-None : goal.returns-in-None
+returns-in-None c = puts_gap _ _ c.in-None.ensures

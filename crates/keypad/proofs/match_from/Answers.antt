@@ -1,7 +1,4 @@
-use Prim.Native.Nat.{◌-◌}
-use native.Mathlib.Omega.{arith}
-use Rattle.keypad.proofs.Steps.{Seeking, seek_start, seek_more, seek_found, seek_none}
-use Rattle.keypad_spec.specs.Tables.{rule_count}
+use Rattle.keypad.proofs.Steps.{seek_start, seek_more, seek_found, seek_none}
 use Rattle.keypad.proofs.match_from.Goals as goal
 
 pub loop-i-init : goal.loop-i-init

@@ -1,9 +1,10 @@
 -- The pieces of the line, one after another.
-use native.Mathlib.Omega.{arith}
-use Rattle.text_spec.proofs.AddsLaws.{adds_then}
+use Rattle.text.proofs.PageLaws.{puts_then}
 use Rattle.live_lines_spec.specs.Answers.{report_refused_line}
 use Rattle.live_lines.proofs.put_report_refused.Goals as goal
 
 pub returns : goal.returns
 unfolding report_refused_line
-returns c = adds_then c.put-a.ensures (adds_then c.put_number-b.ensures (adds_then c.put-c.ensures (adds_then c.put_why-d.ensures c.put.ensures)))
+returns c =
+    let n = c.put_number.ensures in
+    puts_then c.put.ensures (puts_then (rw n.1 at n.2) (puts_then c.put-2.ensures (puts_then (rw c.why.ensures at c.put-3.ensures) c.put-4.ensures)))

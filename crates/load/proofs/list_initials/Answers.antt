@@ -1,9 +1,7 @@
 use native.Mathlib.Omega.{arith}
 use mathlib.Core.Path.{◌≡◌}
-use Prim.Native.Nat.{◌≤◌, ◌-◌}
 use Rattle.events.proofs.ListLaws.{events_few}
 use Rattle.sheet_rows.specs.Tables.{initials_in}
-use Rattle.load.specs.Shapes.{Tabled}
 use Rattle.load.proofs.Lists.{none_tabled, node_tabled}
 use Rattle.load.proofs.list_initials.Goals as goal
 

@@ -1,11 +1,6 @@
 -- After v rounds the tables have the initials of the first v nodes.
-use native.Mathlib.Omega.{arith}
-use mathlib.Core.Path.{◌≡◌}
-use Prim.Native.Nat.{◌≤◌, ◌-◌}
-use Rattle.events.proofs.ListLaws.{events_few}
-use Rattle.sheet_rows.specs.Tables.{initials_in}
+use Prim.Native.Nat.{◌≤◌}
 use Rattle.load.specs.Shapes.{Tabled}
-use Rattle.load.proofs.Lists.{none_tabled, node_tabled}
 use Rattle.load.proofs.list_initials.Given as goal
 
 abbrev pub invariant-loop-v : goal.invariant-loop-v

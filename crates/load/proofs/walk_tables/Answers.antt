@@ -1,8 +1,8 @@
 use native.Mathlib.Omega.{arith}
-use mathlib.Core.Path.{refl, ap, ◌∙◌}
-use Prim.Native.Nat.{ℕ, ◌+◌, ◌-◌, ◌*◌}
+use mathlib.Core.Path.{◌≡◌, refl, ap, ◌∙◌}
+use Prim.Native.Nat.{ℕ, ◌+◌, ◌*◌}
 use lib.ListN.{get_or}
-use Rattle.load.proofs.Going.{Going, starts, node_low, event_place, event_low, goes_on, stops, ends}
+use Rattle.load.proofs.Going.{starts, node_low, event_place, event_low, goes_on, stops, ends}
 use Rattle.load.proofs.walk_tables.Goals as goal
 
 pub loop-j-init : goal.loop-j-init
@@ -48,10 +48,12 @@ pub bounds-next-v : goal.bounds-next-v
 bounds-next-v c = omega (arith, node_low c.loop-j.invariant, event_low c.loop-j.invariant c.next_state-x.result c.if-m-eq0.false)
 
 pub loop-j-preserved : goal.loop-j-preserved
-loop-j-preserved c = goes_on c.loop-j.invariant c.loop-j-test.true (omega (arith, c.loop-j.invariant.long)) c.if-m-eq0.false c.next_state-x.ensures refl (c.wide-v.ensures ∙ ap (λ (k : ℕ). get_or c.args.next.now (c.loop-j.v * 12 + k) 0) c.wide.ensures)
+loop-j-preserved c = goes_on c.loop-j.invariant c.loop-j-test.true (omega (arith, c.loop-j.invariant.long)) c.if-m-eq0.false c.next_state-x.ensures refl (c.from-v.ensures ∙ ap (λ (k : ℕ). get_or c.args.next.now (c.loop-j.v * 12 + k) 0) c.from.ensures)
 
 pub shape_of-out : goal.shape_of-out
 shape_of-out c = c.loop-j.invariant.long
 
 pub returns : goal.returns
-returns c = ends c.loop-j.invariant c.loop-j-test.false (omega (arith, c.requires.1, c.loop-j.invariant.long))
+returns c =
+    let e : c.loop-j.j ≡ c.args.wish = omega arith in
+    rw e at (ends c.loop-j.invariant (omega arith) (omega (arith, c.requires.1, c.loop-j.invariant.long)))

@@ -1,59 +1,40 @@
-use Rattle.std.proofs.Common.{◌≡◌, ◌+◌, ◌-◌, ◌^◌, ◌≤◌, length, sym, ap, ◌∙◌, arith, length-set}
+use Rattle.std.proofs.Common.{◌≡◌, ◌<◌, true, length, sym, refl, ap, ◌∙◌, arith, length-set}
 use Rattle.base.specs.Front.{at_front}
 use Rattle.probes_spec.specs.Probes.{is_probe}
-use Rattle.probes.proofs.Seen.{next_low, Stands, seen, stands_next, seen_start, seen_count, seen_room, seen_short, seen_end, front_none, find_more}
+use Rattle.probes.proofs.Seen.{seen, seen_none, seen_no, seen_short, seen_count, seen_room, seen_put, seen_all}
 use Rattle.probes.proofs.find.Goals as goal
+use Rattle.probes.proofs.find.Goals.{then-is_probe, else-is_probe}
 
 pub loop-x-init : goal.loop-x-init
-loop-x-init c =
-    let a = c.args in
-    let s = stands_next a.sets.now a.e 0 c.next_probe-x.result (omega arith) c.next_probe-x.ensures in
-    let q = seen_start a.sets.now a.e c.next_probe-x.result c.next_probe-x.ensures in
-    (omega (arith, s.most), s, sym (ap length q), front_none a.out.now ∙ ap (at_front a.out.now) (sym q), omega arith)
+loop-x-init c = (sym (ap length (seen_none c.args.sets.now)), ap (at_front c.args.out.now) (sym (seen_none c.args.sets.now)), refl)
 
-pub offset_bounds-out-at : goal.offset_bounds-out-at
-offset_bounds-out-at c =
-    let l = c in
-    let a = l.args in
-    omega (arith, seen_short a.sets.now a.e l.loop-x.x)
+pub offset_bounds-out-found : goal.offset_bounds-out-found
+offset_bounds-out-found c = omega (arith, seen_short c.args.sets.now c.loop-x.x)
 
-pub bounds-out-at : goal.bounds-out-at
-bounds-out-at c =
-    let l = c in
-    let a = l.args in
-    omega (arith, seen_room a.sets.now a.e l.loop-x.x l.loop-x.invariant.1 (omega arith))
+pub bounds-out-found : goal.bounds-out-found
+bounds-out-found c = omega (arith, seen_room c.args.sets.now c.loop-x.x (sym c.is_probe.ensures ∙ c.if-is_probe.true) c.args.e (omega arith))
 
-pub overflow_add-at : goal.overflow_add-at
-overflow_add-at c =
-    let l = c in
-    let a = l.args in
-    omega (arith, seen_short a.sets.now a.e l.loop-x.x)
-
-pub loop-x-smaller : goal.loop-x-smaller
-loop-x-smaller c =
-    let l = c in
-    let a = l.args in
-    omega (arith, next_low (is_probe a.sets.now) (2 ^ a.e) (l.loop-x.x + 1) (omega arith) c.next_probe-x-in-loop-x.result c.next_probe-x-in-loop-x.ensures)
+pub overflow_add-found : goal.overflow_add-found
+overflow_add-found c = omega (arith, seen_short c.args.sets.now c.loop-x.x)
 
 pub loop-x-preserved : goal.loop-x-preserved
-loop-x-preserved c =
-    let l = c in
-    let a = l.args in
-    let y = c.next_probe-x-in-loop-x in
-    let s = stands_next a.sets.now a.e (l.loop-x.x + 1) y.result (omega arith) y.ensures in (
-      omega (arith, s.most),
-      s,
-      omega (arith, l.loop-x.invariant.2, seen_count a.sets.now a.e l.loop-x.x l.loop-x.invariant.1 (omega arith) y.result y.ensures),
-      find_more a.sets.now a.e l.loop-x.x l.loop-x.invariant.1 (omega arith) a.out.now l.loop-x.out l.loop-x.at y.result l.loop-x.invariant.2 l.loop-x.invariant.3 (omega arith) y.ensures,
-      length-set l.loop-x.out l.loop-x.at l.loop-x.x ∙ l.loop-x.invariant.4,
-    )
-
-pub shape_of-out : goal.shape_of-out
-shape_of-out c = c.loop-x.invariant.4
+loop-x-preserved c = elim c.if-is_probe.branch [
+  | then-is_probe w ↦
+      let t : is_probe c.args.sets.now c.loop-x.x ≡ true = sym c.is_probe.ensures ∙ w.if-is_probe.true in
+      let room : length (seen c.args.sets.now c.loop-x.x) < length c.args.out.now = omega (arith, seen_room c.args.sets.now c.loop-x.x t c.args.e (omega arith)) in (
+        w.found-is ∙ omega (arith, c.loop-x.invariant.0, seen_count c.args.sets.now c.loop-x.x t),
+        w.out-is ∙ seen_put c.args.sets.now c.loop-x.x t c.args.out.now c.loop-x.invariant.0 c.loop-x.invariant.1 room,
+        ap length w.out-is ∙ length-set c.loop-x.out c.loop-x.found c.loop-x.x ∙ c.loop-x.invariant.2,
+      )
+  | else-is_probe w ↦
+      let q = seen_no c.args.sets.now c.loop-x.x (sym c.is_probe.ensures ∙ w.if-is_probe.false) in (
+        w.found-is ∙ c.loop-x.invariant.0 ∙ sym (ap length q),
+        w.out-is ∙ c.loop-x.invariant.1 ∙ ap (at_front c.args.out.now) (sym q),
+        ap length w.out-is ∙ c.loop-x.invariant.2,
+      )
+]
 
 pub returns : goal.returns
 returns c =
-    let l = c in
-    let a = l.args in
-    let q = seen_end a.sets.now a.e l.loop-x.x l.loop-x.invariant.1 (omega arith) in
-    (l.loop-x.invariant.3 ∙ ap (at_front a.out.now) q, l.loop-x.invariant.2 ∙ ap length q)
+    let q = seen_all c.args.sets.now c.args.e c.loop-x.x (omega arith) in
+    (c.loop-x.invariant.1 ∙ ap (at_front c.args.out.now) q, c.loop-x.invariant.0 ∙ ap length q)

@@ -1,9 +1,13 @@
--- The lines, one after another; the sums fit, as the counts sum to a number of 64 bits.
-use native.Mathlib.Omega.{arith}
-use Rattle.text_spec.proofs.AddsLaws.{adds_then}
+-- The lines, one after another.
+use Rattle.text.proofs.PageLaws.{puts_then}
 use Rattle.script_counts_lines_spec.specs.Lines.{count_lines}
 use Rattle.script_counts_lines.proofs.put_counts.Goals as goal
 
 pub returns : goal.returns
 unfolding count_lines
-returns c = adds_then c.put_total-b.ensures (adds_then c.put_long_line-c.ensures (adds_then c.put_long_line-d.ensures (adds_then c.put_long_line-e.ensures c.put_long_line.ensures)))
+returns c =
+    let w = c.put_number_line.ensures in
+    let d = c.put_number_line-2.ensures in
+    let r = c.put_number_line-3.ensures in
+    let e = c.put_number_line-4.ensures in
+    puts_then c.put_total.ensures (puts_then (rw w.1 at w.2) (puts_then (rw d.1 at d.2) (puts_then (rw r.1 at r.2) (rw e.1 at e.2))))

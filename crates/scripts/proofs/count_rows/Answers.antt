@@ -1,6 +1,5 @@
 -- The tables are those of the rows; the counts over them are those of the sheets.
 use Prim.Native.Nat.{ℕ}
-use native.Mathlib.Omega.{arith}
 use lib.ListN.{length-replicate}
 use Rattle.scripts.specs.Shapes.{cell}
 use Rattle.scripts.proofs.Rows.{rows_counted}

@@ -1,17 +1,16 @@
 -- The places of a table of counts: what putting three numbers does to them, and how loops fill them.
-use mathlib.Core.Path.{◌≡◌, refl, sym, ap, ◌∙◌}
+use mathlib.Core.Path.{◌≡◌, sym, ◌∙◌}
 use mathlib.Core.Logic.{◌⊎◌, inl, inr, ◌≢◌}
 use mathlib.Core.List.{List}
-use Prim.Native.Nat.{ℕ, zero, suc, ◌+◌, ◌*◌, ◌/◌, ◌%◌, ◌≤◌, ◌<◌}
+use Prim.Native.Nat.{ℕ, suc, ◌+◌, ◌*◌, ◌≤◌, ◌<◌}
 use native.Mathlib.Nat.{eq-or-lt_of_le, mul-le-mul}
 use native.Mathlib.Omega.{arith}
 use lib.Arith.{digits_lt, digits_div, digits_mod}
-use lib.Dec.{ltb}
 use lib.ListN.{length, set, get_or, length-set}
 use lib.Seq.{get_or-set_same, get_or-set_other}
 use borrow.Author.Tests.{lt-ltb, le-ltb}
 use Rattle.base.proofs.Truth.{lt_or_ge}
-use Rattle.scripts.specs.declared.Counts.{Counts}
+use Rattle.scripts_spec.specs.declared.Counts.{Counts}
 use Rattle.scripts.specs.Shapes.{cell, place, place_sums, next_cell, Stored, Stopped, Filled}
 
 module _ (t : List ℕ) (c : ℕ) (v : Counts) (h : length t ≡ 3078) (l : c < 1026) where

@@ -2,14 +2,14 @@
 use mathlib.Core.Path.{◌≡◌, refl, sym, ap, ◌∙◌}
 use mathlib.Core.Logic.{◌⊎◌, inl, inr}
 use mathlib.Core.List.{List}
-use Prim.Native.Nat.{ℕ, zero, suc, ◌+◌, ◌*◌, ◌/◌, ◌%◌, ◌^◌, ◌≤◌, ◌<◌}
+use Prim.Native.Nat.{ℕ, ◌+◌, ◌*◌, ◌/◌, ◌%◌, ◌^◌, ◌≤◌, ◌<◌}
 use native.Mathlib.Nat.{eq-or-lt_of_le, le_trans, zero-mul, pow-zero, pow-suc, mul-le-mul, mod-lt, div-add-mod', div-lt_iff_lt-mul}
 use native.Mathlib.Numerals.{add-one}
 use native.Mathlib.Omega.{arith}
 use lib.Arith.{digits_lt}
 use lib.ListN.{length}
 use Rattle.base.proofs.Truth.{lt_or_ge}
-use Rattle.scripts.specs.declared.Counts.{Counts}
+use Rattle.scripts_spec.specs.declared.Counts.{Counts}
 use Rattle.scripts.specs.Shapes.{one, most, cell, cell_in, sums, table_counts, next_cell, Most, Small, Sizes, Stopped, Filled, Begun}
 use Rattle.scripts.proofs.tables.Cells.{next_pair}
 use Rattle.scripts.proofs.tables.Sums.{sums_ext, places_sums, table_most, power_most}

@@ -1,16 +1,16 @@
--- Each pass gives its own refusal; one law per way out joins them to the definition.
-use native.Mathlib.Omega.{arith}
+-- Each pass gives its own refusal.
+use Rattle.std.proofs.Common.{rules}
 use Rattle.sheet.proofs.Answers.{read_bytes, read_graph, read_whole, few_nodes}
 use Rattle.sheet.proofs.read.Goals as goal
 
-pub returns-then-fault-ne0 : goal.returns-then-fault-ne0
-returns-then-fault-ne0 c = search (read_bytes, c.if-fault-ne0.true)
+pub returns-in_err-fault_in : goal.returns-in_err-fault_in
+returns-in_err-fault_in c = search (rules, read_bytes _ _ c.in_err-fault_in.ensures)
 
-pub graph_fault-graph-requires : goal.graph_fault-graph-requires
-graph_fault-graph-requires c = search few_nodes
+pub graph_fault-requires : goal.graph_fault-requires
+graph_fault-requires c = rw c.sheet_of-s.ensures (few_nodes _ c.in_ok-fault_in.ensures)
 
-pub returns-then-graph-ne0 : goal.returns-then-graph-ne0
-returns-then-graph-ne0 c = search (read_graph, c.if-graph-ne0.true)
+pub returns-in_err-graph_fault : goal.returns-in_err-graph_fault
+returns-in_err-graph_fault c = search (rules, read_graph c.args.bytes.now c.in_ok-fault_in.ensures c.in_err-graph_fault.field-0.0 (rw c.sheet_of-s.ensures at c.in_err-graph_fault.ensures))
 
 pub returns : goal.returns
-returns c = search read_whole
+returns c = rw c.sheet_of-s.ensures (read_whole _ c.in_ok-fault_in.ensures (rw c.sheet_of-s.ensures at c.in_ok-graph_fault.ensures))

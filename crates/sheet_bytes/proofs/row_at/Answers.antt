@@ -1,5 +1,4 @@
 -- The row is put together from its parts as in the definition.
-use native.Mathlib.Omega.{arith}
 use Rattle.sheet_spec.specs.Spelling.{row_at}
 use Rattle.sheet_bytes.proofs.row_at.Goals as goal
 

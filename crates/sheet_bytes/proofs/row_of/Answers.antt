@@ -1,5 +1,4 @@
 -- The test is the definition's, and the place is where the node begins.
-use native.Mathlib.Omega.{arith}
 use borrow.Author.Tests.{lt-ltb, le-ltb}
 use Rattle.sheet_spec.specs.Spelling.{row_of}
 use Rattle.sheet_bytes.proofs.row_of.Goals as goal

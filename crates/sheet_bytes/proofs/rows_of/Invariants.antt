@@ -1,10 +1,8 @@
 -- After v rounds the first v rows are filled and the place is where node v begins.
 use mathlib.Core.Path.{◌≡◌}
-use Prim.Native.Nat.{◌+◌, ◌-◌, ◌*◌, ◌≤◌}
-use native.Mathlib.Omega.{arith}
-use native.Mathlib.Numerals.{add-one}
+use Prim.Native.Nat.{◌+◌, ◌*◌, ◌≤◌}
 use Rattle.sheet_spec.specs.Spelling.{start_of, unused_row, row_of}
-use Rattle.base.proofs.Loops.{Filling, empty, stored, filled}
+use Rattle.base.proofs.Loops.{Filling}
 use Rattle.sheet_bytes.proofs.rows_of.Given as goal
 
 abbrev pub invariant-loop-v : goal.invariant-loop-v

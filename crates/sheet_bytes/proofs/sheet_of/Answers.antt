@@ -1,5 +1,4 @@
 -- The sheet is put together from its parts as in the definition.
-use native.Mathlib.Omega.{arith}
 use Rattle.sheet_spec.specs.Spelling.{sheet_of}
 use Rattle.sheet_bytes.proofs.sheet_of.Goals as goal
 

@@ -1,5 +1,4 @@
 -- The test is the definition's.
-use native.Mathlib.Omega.{arith}
 use borrow.Author.Tests.{lt-ltb, le-ltb}
 use Rattle.sheet_spec.specs.Spelling.{succ_of}
 use Rattle.sheet_bytes.proofs.succ_of.Goals as goal

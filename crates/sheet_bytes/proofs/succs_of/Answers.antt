@@ -1,14 +1,8 @@
-use Prim.Native.Nat.{◌-◌}
-use native.Mathlib.Omega.{arith}
+use Rattle.std.proofs.Common.{rules}
+use borrow.Author.Tests.{tests}
+use Rattle.base.proofs.Chains.{made_by}
 use Rattle.sheet_spec.specs.Spelling.{succ_of}
-use Rattle.base.proofs.Loops.{Filling, empty, stored, filled}
 use Rattle.sheet_bytes.proofs.succs_of.Goals as goal
 
-pub loop-i-init : goal.loop-i-init
-loop-i-init c = empty
-
-pub loop-i-preserved : goal.loop-i-preserved
-loop-i-preserved c = search stored
-
 pub returns : goal.returns
-returns c = search filled
+returns c = made_by _ (succ_of c.args.bytes.now c.args.at c.args.e) (λ x y q k. search (rules, tests)) _ c.from_fn.ensures.items

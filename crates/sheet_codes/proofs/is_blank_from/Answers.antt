@@ -1,17 +1,10 @@
-use Rattle.base.proofs.Loops.{starts, stops, goes_on, ends}
+use Rattle.std.proofs.Common.{◌||◌, eqb, ltb, refl, rules}
+use borrow.Author.Tests.{tests}
+use Rattle.base.proofs.Chains.{all_below}
+use Rattle.sheet_spec.specs.Kept.{code_at}
 use Rattle.sheet_spec.specs.Rules.{codes_blank}
 use Rattle.sheet_codes.proofs.is_blank_from.Goals as goal
 
-pub loop-i-init : goal.loop-i-init
-loop-i-init c = starts
-
-pub returns-then-not-is_free : goal.returns-then-not-is_free
-unfolding codes_blank
-returns-then-not-is_free c = search stops
-
-pub loop-i-preserved : goal.loop-i-preserved
-loop-i-preserved c = search goes_on
-
 pub returns : goal.returns
 unfolding codes_blank
-returns c = search ends
+returns c = all_below (λ i. ltb i c.args.e || eqb (code_at c.args.codes.now i) 0) _ (refl) c.all.ensures.ran (λ x b q k. search (rules, tests))

@@ -1,17 +1,10 @@
-use Rattle.base.proofs.Loops.{starts, ends}
+use Rattle.std.proofs.Common.{◌+◌, eqb, rules}
+use borrow.Author.Tests.{tests}
+use Rattle.base.proofs.Chains.{all_below}
+use Rattle.sheet_spec.specs.Kept.{code_at}
 use Rattle.sheet_spec.specs.Rules.{first_codes_ok}
-use Rattle.sheet_codes.proofs.Steps.{another, its_own}
 use Rattle.sheet_codes.proofs.is_first.Goals as goal
-
-pub loop-i-init : goal.loop-i-init
-loop-i-init c = starts
-
-pub returns-then-codes-i : goal.returns-then-codes-i
-returns-then-codes-i c = search (another, c.if-codes-i.true)
-
-pub loop-i-preserved : goal.loop-i-preserved
-loop-i-preserved c = search its_own
 
 pub returns : goal.returns
 unfolding first_codes_ok
-returns c = search ends
+returns c = all_below (λ i. eqb (code_at c.args.codes.now i) (i + 1)) _ (cc) c.all.ensures.ran (λ x b q k. search (rules, tests))

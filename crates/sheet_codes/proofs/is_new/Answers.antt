@@ -1,17 +1,10 @@
-use Rattle.base.proofs.Loops.{starts, ends}
+use Rattle.std.proofs.Common.{not, eqb, refl, rules}
+use borrow.Author.Tests.{tests}
+use Rattle.base.proofs.Chains.{all_below}
+use Rattle.sheet_spec.specs.Kept.{code_at}
 use Rattle.sheet_spec.specs.Rules.{code_new}
-use Rattle.sheet_codes.proofs.Steps.{seen, not_seen}
 use Rattle.sheet_codes.proofs.is_new.Goals as goal
-
-pub loop-i-init : goal.loop-i-init
-loop-i-init c = starts
-
-pub returns-then-codes-i : goal.returns-then-codes-i
-returns-then-codes-i c = search seen
-
-pub loop-i-preserved : goal.loop-i-preserved
-loop-i-preserved c = search (not_seen, c.if-codes-i.false)
 
 pub returns : goal.returns
 unfolding code_new
-returns c = search ends
+returns c = all_below (λ i. not (eqb (code_at c.args.codes.now i) (code_at c.args.codes.now c.args.j))) _ (refl) c.all.ensures.ran (λ x b q k. search (rules, tests))

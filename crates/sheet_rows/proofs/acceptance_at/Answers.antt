@@ -1,6 +1,5 @@
 -- `sheet_rows::acceptance_at`: below 16 a row has the place, from 16 on it has none.
 use mathlib.Core.Path.{refl}
-use native.Mathlib.Omega.{arith}
 use Rattle.sheet_spec.specs.Kept.{acceptance}
 use Rattle.sheet_rows.proofs.Shape.{set_out}
 use Rattle.sheet_rows.proofs.acceptance_at.Goals as goal

@@ -1,9 +1,7 @@
 -- After v rounds the places of the first v nodes are filled.
-use Prim.Native.Nat.{◌*◌, ◌-◌}
-use native.Mathlib.Omega.{arith}
-use Rattle.base.proofs.Loops.{Filling, empty, filled}
+use Prim.Native.Nat.{◌*◌}
+use Rattle.base.proofs.Loops.{Filling}
 use Rattle.sheet_rows.specs.Tables.{flat_at}
-use Rattle.sheet_rows.proofs.Tables.{row_stored}
 use Rattle.sheet_rows.proofs.flat.Given as goal
 
 abbrev pub invariant-loop-v : goal.invariant-loop-v

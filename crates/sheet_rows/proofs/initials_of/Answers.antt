@@ -1,5 +1,4 @@
 use mathlib.Core.Path.{◌≡◌, refl, ap, ◌∙◌}
-use Prim.Native.Nat.{◌-◌, ◌≤◌}
 use native.Mathlib.Omega.{arith}
 use Rattle.sheet_spec.specs.Kept.{initials}
 use Rattle.sheet_rows.proofs.Shape.{succ_in}

@@ -1,5 +1,4 @@
 -- `sheet_rows::successor_of`: below 12 a row has the place, from 12 on it has none.
-use native.Mathlib.Omega.{arith}
 use Rattle.sheet_rows.proofs.Shape.{succ_in, succ_out}
 use Rattle.sheet_rows.proofs.successor_of.Goals as goal
 

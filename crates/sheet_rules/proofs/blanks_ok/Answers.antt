@@ -1,20 +1,10 @@
-use Prim.Native.Nat.{◌-◌}
-use native.Mathlib.Omega.{arith}
-use Rattle.sheet_spec.specs.Rules.{unused_ok, blanks_ok}
+use Rattle.std.proofs.Common.{refl, rules}
+use borrow.Author.Tests.{tests}
+use Rattle.base.proofs.Chains.{all_below}
 use Rattle.sheet_spec.specs.Kept.{row}
-use Rattle.base.proofs.Loops.{Passing, starts, stops, goes_on, ends}
+use Rattle.sheet_spec.specs.Rules.{unused_ok, blanks_ok}
 use Rattle.sheet_rules.proofs.blanks_ok.Goals as goal
-
-pub loop-v-init : goal.loop-v-init
-loop-v-init c = starts
-
-pub returns-then-not-unused_ok : goal.returns-then-not-unused_ok
-unfolding blanks_ok
-returns-then-not-unused_ok c = search stops
-
-pub loop-v-preserved : goal.loop-v-preserved
-loop-v-preserved c = search goes_on
 
 pub returns : goal.returns
 unfolding blanks_ok
-returns c = search ends
+returns c = all_below (λ v. unused_ok c.args.s.e c.args.s.n v (row c.args.s v)) _ refl c.all.ensures.ran (λ x b q k. search (rules, tests))

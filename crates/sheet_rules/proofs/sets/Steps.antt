@@ -16,10 +16,6 @@ use Rattle.sheet_spec.specs.contracts.Row as R
 use Rattle.sheet_rows.proofs.Shape.{set_out}
 use Rattle.sheet_rules.specs.SetShapes.{sets_alone}
 
-pub set_alone : (l : List ℕ) (j : ℕ) → acceptance (sets_alone l) j ≡ get_or l j 0
-unfolding acceptance sets_alone
-set_alone l j = refl
-
 pub sets_alone_lem : (i : ℕ) (r : Row) (j : ℕ) → set_ok i (sets_alone r.sets) j ≡ set_ok i r j
 unfolding set_ok ascends none_inside acceptance sets_alone
 sets_alone_lem i r j = refl

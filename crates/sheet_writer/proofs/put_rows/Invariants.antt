@@ -1,12 +1,8 @@
-use mathlib.Core.Path.{refl, ◌≡◌}
-use Prim.Native.Nat.{◌-◌, ◌≤◌}
-use native.Mathlib.Omega.{arith}
-use lib.ListN.{length}
-use Rattle.text_spec.specs.Adds.{Adds}
-use Rattle.base.specs.Joined.{joined}
-use Rattle.text_spec.proofs.JoinedLaws.{joined_none, joined_next, joined_end}
-use Rattle.sheet_writer.specs.Shapes.{node_bytes}
+-- After v rounds the rows of the first v nodes are put.
+use Rattle.std.specs.Prelude.{take}
+use Rattle.sheet_spec.specs.Encoding.{encode_rows}
+use Rattle.text.specs.Pages.{Puts}
 use Rattle.sheet_writer.proofs.put_rows.Given as goal
 
-abbrev pub invariant-loop-v : goal.invariant-loop-v
-invariant-loop-v l = (l.v ≤ l.s.n) × (length l.out ≡ length l.initial.out) × Adds (joined (node_bytes l.s) l.v) l.initial.out l.at l.out l.next
+abbrev pub invariant-loop-row : goal.invariant-loop-row
+invariant-loop-row l = Puts (encode_rows l.s.e (take l.row-index (take l.s.n l.s.rows))) l.initial.page l.page

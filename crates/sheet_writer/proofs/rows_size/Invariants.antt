@@ -1,11 +1,7 @@
-use mathlib.Core.Path.{sym, ◌∙◌}
-use Rattle.sheet_writer.specs.Laws.{size_next, row_small, size_end, size_none}
-use mathlib.Core.Path.{◌≡◌}
-use Prim.Native.Nat.{◌*◌, ◌-◌, ◌≤◌}
-use native.Mathlib.Omega.{arith}
-use Rattle.sheet_spec.specs.Kept.{row}
-use Rattle.sheet_writer.specs.Shapes.{size_to}
+-- After v rounds the size is that of the rows of the first v nodes.
+use Rattle.std.specs.Prelude.{◌≡◌, ◌*◌, ◌≤◌, length, take}
+use Rattle.sheet_spec.specs.Encoding.{encode_rows}
 use Rattle.sheet_writer.proofs.rows_size.Given as goal
 
-abbrev pub invariant-loop-v : goal.invariant-loop-v
-invariant-loop-v l = (l.v ≤ l.s.n) × (l.size ≡ size_to l.s l.v) × (l.size ≤ l.v * 45)
+abbrev pub invariant-loop-row : goal.invariant-loop-row
+invariant-loop-row l = (l.size ≡ length (encode_rows l.s.e (take l.row-index (take l.s.n l.s.rows)))) × (l.size ≤ l.row-index * 45)

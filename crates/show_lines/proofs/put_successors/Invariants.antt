@@ -1,13 +1,8 @@
--- After i rounds the lines of the events below i are added.
-use mathlib.Core.Path.{refl, ◌≡◌}
-use Prim.Native.Nat.{◌-◌, ◌≤◌}
-use native.Mathlib.Omega.{arith}
-use lib.ListN.{length}
+-- After i rounds the lines of the events below i are put.
 use Rattle.base.specs.Joined.{joined}
-use Rattle.text_spec.specs.Adds.{Adds}
-use Rattle.text_spec.proofs.JoinedLaws.{joined_none, joined_next, joined_end}
+use Rattle.text.specs.Pages.{Puts}
 use Rattle.text_sheet_spec.specs.Show.{successor_line}
 use Rattle.show_lines.proofs.put_successors.Given as goal
 
 abbrev pub invariant-loop-i : goal.invariant-loop-i
-invariant-loop-i l = (l.i ≤ l.e) × (length l.out ≡ length l.initial.out) × Adds (joined (successor_line l.row) l.i) l.initial.out l.at l.out l.next
+invariant-loop-i l = Puts (joined (successor_line l.row) l.i) l.initial.page l.page

@@ -3,10 +3,7 @@ use native.Mathlib.Omega.{arith}
 use Rattle.verdicts_layers.proofs.Fails.{failing_all}
 use Rattle.verdicts_layers.proofs.failing_all.Goals as goal
 
-pub write_verdicts-requires : goal.write_verdicts-requires
-write_verdicts-requires c = (omega arith, omega arith, omega arith)
-
 pub returns : goal.returns
 returns c =
     let a = c.args in
-    failing_all a.trace_only a.mine a.theirs a.p a.q a.e (omega arith) (omega arith) (omega arith) a.out.now a.total (omega arith) (omega arith) c.tables_of-tables.ensures c.write_verdicts.ensures
+    failing_all a.trace_only a.mine a.theirs a.p a.q a.e (omega arith) (omega arith) (omega arith) a.out.now a.total (omega arith) (omega arith) c.tables_of.ensures c.write_verdicts.ensures

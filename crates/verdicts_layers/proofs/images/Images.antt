@@ -8,6 +8,7 @@ use Prim.Native.Nat.{ℕ, zero, suc, ◌-◌, ◌^◌, ◌≤◌, ◌<◌}
 use native.Mathlib.Omega.{arith}
 use native.Mathlib.Decide.{ℕ_discrete}
 use lib.Bits.{bit_or, or_zero_l, or_zero_r}
+use lib.Pow.{pow_pos}
 use Rattle.base.proofs.Truth.{dec, and_l, and_r, and_i, or_e, or_l, or_r, same}
 use Rattle.base.specs.Range.{any}
 use Rattle.base.proofs.Range.{any→, any←}
@@ -126,3 +127,6 @@ module _ {b : List ℕ} {i from : ℕ} where
 
   pub walk_ends : {out rest : ℕ} → Walked b i from out rest → rest ≡ 0 → out ≡ image b i from 32
   walk_ends {out} h e = sym (or_zero_r out) ∙ ap (bit_or out) (sym (image_none b i 32)) ∙ rw e at h.whole
+
+-- the rounds of the walk
+pub ruleset walking = (walk_starts, walk_ends, least_lt, pow_pos)

@@ -1,7 +1,5 @@
 -- Before each layer, what is left of the test gives the whole answer.
-use native.Mathlib.Omega.{arith}
-use Prim.Native.Nat.{◌-◌}
-use Rattle.verdicts_layers.proofs.Rounds.{Left, at_first, at_hit, at_next, at_last}
+use Rattle.verdicts_layers.proofs.Rounds.{Left}
 use Rattle.verdicts_layers.proofs.is_failing_on.Given as goal
 
 abbrev pub invariant-loop-j : goal.invariant-loop-j

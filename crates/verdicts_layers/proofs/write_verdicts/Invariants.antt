@@ -1,7 +1,5 @@
 -- After k layers the first k verdicts are written, and what was seen and the layer give all the others.
-use Prim.Native.Nat.{◌-◌}
-use native.Mathlib.Omega.{arith}
-use Rattle.verdicts_layers.proofs.Rounds.{Judged, judged_none, judged_more, judged_all}
+use Rattle.verdicts_layers.proofs.Rounds.{Judged}
 use Rattle.verdicts_layers.proofs.write_verdicts.Given as goal
 
 abbrev pub invariant-loop-k : goal.invariant-loop-k

@@ -1,7 +1,5 @@
 -- After j rounds the first j places are filled.
-use Prim.Native.Nat.{◌-◌}
-use native.Mathlib.Omega.{arith}
-use Rattle.base.proofs.Loops.{Filling, empty, stored, filled}
+use Rattle.base.proofs.Loops.{Filling}
 use Rattle.verdicts_tables.specs.Shapes.{bit_at}
 use Rattle.verdicts_tables.proofs.bits_of.Given as goal
 

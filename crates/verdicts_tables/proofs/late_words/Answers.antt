@@ -1,15 +1,5 @@
-use Prim.Native.Nat.{◌-◌}
-use native.Mathlib.Omega.{arith}
-use Rattle.base.proofs.Loops.{Filling, empty, stored, filled}
-use Rattle.verdicts_tables.specs.Shapes.{late_words}
+use Rattle.base.proofs.Loops.{empty}
 use Rattle.verdicts_tables.proofs.late_words.Goals as goal
 
 pub loop-n-init : goal.loop-n-init
 loop-n-init c = empty
-
-pub loop-n-preserved : goal.loop-n-preserved
-unfolding late_words
-loop-n-preserved c = stored c.loop-n.invariant (omega arith) c.late_word-x.ensures
-
-pub returns : goal.returns
-returns c = filled c.loop-n.invariant (omega arith)

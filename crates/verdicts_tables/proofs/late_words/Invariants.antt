@@ -1,7 +1,5 @@
 -- After n rounds the words of the first n nodes are filled in.
-use Prim.Native.Nat.{◌-◌}
-use native.Mathlib.Omega.{arith}
-use Rattle.base.proofs.Loops.{Filling, empty, stored, filled}
+use Rattle.base.proofs.Loops.{Filling}
 use Rattle.verdicts_tables.specs.Shapes.{late_words}
 use Rattle.verdicts_tables.proofs.late_words.Given as goal
 

@@ -1,10 +1,7 @@
 -- After m rounds the first m nodes are looked at.
-use Prim.Native.Nat.{◌-◌}
-use native.Mathlib.Omega.{arith}
 use Rattle.refinement_spec.specs.ViolatingPairs.{has_refusal}
 use Rattle.sheet_rows.specs.Tables.{row_in}
-use Rattle.verdicts_tables.specs.Shapes.{refusal_word}
-use Rattle.verdicts_tables.proofs.Words.{Gathers, none, more, gathered}
+use Rattle.verdicts_tables.proofs.Words.{Gathers}
 use Rattle.verdicts_tables.proofs.refusal_word.Given as goal
 
 abbrev pub invariant-loop-m : goal.invariant-loop-m

@@ -1,10 +1,7 @@
 -- After m rounds the first m nodes are looked at.
-use Prim.Native.Nat.{◌-◌}
-use native.Mathlib.Omega.{arith}
 use Rattle.sheet_spec.specs.Kept.{may_stop}
 use Rattle.sheet_rows.specs.Tables.{row_in}
-use Rattle.verdicts_tables.specs.Shapes.{stop_word}
-use Rattle.verdicts_tables.proofs.Words.{Gathers, none, more, gathered}
+use Rattle.verdicts_tables.proofs.Words.{Gathers}
 use Rattle.verdicts_tables.proofs.stop_word.Given as goal
 
 abbrev pub invariant-loop-m : goal.invariant-loop-m

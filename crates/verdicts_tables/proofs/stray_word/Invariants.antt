@@ -1,12 +1,9 @@
 -- After m rounds the first m nodes are looked at.
-use Prim.Native.Nat.{◌-◌}
-use native.Mathlib.Omega.{arith}
 use mathlib.Core.Bool.{not}
 use lib.Dec.{eqb}
 use lib.ListN.{get_or}
 use Rattle.refinement_spec.specs.ViolatingPairs.{strays}
-use Rattle.verdicts_tables.specs.Shapes.{stray_word}
-use Rattle.verdicts_tables.proofs.Words.{Gathers, none, more, gathered}
+use Rattle.verdicts_tables.proofs.Words.{Gathers}
 use Rattle.verdicts_tables.proofs.stray_word.Given as goal
 
 abbrev pub invariant-loop-m : goal.invariant-loop-m

@@ -1,10 +1,8 @@
 -- `violating::table`. After k rounds the first k pairs are told in the table.
 use mathlib.Core.Bool.{false}
-use Prim.Native.Nat.{◌-◌, ◌≤◌}
-use native.Mathlib.Omega.{arith}
-use Rattle.base.proofs.Loops.{Filling, empty, stored}
+use Prim.Native.Nat.{◌≤◌}
+use Rattle.base.proofs.Loops.{Filling}
 use Rattle.comparison.specs.ViolatingTable.{violating_at}
-use Rattle.comparison.proofs.violating.Pairs.{q_some, pairs_most, first_node, second_node, bad_is, bad_all}
 use Rattle.comparison.proofs.violating.table.Given as goal
 
 abbrev pub invariant-loop-k : goal.invariant-loop-k

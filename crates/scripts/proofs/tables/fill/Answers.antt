@@ -1,9 +1,7 @@
 use mathlib.Core.Path.{◌≡◌}
-use Prim.Native.Nat.{◌*◌, ◌-◌, ◌≤◌}
 use native.Mathlib.Nat.{zero-mul}
 use native.Mathlib.Omega.{arith}
-use Rattle.scripts.specs.Shapes.{next_cell, Filled}
-use Rattle.scripts.proofs.tables.Cells.{filled_none, filled_as}
+use Rattle.scripts.proofs.tables.Cells.{filled_none}
 use Rattle.scripts.proofs.tables.fill.Goals as goal
 
 pub loop-n-init : goal.loop-n-init

@@ -1,10 +1,6 @@
 -- After n rounds the places of the pairs of the first n nodes are filled.
-use mathlib.Core.Path.{◌≡◌}
-use Prim.Native.Nat.{◌*◌, ◌-◌, ◌≤◌}
-use native.Mathlib.Nat.{zero-mul}
-use native.Mathlib.Omega.{arith}
+use Prim.Native.Nat.{◌*◌, ◌≤◌}
 use Rattle.scripts.specs.Shapes.{next_cell, Filled}
-use Rattle.scripts.proofs.tables.Cells.{filled_none, filled_as}
 use Rattle.scripts.proofs.tables.fill.Given as goal
 
 abbrev pub invariant-loop-n : goal.invariant-loop-n

@@ -1,9 +1,7 @@
-use mathlib.Core.Path.{◌≡◌, sym, ◌∙◌}
-use Prim.Native.Nat.{◌+◌, ◌*◌, ◌-◌, ◌≤◌}
+use mathlib.Core.Path.{sym, ◌∙◌}
 use native.Mathlib.Nat.{suc-mul}
 use native.Mathlib.Numerals.{add-one}
 use native.Mathlib.Omega.{arith}
-use Rattle.scripts.specs.Shapes.{next_cell, Filled}
 use Rattle.scripts.proofs.tables.Cells.{pair_few, filled_more, filled_as, next_pair}
 use Rattle.scripts.proofs.tables.fill_row.Goals as goal
 

@@ -1,11 +1,6 @@
 -- After m rounds the places of the first m pairs of node n are filled too.
-use mathlib.Core.Path.{◌≡◌, sym, ◌∙◌}
-use Prim.Native.Nat.{◌+◌, ◌*◌, ◌-◌, ◌≤◌}
-use native.Mathlib.Nat.{suc-mul}
-use native.Mathlib.Numerals.{add-one}
-use native.Mathlib.Omega.{arith}
+use Prim.Native.Nat.{◌+◌, ◌*◌, ◌≤◌}
 use Rattle.scripts.specs.Shapes.{next_cell, Filled}
-use Rattle.scripts.proofs.tables.Cells.{pair_few, filled_more, filled_as, next_pair}
 use Rattle.scripts.proofs.tables.fill_row.Given as goal
 
 abbrev pub invariant-loop-m : goal.invariant-loop-m

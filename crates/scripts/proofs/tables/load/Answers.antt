@@ -1,6 +1,5 @@
 -- The three numbers of a place.
 use mathlib.Core.Path.{refl}
-use native.Mathlib.Omega.{arith}
 use Rattle.scripts.specs.Shapes.{cell}
 use Rattle.scripts.proofs.tables.load.Goals as goal
 

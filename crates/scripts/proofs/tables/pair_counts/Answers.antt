@@ -1,7 +1,5 @@
 use mathlib.Core.Path.{◌≡◌, sym}
-use Prim.Native.Nat.{◌-◌, ◌≤◌}
 use native.Mathlib.Omega.{arith}
-use Rattle.scripts.specs.Shapes.{cell, place_sums}
 use Rattle.scripts.proofs.tables.Cells.{place_lt, place_few}
 use Rattle.scripts.proofs.tables.Sums.{places_none, places_more, places_room}
 use Rattle.scripts.proofs.tables.pair_counts.Goals as goal

@@ -1,8 +1,7 @@
-use mathlib.Core.Path.{◌≡◌, refl}
-use Prim.Native.Nat.{◌*◌, ◌-◌, ◌≤◌}
+use mathlib.Core.Path.{refl}
 use native.Mathlib.Nat.{mul-le-mul}
 use native.Mathlib.Omega.{arith}
-use Rattle.scripts.specs.Shapes.{one, Filled}
+use Rattle.scripts.specs.Shapes.{one}
 use Rattle.scripts.proofs.tables.Cells.{filled_none, filled_more, filled_as}
 use Rattle.scripts.proofs.tables.start.Goals as goal
 

@@ -1,10 +1,7 @@
 -- After c rounds the first c places hold one script, which both walk.
-use mathlib.Core.Path.{◌≡◌, refl}
-use Prim.Native.Nat.{◌*◌, ◌-◌, ◌≤◌}
-use native.Mathlib.Nat.{mul-le-mul}
-use native.Mathlib.Omega.{arith}
+use mathlib.Core.Path.{◌≡◌}
+use Prim.Native.Nat.{◌*◌, ◌≤◌}
 use Rattle.scripts.specs.Shapes.{one, Filled}
-use Rattle.scripts.proofs.tables.Cells.{filled_none, filled_more, filled_as}
 use Rattle.scripts.proofs.tables.start.Given as goal
 
 abbrev pub invariant-loop-c : goal.invariant-loop-c

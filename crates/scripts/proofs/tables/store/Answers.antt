@@ -1,5 +1,4 @@
 -- The three numbers are put one after another.
-use native.Mathlib.Omega.{arith}
 use Rattle.scripts.proofs.tables.Cells.{stored}
 use Rattle.scripts.proofs.tables.store.Goals as goal
 

@@ -1,7 +1,7 @@
 -- No sum leaves 64 bits.
 use mathlib.Core.Path.{ap}
 use native.Mathlib.Omega.{arith}
-use Rattle.scripts.specs.declared.Counts.{Counts}
+use Rattle.scripts_spec.specs.declared.Counts.{Counts}
 use Rattle.scripts.specs.Shapes.{plus}
 use Rattle.scripts.proofs.tables.with_place.Goals as goal
 

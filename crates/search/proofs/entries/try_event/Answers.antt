@@ -84,16 +84,16 @@ pub returns-then-d-q : goal.returns-then-d-q
 returns-then-d-q c =
     step_both _ _ _ _ _ _ _ _ _ _ _
     c.requires _ _ _
-    c.wide-r.ensures
-    c.wide-d.ensures
+    c.from-r.ensures
+    c.from-d.ensures
     c.if-r-p.true
     c.if-d-q.true c.visit.ensures
 
 pub returns-else-d-q : goal.returns-else-d-q
 returns-else-d-q c =
     step_second _ _ _ _ _ _ _ _ _ _ _ c.requires _
-    c.wide-d.ensures c.if-d-q.false
+    c.from-d.ensures c.if-d-q.false
 
 pub returns-else-r-p : goal.returns-else-r-p
 returns-else-r-p c =
-    step_first _ _ _ _ _ _ _ _ _ _ _ c.requires _ c.wide-r.ensures c.if-r-p.false
+    step_first _ _ _ _ _ _ _ _ _ _ _ c.requires _ c.from-r.ensures c.if-r-p.false

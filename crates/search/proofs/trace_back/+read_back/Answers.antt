@@ -15,17 +15,17 @@ bounds-links-place t c = (back_link _ _ _ c.if-d-eq0.false c.requires.0).inside
 
 pub overflow_sub-events : goal.overflow_sub-events
 unfolding link_in
-overflow_sub-events t c = rw c.number-link.ensures (back_link _ _ _ c.if-d-eq0.false c.requires.0).link
+overflow_sub-events t c = rw c.from-link.ensures (back_link _ _ _ c.if-d-eq0.false c.requires.0).link
 
 pub overflow_sub-link : goal.overflow_sub-link
 unfolding link_in
-overflow_sub-link t c = rw c.number-link.ensures (back_link _ _ _ c.if-d-eq0.false c.requires.0).link
+overflow_sub-link t c = rw c.from-link.ensures (back_link _ _ _ c.if-d-eq0.false c.requires.0).link
 
 pub read_back-requires : goal.read_back-requires
 unfolding link_in
 read_back-requires t c = (
   omega (arith, c.if-d-eq0.false),
-  (rw c.number-link.ensures (back_link _ _ _ c.if-d-eq0.false c.requires.0).rest, simp length-set c.requires.1),
+  (rw c.from-link.ensures (back_link _ _ _ c.if-d-eq0.false c.requires.0).rest, simp length-set c.requires.1),
 )
 
 pub returns : goal.returns
@@ -33,4 +33,4 @@ unfolding link_in
 returns t c =
     let a = c.args in
     read_more (λ x. x) (link_in a.links.now.now) a.place _ _ a.events.now _ c.if-d-eq0.false
-    (omega (arith, c.requires.0.few, c.requires.1)) c.number-link.ensures c.read_back.ensures
+    (omega (arith, c.requires.0.few, c.requires.1)) c.from-link.ensures c.read_back.ensures

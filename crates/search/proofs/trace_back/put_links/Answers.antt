@@ -17,19 +17,19 @@ pub overflow_add-work : goal.overflow_add-work
 overflow_add-work c =
     let o = c.requires in
     let l = c.loop-x in
-    omega (arith, o, o.nodes l.x (omega arith), linked_node _ _ _ l.work l.invariant.1 _ c.number-node.ensures)
+    omega (arith, o, o.nodes l.x (omega arith), linked_node _ _ _ l.work l.invariant.1 _ c.from-node.ensures)
 
 pub offset_bounds-work-n : goal.offset_bounds-work-n
 offset_bounds-work-n c =
     let o = c.requires in
     let l = c.loop-x in
-    omega (arith, o, o.nodes l.x (omega arith), linked_node _ _ _ l.work l.invariant.1 _ c.number-node.ensures)
+    omega (arith, o, o.nodes l.x (omega arith), linked_node _ _ _ l.work l.invariant.1 _ c.from-node.ensures)
 
 pub bounds-work-n : goal.bounds-work-n
 bounds-work-n c =
     let o = c.requires in
     let l = c.loop-x in
-    omega (arith, o, o.nodes l.x (omega arith), linked_node _ _ _ l.work l.invariant.1 _ c.number-node.ensures)
+    omega (arith, o, o.nodes l.x (omega arith), linked_node _ _ _ l.work l.invariant.1 _ c.from-node.ensures)
 
 pub offset_bounds-work-x-in-loop-x : goal.offset_bounds-work-x-in-loop-x
 offset_bounds-work-x-in-loop-x c = omega (arith, c.requires)
@@ -45,7 +45,7 @@ loop-x-preserved c =
     let o = c.requires in
     let l = c.loop-x in (
       omega arith,
-      linked_next _ _ _ l.work _ l.invariant.1 (omega (arith, o)) (linked_link _ _ _ l.work l.invariant.1 _ c.number-node.ensures (omega (arith, o))),
+      linked_next _ _ _ l.work _ l.invariant.1 (omega (arith, o)) (linked_link _ _ _ l.work l.invariant.1 _ c.from-node.ensures (omega (arith, o))),
       length-set l.work l.x _ ∙ l.invariant.2,
     )
 

@@ -1,6 +1,5 @@
 -- Within the slice the byte is the list's; past its end the list reads as 0.
 use mathlib.Core.Path.{refl, sym}
-use native.Mathlib.Omega.{arith}
 use lib.ListN.{get_or-eq_default}
 use Rattle.sheet_bytes.proofs.layout.byte_at.Goals as goal
 

@@ -1,8 +1,4 @@
-use Prim.Native.Nat.{◌-◌}
-use native.Mathlib.Omega.{arith}
-use Rattle.sheet_spec.specs.Spelling.{nodes_at}
-use Rattle.sheet_spec.specs.Refusals.{layout_fault}
-use Rattle.sheet_bytes.proofs.layout.Nodes.{Walking, sets_out, cut_short, count_wrong, cut_inside, walks_on, more_behind, all_passed}
+use Rattle.sheet_bytes.proofs.layout.Nodes.{sets_out, cut_short, count_wrong, cut_inside, walks_on, more_behind, all_passed}
 use Rattle.sheet_bytes.proofs.layout.layout_fault.Goals as goal
 
 pub loop-v-init : goal.loop-v-init

@@ -1,9 +1,7 @@
 -- After v rounds the walk over the nodes that are left gives the answer; each law is one way out of it.
-use Prim.Native.Nat.{◌-◌}
-use native.Mathlib.Omega.{arith}
 use Rattle.sheet_spec.specs.Spelling.{nodes_at}
 use Rattle.sheet_spec.specs.Refusals.{layout_fault}
-use Rattle.sheet_bytes.proofs.layout.Nodes.{Walking, sets_out, cut_short, count_wrong, cut_inside, walks_on, more_behind, all_passed}
+use Rattle.sheet_bytes.proofs.layout.Nodes.{Walking}
 use Rattle.sheet_bytes.proofs.layout.layout_fault.Given as goal
 
 abbrev pub invariant-loop-v : goal.invariant-loop-v

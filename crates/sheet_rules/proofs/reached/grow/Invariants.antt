@@ -1,8 +1,6 @@
 -- The loop's invariant: the set is that of one round over the first u nodes.
-use mathlib.Core.Path.{◌≡◌, refl}
-use Prim.Native.Nat.{◌-◌, ◌≤◌}
-use native.Mathlib.Numerals.{add-one}
-use native.Mathlib.Omega.{arith}
+use mathlib.Core.Path.{◌≡◌}
+use Prim.Native.Nat.{◌≤◌}
 use Rattle.sheet_rules.specs.ReachShapes.{grown}
 use Rattle.sheet_rules.proofs.reached.grow.Given as goal
 

@@ -1,5 +1,4 @@
 -- The test is that of the definition.
-use native.Mathlib.Omega.{arith}
 use Rattle.sheet_rules.specs.ReachShapes.{with_targets}
 use Rattle.sheet_rules.proofs.reached.join.Goals as goal
 

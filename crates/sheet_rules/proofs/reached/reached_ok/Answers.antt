@@ -1,18 +1,9 @@
-use Prim.Native.Nat.{◌-◌}
-use native.Mathlib.Omega.{arith}
+use Rattle.std.proofs.Common.{rules}
+use borrow.Author.Tests.{tests}
+use Rattle.base.proofs.Chains.{all_below}
 use Rattle.events.specs.Sets.{has}
-use Rattle.base.proofs.Loops.{Passing, starts, stops, goes_on, ends}
 use Rattle.sheet_rules.proofs.reached.Rounds.{reached_is}
 use Rattle.sheet_rules.proofs.reached.reached_ok.Goals as goal
 
-pub loop-v-init : goal.loop-v-init
-loop-v-init c = starts
-
-pub returns-then-not-has_node : goal.returns-then-not-has_node
-returns-then-not-has_node c = search (reached_is, stops)
-
-pub loop-v-preserved : goal.loop-v-preserved
-loop-v-preserved c = search goes_on
-
 pub returns : goal.returns
-returns c = search (reached_is, ends)
+returns c = reached_is c.args.s c.requires c.targets.ensures (cc) (all_below (has c.seen_after-seen.result) _ (cc) c.all.ensures.ran (λ x b q k. search (rules, tests)))

@@ -1,8 +1,6 @@
 -- The loop's invariant: the set is that of k rounds.
-use mathlib.Core.Path.{◌≡◌, refl}
-use Prim.Native.Nat.{◌-◌, ◌≤◌}
-use native.Mathlib.Omega.{arith}
-use native.Mathlib.Numerals.{add-one}
+use mathlib.Core.Path.{◌≡◌}
+use Prim.Native.Nat.{◌≤◌}
 use Rattle.sheet_rules.specs.ReachShapes.{rounds}
 use Rattle.sheet_rules.proofs.reached.seen_after.Given as goal
 

@@ -1,15 +1,9 @@
-use Prim.Native.Nat.{◌-◌}
-use native.Mathlib.Omega.{arith}
+use Rattle.std.proofs.Common.{rules}
+use borrow.Author.Tests.{tests}
+use Rattle.base.proofs.Chains.{made_by}
 use Rattle.sheet_rules.specs.ReachShapes.{targets_of}
-use Rattle.base.proofs.Loops.{Filling, empty, stored, filled}
 use Rattle.sheet_rules.proofs.reached.targets.Goals as goal
 
-pub loop-v-init : goal.loop-v-init
-loop-v-init c = empty
-
-pub loop-v-preserved : goal.loop-v-preserved
-unfolding targets_of
-loop-v-preserved c = search stored
-
 pub returns : goal.returns
-returns c = search filled
+unfolding targets_of
+returns c = made_by _ (targets_of c.args.s) (λ x y q k. search (rules, tests)) _ c.from_fn.ensures.items

@@ -1,5 +1,4 @@
 -- `rows::succ_at`: below 12 the place is read, from 12 on there is none.
-use native.Mathlib.Omega.{arith}
 use borrow.Author.Tests.{lt-ltb, le-ltb}
 use Rattle.sheet_rules.proofs.rows.succ_at.Goals as goal
 

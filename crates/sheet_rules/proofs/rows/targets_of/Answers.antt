@@ -1,5 +1,5 @@
 use mathlib.Core.Path.{◌≡◌, refl, ap, ◌∙◌}
-use Prim.Native.Nat.{ℕ, ◌-◌, ◌≤◌}
+use Prim.Native.Nat.{ℕ}
 use native.Mathlib.Omega.{arith}
 use Rattle.sheet_rules.specs.RowShapes.{node_added, targets}
 use Rattle.sheet_rules.proofs.rows.Steps.{succ_is, target_more}
@@ -14,7 +14,7 @@ loop-i-preserved c =
     let l = c.loop-i in
     let s = c in
     let a = s.args in
-    let v = c.wide.ensures ∙ c.succ_at.ensures ∙ succ_is a.row _ s.well_formed.0 l.i in
+    let v = c.from.ensures ∙ c.succ_at.ensures ∙ succ_is a.row _ s.well_formed.0 l.i in
     (omega arith, c.with_target-set.ensures ∙ ap (node_added l.set) v ∙ target_more a.row l.set l.i l.invariant.1)
 
 pub returns : goal.returns

@@ -1,9 +1,7 @@
 -- `rows::targets_of`. The loop's invariant: the set has the nodes to which the events below `i` lead.
-use mathlib.Core.Path.{◌≡◌, refl, ap, ◌∙◌}
-use Prim.Native.Nat.{ℕ, ◌-◌, ◌≤◌}
-use native.Mathlib.Omega.{arith}
-use Rattle.sheet_rules.specs.RowShapes.{node_added, targets}
-use Rattle.sheet_rules.proofs.rows.Steps.{succ_is, target_more}
+use mathlib.Core.Path.{◌≡◌}
+use Prim.Native.Nat.{◌≤◌}
+use Rattle.sheet_rules.specs.RowShapes.{targets}
 use Rattle.sheet_rules.proofs.rows.targets_of.Given as goal
 
 abbrev pub invariant-loop-i : goal.invariant-loop-i

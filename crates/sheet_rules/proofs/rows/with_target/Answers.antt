@@ -1,5 +1,4 @@
 -- A number from 32 on leaves the set as it is.
-use native.Mathlib.Omega.{arith}
 use borrow.Author.Tests.{lt-ltb, le-ltb}
 use Rattle.sheet_rules.specs.RowShapes.{node_added}
 use Rattle.sheet_rules.proofs.rows.with_target.Goals as goal

@@ -1,8 +1,5 @@
 -- Before each round, where the event leads from the nodes that are left is what is missing.
-use native.Mathlib.Omega.{arith}
-use lib.Pow.{pow_pos}
-use Rattle.nodes.specs.NodeSets.{least_node, least_lt}
-use Rattle.verdicts_layers.proofs.images.Images.{Walked, walk_starts, walk_on, walk_ends}
+use Rattle.verdicts_layers.proofs.images.Images.{Walked}
 use Rattle.verdicts_layers.proofs.images.image.Given as goal
 
 abbrev pub invariant-loop-rest : goal.invariant-loop-rest

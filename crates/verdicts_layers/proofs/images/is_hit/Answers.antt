@@ -1,9 +1,5 @@
-use mathlib.Core.Path.{◌≡◌, refl, sym}
-use mathlib.Core.Bool.{Bool, false}
-use mathlib.Core.List.{List}
-use Prim.Native.Nat.{ℕ, ◌-◌, ◌≤◌}
+use mathlib.Core.Path.{refl, sym}
 use native.Mathlib.Omega.{arith}
-use lib.ListN.{get_or}
 use Rattle.base.specs.Range.{any}
 use Rattle.base.proofs.Range.{any←, any_more, any_done}
 use Rattle.events.specs.Sets.{meets}

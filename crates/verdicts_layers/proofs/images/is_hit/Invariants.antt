@@ -1,15 +1,11 @@
 -- The loop leaves at the first node of the reference with a pair among the words.
-use mathlib.Core.Path.{◌≡◌, refl, sym}
+use mathlib.Core.Path.{◌≡◌}
 use mathlib.Core.Bool.{Bool, false}
 use mathlib.Core.List.{List}
-use Prim.Native.Nat.{ℕ, ◌-◌, ◌≤◌}
-use native.Mathlib.Omega.{arith}
+use Prim.Native.Nat.{ℕ, ◌≤◌}
 use lib.ListN.{get_or}
 use Rattle.base.specs.Range.{any}
-use Rattle.base.proofs.Range.{any←, any_more, any_done}
 use Rattle.events.specs.Sets.{meets}
-use borrow.Author.Tests.{eq-eqb, ne_eqb}
-use Rattle.verdicts_layers.specs.ImageShapes.{layer_hits}
 use Rattle.verdicts_layers.proofs.images.is_hit.Given as goal
 
 -- a node of the device is in both words of node n

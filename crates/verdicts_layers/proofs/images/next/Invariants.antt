@@ -1,9 +1,7 @@
 -- After n rounds the pairs reached from the first n nodes of the reference are placed.
-use mathlib.Core.Path.{◌≡◌, refl}
-use Prim.Native.Nat.{◌-◌, ◌≤◌}
-use native.Mathlib.Omega.{arith}
+use mathlib.Core.Path.{◌≡◌}
+use Prim.Native.Nat.{◌≤◌}
 use Rattle.verdicts_layers.specs.ImageShapes.{next}
-use Rattle.verdicts_layers.proofs.images.Moves.{next_more}
 use Rattle.verdicts_layers.proofs.images.next.Given as goal
 
 abbrev pub invariant-loop-n : goal.invariant-loop-n

@@ -1,9 +1,7 @@
 -- From no node nothing is placed; else after i rounds the pairs of the first i events are.
-use mathlib.Core.Path.{◌≡◌, refl}
-use Prim.Native.Nat.{◌-◌, ◌≤◌}
-use native.Mathlib.Omega.{arith}
+use mathlib.Core.Path.{◌≡◌}
+use Prim.Native.Nat.{◌≤◌}
 use Rattle.verdicts_layers.specs.ImageShapes.{spread}
-use Rattle.verdicts_layers.proofs.images.Moves.{spread_none, spread_more}
 use Rattle.verdicts_layers.proofs.images.spread.Given as goal
 
 abbrev pub invariant-loop-i : goal.invariant-loop-i

@@ -1,8 +1,0 @@
--- `cases_pairs::holding`. After i rounds the count is at most i.
-use Prim.Native.Nat.{◌-◌, ◌≤◌}
-use native.Mathlib.Omega.{arith}
-use lib.ListN.{length}
-use Rattle.cases_pairs.proofs.holding.Given as goal
-
-abbrev pub invariant-loop-i : goal.invariant-loop-i
-invariant-loop-i l = (l.count ≤ l.i) × (l.i ≤ length l.list)

@@ -1,7 +1,0 @@
--- `cases_sheets::succs_holding`. After i rounds the count is at most i.
-use Prim.Native.Nat.{◌-◌, ◌≤◌}
-use native.Mathlib.Omega.{arith}
-use Rattle.cases_sheets.proofs.succs_holding.Given as goal
-
-abbrev pub invariant-loop-i : goal.invariant-loop-i
-invariant-loop-i l = (l.count ≤ l.i) × (l.i ≤ 12)

@@ -1,9 +1,0 @@
--- The pieces of the line, one after another.
-use native.Mathlib.Omega.{arith}
-use Rattle.text_spec.proofs.AddsLaws.{adds_then}
-use Rattle.live_lines_spec.specs.Answers.{refused_set_line}
-use Rattle.live_lines.proofs.put_refused.Goals as goal
-
-pub returns : goal.returns
-unfolding refused_set_line
-returns c = adds_then c.put-a.ensures (adds_then c.put_set-b.ensures c.put.ensures)

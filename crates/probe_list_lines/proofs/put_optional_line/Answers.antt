@@ -1,9 +1,0 @@
--- The pieces of the line, one after another.
-use native.Mathlib.Omega.{arith}
-use Rattle.text_sheet_spec.specs.Node.{optional_line}
-use Rattle.text_spec.proofs.AddsLaws.{adds_then}
-use Rattle.probe_list_lines.proofs.put_optional_line.Goals as goal
-
-pub returns : goal.returns
-unfolding optional_line
-returns c = adds_then c.put-a.ensures (adds_then c.put_number-b.ensures (adds_then c.put-c.ensures (adds_then c.put_members-d.ensures c.put.ensures)))

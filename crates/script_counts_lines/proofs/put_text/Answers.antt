@@ -1,0 +1,15 @@
+-- The lines of the sheets are the text, or what is found of two accepted ones makes it whole.
+use Rattle.text_pair_spec.specs.Program.{pair_text}
+use Rattle.text_pair_spec.proofs.OpeningLaws.{opens_found, opens_refused}
+use Rattle.script_counts_lines_spec.specs.Program.{counted_lines, scripts_text}
+use Rattle.script_counts_lines.proofs.put_text.Goals as goal
+
+pub returns-in-Some : goal.returns-in-Some
+unfolding scripts_text pair_text
+returns-in-Some c =
+    opens_found (counted_lines c.args.word.now) c.put_pair-reference.ensures (rw (c.zip.ensures, c.ok.ensures.value, c.ok-2.ensures.value) at c.in-Some.is) c.put_counted.ensures
+
+pub returns-in_default : goal.returns-in_default
+unfolding scripts_text pair_text
+returns-in_default c =
+    opens_refused (counted_lines c.args.word.now) c.put_pair-reference.ensures (rw (c.zip.ensures, c.ok.ensures.value, c.ok-2.ensures.value) at c.in_default.is)

@@ -1,0 +1,8 @@
+-- After i rounds the lines of the codes of the events below i are put.
+use Rattle.base.specs.Joined.{joined}
+use Rattle.text.specs.Pages.{Puts}
+use Rattle.text_sheet_spec.specs.Show.{code_line}
+use Rattle.show_lines.proofs.put_codes.Given as goal
+
+abbrev pub invariant-loop-i : goal.invariant-loop-i
+invariant-loop-i l = Puts (joined (code_line l.codes) l.i) l.initial.page l.page

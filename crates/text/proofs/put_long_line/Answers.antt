@@ -1,8 +1,0 @@
--- The pieces of the line, one after another.
-use Rattle.text_spec.specs.Lines.{number_line}
-use Rattle.text_spec.proofs.AddsLaws.{adds_then}
-use Rattle.text.proofs.put_long_line.Goals as goal
-
-pub returns : goal.returns
-unfolding number_line
-returns c = adds_then c.put-a.ensures (adds_then c.put_long-b.ensures c.put.ensures)
