@@ -64,14 +64,18 @@ fn number(answer: Result<(), Refusal>) -> u8
     }
 }
 
-// The sheet of a reading, or the number of its refusal.
-fn kept(answer: Result<Sheet, Refusal>) -> ReadSheet
-    ensures { result ≡ kept answer }
+// The sheet of a reading, or the number of its refusal. The reading is lent: handed over, it would stand in the frame of
+// the call once more.
+fn kept(answer: &Result<Sheet, Refusal>) -> ReadSheet
+    ensures { result ≡ kept answer.now }
 {
     match answer {
-        Ok(sheet) => ReadSheet { refusal: 0, sheet },
+        Ok(sheet) => ReadSheet {
+            refusal: 0,
+            sheet: *sheet,
+        },
         Err(cause) => ReadSheet {
-            refusal: u8::from(cause),
+            refusal: u8::from(*cause),
             sheet: NO_SHEET,
         },
     }
@@ -82,7 +86,7 @@ fn kept(answer: Result<Sheet, Refusal>) -> ReadSheet
 pub extern "C" fn bench_read(bytes: &[u8]) -> ReadSheet
     ensures { result ≡ read_sheet bytes.now }
 {
-    kept(sheet::read(bytes))
+    kept(&sheet::read(bytes))
 }
 
 // The refusal of a kept sheet with any content: 3, 18 or 5 to 8, 0 for none.

@@ -113,15 +113,15 @@ fn read_file(rt: &(impl Env + Files), list: &mut [u8]) -> std::io::Result<usize>
     read_to_end(&mut file, list)
 }
 
-// The test that the words ask for, if they ask for one, where `four` says whether there is a fourth.
-fn asked_for(rt: &impl Env, four: bool) -> Option<Asked> {
+// The test that the words ask for, where `four` says whether there is a fourth.
+fn asked_for(rt: &impl Env, four: bool) -> Asked {
     let mut k = [0; 64];
     let mut h = [0; 64];
     let mut word = [0; 64];
     let a = arguments::put_word(rt, 2, &mut k);
     let b = arguments::put_word(rt, 3, &mut h);
     let c = arguments::put_word(rt, 4, &mut word);
-    live_words::asked_of(
+    live_words::test_of(
         text::front(&k, a),
         text::front(&h, b),
         four,
@@ -171,25 +171,16 @@ fn unread(error: Error) {
     io::write_all(STDERR_FILENO, b"\n");
 }
 
-// Writes what the opening of a test prints, on a reference of n nodes and e events.
-fn say_opening(asked: Asked, n: u8, e: u8, answer: Answer) -> bool {
+// Writes what an opening prints, on a reference of n nodes and e events; `fault` is its own refusal, 0 for none.
+fn say_opening(asked: Asked, n: u8, e: u8, fault: u8, answer: Answer) -> bool {
     let mut out = [0; 128];
     let mut page = Page::new(&mut out);
-    live_lines::put_opening(&mut page, asked, n, e, 0, answer);
+    live_lines::put_opening(&mut page, asked, n, e, fault, answer);
     let len = page.at;
     written(text::front(&out, len))
 }
 
-// Writes that the reference is refused.
-fn say_reference_refused(refusal: Refusal) {
-    let mut out = [0; 128];
-    let mut page = Page::new(&mut out);
-    live_lines::put_reference_refused(&mut page, u8::from(refusal));
-    let len = page.at;
-    written(text::front(&out, len));
-}
-
-// Writes that the words ask for no test.
+// Writes that there are too few words for a test, or too many.
 fn say_no_test() {
     let mut out = [0; 128];
     let mut page = Page::new(&mut out);
@@ -272,7 +263,7 @@ fn answer_lines(sheet: Sheet, first: Run, set: u16) {
 // Opens the test that is asked for, and answers its lines.
 fn run_test(sheet: Sheet, asked: Asked) {
     let opened = tests::open_test(sheet, asked.k, asked.h, asked.trace_only);
-    if !say_opening(asked, sheet.n, sheet.e, opened.answer) {
+    if !say_opening(asked, sheet.n, sheet.e, 0, opened.answer) {
         return;
     }
     if let Answer::Going(offered) = opened.answer {
@@ -280,15 +271,14 @@ fn run_test(sheet: Sheet, asked: Asked) {
     }
 }
 
-// Opens the test that is asked for on the reference that the bytes spell. A reference that is refused comes first, then
-// words that ask for no test.
-fn run_bytes(bytes: &[u8], asked: Option<Asked>) {
+// Opens the test that is asked for on the reference that the bytes spell; one that is refused has no test to open.
+fn run_bytes(bytes: &[u8], asked: Asked) {
     match sheet::read(bytes) {
-        Err(refusal) => say_reference_refused(refusal),
-        Ok(sheet) => match asked {
-            None => say_no_test(),
-            Some(asked) => run_test(sheet, asked),
-        },
+        Ok(sheet) => run_test(sheet, asked),
+        Err(refusal) => {
+            let number = u8::from(refusal);
+            say_opening(asked, 0, 0, number, Answer::Denied(number));
+        }
     }
 }
 

@@ -11,6 +11,13 @@ use tests_spec::Report;
 // An event that no sheet has.
 const NO_EVENT: u8 = 255;
 
+// Test 65,535, which is none: its opening is refused with 14.
+const NO_TEST: Asked = Asked {
+    k: 65535,
+    h: 0,
+    trace_only: false,
+};
+
 // The event that a text names, if it names one.
 #[tactic(auto, unfolding(live_lines_spec::specs::Words::event_named), using(words::proofs::Same::same_bytes))]
 fn event_named(words: &[u8]) -> Option<u8>
@@ -63,4 +70,11 @@ pub fn asked_of(k: &[u8], h: &[u8], there: bool, word: &[u8]) -> Option<Asked>
         h,
         trace_only: there,
     })
+}
+
+// The test that the words ask for; bad words ask for one that is none.
+pub fn test_of(k: &[u8], h: &[u8], there: bool, word: &[u8]) -> Asked
+    ensures { result ≡ asked_of k.now h.now there word.now }
+{
+    asked_of(k, h, there, word).unwrap_or(NO_TEST)
 }

@@ -39,7 +39,9 @@ fn find(sets: &[u16], e: usize, out: &mut [u16]) -> usize
     found
 }
 
-// Writes the probes to the front of a list that is long enough, and answers how many they are.
+// Writes the probes to the front of a list that is long enough, and answers how many they are. (Its local list stays
+// out of the frames of its callers, which would hold it in every call.)
+#[inline(never)]
 #[tactic(auto, using(crate::proofs::Lists::found_most, probes_spec::proofs::ShapeLaws::found_count))]
 pub fn fill(sets: &[u16], e: usize, out: &mut [u16]) -> usize
     requires { (e ≤ 12) × (length (probes sets.now e) ≤ length out.old) }
@@ -54,6 +56,7 @@ pub fn fill(sets: &[u16], e: usize, out: &mut [u16]) -> usize
 
 // Writes the probes to the front of the lent list and answers how many there are; or refuses a list shorter than the
 // probes, and the list is as it was.
+#[inline(never)]
 #[tactic(auto, using(crate::proofs::Lists::found_most, probes_spec::proofs::ShapeLaws::found_count))]
 fn list_sets(sets: &[u16], e: usize, out: &mut [u16]) -> Listed
     requires { e ≤ 12 }

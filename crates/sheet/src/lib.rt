@@ -25,7 +25,9 @@ pub fn check_pair(reference: Sheet, device: Sheet) -> Result<(), Refusal>
 {
     check(reference)?;
     check(device)?;
-    sheet_codes::shared_fault(reference.e, &reference.codes, device.e, &device.codes)
+    let own = reference.codes;
+    let others = device.codes;
+    sheet_codes::shared_fault(reference.e, &own, device.e, &others)
 }
 
 // The sheet that the bytes spell, or the refusal.

@@ -31,10 +31,12 @@ pub fn count_ok(c: u8) -> bool
     (1..=16).contains(&c)
 }
 
+// ---- the rules of a whole sheet, which is lent, so that no rule copies it
+
 // 5: whether the count of every node is 1 to 16.
-fn counts_ok(s: Sheet) -> bool
-    requires { s.n ≤ 32 }
-    ensures { result ≡ counts_ok s }
+fn counts_ok(s: &Sheet) -> bool
+    requires { s.now.n ≤ 32 }
+    ensures { result ≡ counts_ok s.now }
 {
     (0..usize::from(s.n)).all(|v| {
         let row = s.rows[v];
@@ -43,9 +45,9 @@ fn counts_ok(s: Sheet) -> bool
 }
 
 // 6: whether the successors of every node are 255 or below N.
-fn successors_ok(s: Sheet) -> bool
-    requires { s.n ≤ 32 }
-    ensures { result ≡ successors_ok s }
+fn successors_ok(s: &Sheet) -> bool
+    requires { s.now.n ≤ 32 }
+    ensures { result ≡ successors_ok s.now }
 {
     let e = usize::from(s.e);
     let n = usize::from(s.n);
@@ -53,22 +55,24 @@ fn successors_ok(s: Sheet) -> bool
 }
 
 // 7: whether the sets of every node ascend, lie inside its initials, and include none before them.
-fn sets_ok(s: Sheet) -> bool
-    requires { s.n ≤ 32 }
-    ensures { result ≡ sets_ok s }
+fn sets_ok(s: &Sheet) -> bool
+    requires { s.now.n ≤ 32 }
+    ensures { result ≡ sets_ok s.now }
 {
     let e = usize::from(s.e);
     (0..usize::from(s.n)).all(|v| sets::row_sets_ok(s.rows[v], e))
 }
 
 // 7: whether the unused places of every row hold 255 and 0.
-fn blanks_ok(s: Sheet) -> bool
-    ensures { result ≡ blanks_ok s }
+fn blanks_ok(s: &Sheet) -> bool
+    ensures { result ≡ blanks_ok s.now }
 {
     let e = usize::from(s.e);
     let n = usize::from(s.n);
     (0..32).all(|v| rows::unused_ok(s.rows[v], e, n, v))
 }
+
+// ---- the refusals
 
 // The refusal of the graph that bytes spell: 6, 7, 8, each looked for in the whole sheet.
 #[tactic(auto, unfolding(sheet_spec::specs::Refusals::graph_fault))]
@@ -76,13 +80,13 @@ pub fn graph_fault(sheet: Sheet) -> Result<(), Refusal>
     requires { sheet.n ≤ 32 }
     ensures { refusal_in result ≡ graph_fault sheet }
 {
-    if !successors_ok(sheet) {
+    if !successors_ok(&sheet) {
         return Err(Refusal::Successor);
     }
-    if !sets_ok(sheet) {
+    if !sets_ok(&sheet) {
         return Err(Refusal::Acceptances);
     }
-    if !reached::reached_ok(sheet) {
+    if !reached::reached_ok(&sheet) {
         return Err(Refusal::Unreached);
     }
     Ok(())
@@ -96,25 +100,26 @@ pub fn sheet_fault(s: Sheet) -> Result<(), Refusal>
     if !ranges_ok(s.e, s.n) {
         return Err(Refusal::Ranges);
     }
-    if !sheet_codes::is_distinct(&s.codes, s.e) {
+    let codes = s.codes;
+    if !sheet_codes::is_distinct(&codes, s.e) {
         return Err(Refusal::CodeTwice);
     }
-    if !counts_ok(s) {
+    if !counts_ok(&s) {
         return Err(Refusal::Count);
     }
-    if !successors_ok(s) {
+    if !successors_ok(&s) {
         return Err(Refusal::Successor);
     }
-    if !sets_ok(s) {
+    if !sets_ok(&s) {
         return Err(Refusal::Acceptances);
     }
-    if !blanks_ok(s) {
+    if !blanks_ok(&s) {
         return Err(Refusal::Acceptances);
     }
-    if !sheet_codes::is_blank_from(&s.codes, s.e) {
+    if !sheet_codes::is_blank_from(&codes, s.e) {
         return Err(Refusal::Acceptances);
     }
-    if !reached::reached_ok(s) {
+    if !reached::reached_ok(&s) {
         return Err(Refusal::Unreached);
     }
     Ok(())

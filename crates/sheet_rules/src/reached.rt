@@ -9,8 +9,8 @@ use sheet_spec::Sheet;
 use std::array;
 
 // For each node the set of nodes to which one event leads.
-fn targets(s: Sheet) -> [u32; 32]
-    ensures { result ≡ up_to (targets_of s) 32 }
+fn targets(s: &Sheet) -> [u32; 32]
+    ensures { result ≡ up_to (targets_of s.now) 32 }
 {
     let e = usize::from(s.e);
     array::from_fn(|v| rows::targets_of(s.rows[v], e))
@@ -53,9 +53,9 @@ fn seen_after(sets: [u32; 32], n: usize) -> u32
 }
 
 // 8: whether the rounds have seen every node.
-pub(crate) fn reached_ok(s: Sheet) -> bool
-    requires { s.n ≤ 32 }
-    ensures { result ≡ reached_ok s }
+pub(crate) fn reached_ok(s: &Sheet) -> bool
+    requires { s.now.n ≤ 32 }
+    ensures { result ≡ reached_ok s.now }
 {
     let n = usize::from(s.n);
     let seen = seen_after(targets(s), n);

@@ -19,7 +19,8 @@ fn is_apart(sets: &[u16; 16], j: usize) -> bool
     requires { j < 16 }
     ensures { result ≡ none_inside (sets_alone sets.now) j }
 {
-    (0..j).all(|k| !events::is_inside(sets[k], sets[j]))
+    let set = sets[j];
+    (0..j).all(|k| !events::is_inside(sets[k], set))
 }
 
 // 7: whether the set at place j ascends, lies inside the initials, and includes none before it.

@@ -7,7 +7,7 @@ ghost use Rattle.sheet_spec.specs.Encoding.{written_version, sheet_bytes};
 ghost use Rattle.sheet_spec.specs.Form.{SheetForm};
 ghost use Rattle.sheet_spec.specs.Refusals.{sheet_fault};
 ghost use Rattle.text.specs.Pages.{Puts};
-ghost use Rattle.sheet_writer.specs.Shapes.{Small};
+ghost use Rattle.sheet_writer.specs.Shapes.{version_of, all_bytes, Small};
 
 use sheet_spec::{Row, Sheet};
 use text::Page;
@@ -109,10 +109,11 @@ fn body_size(s: &Sheet, version: u8) -> u32
     3 + codes_size(s, version) + rows_size(s)
 }
 
-// Puts the bytes of a sheet that a later call accepts: the head, the codes, the nodes.
+// Puts the bytes of a sheet that a later call accepts: the head, the codes, the nodes, one piece after another.
 pub fn put_sheet(page: &mut Page, s: Sheet)
     requires { sheet_fault s ≡ 0 }
-    ensures { Puts (sheet_bytes s) page.old page.new }
+    ensures { Puts (sheet_bytes s) page.old page.new
+        × Puts (all_bytes s (version_of s.e s.codes)) page.old page.new }
 {
     let version = version_of(&s);
     page.put(&body_size(&s, version).to_be_bytes());

@@ -18,6 +18,7 @@ fn all_events(e: usize) -> u16
 }
 
 // Probe number (h remainder m) of the m probes of a node with this row, the empty set where there is none.
+#[inline(never)]
 #[tactic(auto, using(probes_spec::proofs::ProbeLaws::probes_most))]
 fn chosen_probe(row: Row, e: usize, h: u16) -> u16
     requires { (row.c ≤ 16) × (e ≤ 12) }

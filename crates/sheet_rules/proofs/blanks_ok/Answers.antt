@@ -7,4 +7,4 @@ use Rattle.sheet_rules.proofs.blanks_ok.Goals as goal
 
 pub returns : goal.returns
 unfolding blanks_ok
-returns c = all_below (λ v. unused_ok c.args.s.e c.args.s.n v (row c.args.s v)) _ refl c.all.ensures.ran (λ x b q k. search (rules, tests))
+returns c = all_below (λ v. unused_ok c.args.s.now.e c.args.s.now.n v (row c.args.s.now v)) _ refl c.all.ensures.ran (λ x b q k. search (rules, tests))

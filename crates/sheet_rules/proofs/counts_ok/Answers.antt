@@ -7,4 +7,4 @@ use Rattle.sheet_rules.proofs.counts_ok.Goals as goal
 
 pub returns : goal.returns
 unfolding counts_ok
-returns c = all_below (λ v. count_ok (row c.args.s v).c) _ (cc) c.all.ensures.ran (λ x b q k. search (rules, tests))
+returns c = all_below (λ v. count_ok (row c.args.s.now v).c) _ (cc) c.all.ensures.ran (λ x b q k. search (rules, tests))

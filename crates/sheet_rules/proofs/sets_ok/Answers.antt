@@ -7,4 +7,4 @@ use Rattle.sheet_rules.proofs.sets_ok.Goals as goal
 
 pub returns : goal.returns
 unfolding sets_ok
-returns c = all_below (λ v. row_sets_ok c.args.s.e (row c.args.s v)) _ (cc) c.all.ensures.ran (λ x b q k. search (rules, tests))
+returns c = all_below (λ v. row_sets_ok c.args.s.now.e (row c.args.s.now v)) _ (cc) c.all.ensures.ran (λ x b q k. search (rules, tests))

@@ -7,4 +7,4 @@ use Rattle.sheet_rules.proofs.successors_ok.Goals as goal
 
 pub returns : goal.returns
 unfolding successors_ok
-returns c = all_below (λ v. row_successors_ok c.args.s.e c.args.s.n (row c.args.s v)) _ (cc) c.all.ensures.ran (λ x b q k. search (rules, tests))
+returns c = all_below (λ v. row_successors_ok c.args.s.now.e c.args.s.now.n (row c.args.s.now v)) _ (cc) c.all.ensures.ran (λ x b q k. search (rules, tests))

@@ -6,4 +6,4 @@ use Rattle.sheet_rules.proofs.reached.Rounds.{reached_is}
 use Rattle.sheet_rules.proofs.reached.reached_ok.Goals as goal
 
 pub returns : goal.returns
-returns c = reached_is c.args.s c.requires c.targets.ensures (cc) (all_below (has c.seen_after-seen.result) _ (cc) c.all.ensures.ran (λ x b q k. search (rules, tests)))
+returns c = reached_is c.args.s.now c.requires c.targets.ensures (cc) (all_below (has c.seen_after-seen.result) _ (cc) c.all.ensures.ran (λ x b q k. search (rules, tests)))

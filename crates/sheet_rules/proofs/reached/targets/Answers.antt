@@ -6,4 +6,4 @@ use Rattle.sheet_rules.proofs.reached.targets.Goals as goal
 
 pub returns : goal.returns
 unfolding targets_of
-returns c = made_by _ (targets_of c.args.s) (λ x y q k. search (rules, tests)) _ c.from_fn.ensures.items
+returns c = made_by _ (targets_of c.args.s.now) (λ x y q k. search (rules, tests)) _ c.from_fn.ensures.items
