@@ -14,13 +14,14 @@ fn is_ascending(sets: &[u16; 16], j: usize) -> bool
     j == 0 || sets[j - 1] < sets[j]
 }
 
-// 7: whether no set before place j is included in the one there.
+// 7: whether no set before place j is included in the one there: each has an event outside it. (What is outside is
+// worked out once; by `is_inside` it would be for each of them.)
 fn is_apart(sets: &[u16; 16], j: usize) -> bool
     requires { j < 16 }
     ensures { result ≡ none_inside (sets_alone sets.now) j }
 {
-    let set = sets[j];
-    (0..j).all(|k| !events::is_inside(sets[k], set))
+    let outside = !sets[j];
+    sets[..j].iter().all(|&x| x & outside != 0)
 }
 
 // 7: whether the set at place j ascends, lies inside the initials, and includes none before it.

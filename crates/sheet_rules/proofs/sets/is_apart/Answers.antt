@@ -1,12 +1,13 @@
-use Rattle.std.proofs.Common.{not, refl, rules}
+use Rattle.std.specs.Prelude.{not, eqb, take, get_or, ◌-◌}
+use Rattle.std.specs.Int.Bits.{bit_and}
+use Rattle.std.proofs.Common.{rules, arith, ◌∙◌}
+use Rattle.std.proofs.lemmas.Iterator.{YieldsList-from_slice}
+use Rattle.std.proofs.lemmas.Iterator.Search.{all_from_yields_List}
 use borrow.Author.Tests.{tests}
-use Rattle.base.proofs.Chains.{all_below}
-use Rattle.sheet_spec.specs.Kept.{acceptance}
-use Rattle.sheet_spec.specs.Rules.{none_inside}
-use Rattle.events.specs.Sets.{inside}
-use Rattle.sheet_rules.specs.SetShapes.{sets_alone}
+use Rattle.sheet_rules.proofs.sets.Steps.{apart_is}
 use Rattle.sheet_rules.proofs.sets.is_apart.Goals as goal
 
 pub returns : goal.returns
-unfolding none_inside acceptance sets_alone
-returns c = all_below (λ k. not (inside (acceptance (sets_alone c.args.sets.now) k) (acceptance (sets_alone c.args.sets.now) c.args.j))) _ refl c.all.ensures.ran (λ x b q k. search (rules, tests))
+returns c =
+    all_from_yields_List (λ x. not (eqb (bit_and x (65535 - get_or c.args.sets.now c.args.j 0)) 0)) _ _ _ c.all.ensures.ran (YieldsList-from_slice (take c.args.j c.args.sets.now) cc) (λ x b q k. search (rules, tests))
+    ∙ apart_is c.args.sets.now c.args.j c.fits-sets (omega arith)
