@@ -55,7 +55,7 @@ pub fn fill(sets: &[u16], e: usize, out: &mut [u16]) -> usize
 }
 
 // Writes the probes to the front of the lent list and answers how many there are; or refuses a list shorter than the
-// probes, and the list is as it was.
+// probes, and the list is as it was. (It stays out of the frames of its callers as `fill` does.)
 #[inline(never)]
 #[tactic(auto, using(crate::proofs::Lists::found_most, probes_spec::proofs::ShapeLaws::found_count))]
 fn list_sets(sets: &[u16], e: usize, out: &mut [u16]) -> Listed

@@ -14,8 +14,8 @@ fn is_ascending(sets: &[u16; 16], j: usize) -> bool
     j == 0 || sets[j - 1] < sets[j]
 }
 
-// 7: whether no set before place j is included in the one there: each has an event outside it. (What is outside is
-// worked out once; by `is_inside` it would be for each of them.)
+// 7: whether no set before place j is included in the one there: each has an event outside it. (`events::is_inside`
+// would say so too, but is compiled to work out what is outside for each of them.)
 fn is_apart(sets: &[u16; 16], j: usize) -> bool
     requires { j < 16 }
     ensures { result ≡ none_inside (sets_alone sets.now) j }

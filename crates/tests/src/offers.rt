@@ -17,7 +17,8 @@ fn all_events(e: usize) -> u16
     (1 << e) - 1
 }
 
-// Probe number (h remainder m) of the m probes of a node with this row, the empty set where there is none.
+// Probe number (h remainder m) of the m probes of a node with this row, the empty set where there is none. (Its local
+// list stays out of the frames of its callers, which would hold it in every call.)
 #[inline(never)]
 #[tactic(auto, using(probes_spec::proofs::ProbeLaws::probes_most))]
 fn chosen_probe(row: Row, e: usize, h: u16) -> u16
